@@ -19,11 +19,11 @@ use Rattle.domain_memory.specs.Held.{held_open}
 use Rattle.domain_memory.specs.Memory.{kept_in}
 use Rattle.domain_memory.specs.Staged.{IsSettled}
 use Rattle.domain_memory.specs.declared.memory.DomainMemory.{DomainMemory}
-use Rattle.domain_stages.specs.LettingGo.{NoneWaits}
+use Rattle.domain_memory.specs.Going.{NoneWaits, free_in}
 use Rattle.domain_state.specs.History.{GoesOn}
 use Rattle.domain_state.specs.Opening.{IsStartOf}
 use Rattle.domain_state.proofs.StartRoom.{start_room}
-use Rattle.command_core.specs.Wanting.{MayLackPages, free_in}
+use Rattle.command_core.specs.Wanting.{MayLackPages}
 use Rattle.command_core.proofs.OpenPages.{held_or_free, open_is, open_of}
 
 module _ (pages : Pages) (frame : Frame) (sizes : List ℕ) (memory : DomainMemory) (entries : List Entry) (job : Option Command) (settled : IsSettled memory) (none : NoneWaits memory.space) where

@@ -36,7 +36,7 @@ use Rattle.history_laws.proofs.RoomLemmas.{comes_with_entries, comes_with_room}
 use Rattle.domain_layout.specs.Reached.{Frame}
 use Rattle.domain_memory.specs.Memory.{StandsFor}
 use Rattle.domain_memory.specs.declared.memory.DomainMemory.{DomainMemory}
-use Rattle.domain_stages.specs.LettingGo.{NoneWaits}
+use Rattle.domain_memory.specs.Going.{NoneWaits}
 use Rattle.domain_state.specs.History.{MayCommitUnchanged}
 use Rattle.domain_state.specs.Opening.{IsStartOf}
 use Rattle.command_core.specs.Coming.{ComesNext}

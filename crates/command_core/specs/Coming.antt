@@ -14,7 +14,8 @@ use Rattle.history_model.specs.VolumeReply.{is_movers}
 use Rattle.domain_memory.specs.Memory.{StandsFor}
 use Rattle.domain_memory.specs.Staged.{IsSettled, MayBeKept}
 use Rattle.domain_memory.specs.declared.memory.DomainMemory.{DomainMemory}
-use Rattle.command_core.specs.Wanting.{IsShort, free_in}
+use Rattle.domain_memory.specs.Going.{free_in}
+use Rattle.command_core.specs.Wanting.{IsShort}
 use Rattle.domain_state.specs.History.{NonePanicked}
 
 -- an entry of a client's may come after these: none has a greater stamp, and none panicked

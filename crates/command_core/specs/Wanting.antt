@@ -1,7 +1,6 @@
 -- Want of pages.
-use Rattle.std.specs.Prelude.{◌≡◌, ◌<◌, ℕ, List, Option, sum_by}
+use Rattle.std.specs.Prelude.{◌≡◌, ◌<◌, ℕ, List, Option}
 use Rattle.page_store.specs.Pages.{Pages}
-use Rattle.free_space.specs.Spaces.{free_pages}
 use Rattle.fileset_model.specs.Filesets.{FilesetMap}
 use Rattle.fileset_model.specs.declared.command.Command.{Command}
 use Rattle.fileset_model.specs.declared.command.Command.TheVariants.{Create, Link, Mkdir, Mkfset, Rename, Setquota, Write}
@@ -12,8 +11,7 @@ use Rattle.history_model.specs.State.{State}
 use Rattle.history_laws.specs.GoingOn.{ComesTo}
 use Rattle.domain_layout.specs.Reached.{Frame}
 use Rattle.domain_memory.specs.declared.memory.DomainMemory.{DomainMemory}
-use Rattle.domain_stages.specs.Emptying.{NothingGoes}
-use Rattle.domain_stages.specs.LettingGo.{NoneWaits}
+use Rattle.domain_memory.specs.Going.{NoneWaits, NothingGoes, free_in}
 use Rattle.domain_state.specs.Opening.{IsStartOf}
 
 -- the commands that may be answered no-space, of those that are answered here
@@ -26,10 +24,6 @@ MayTake (Write place offset bytes) = Unit {0}
 MayTake (Rename place to) = Unit {0}
 MayTake (Link place to) = Unit {0}
 MayTake command = ⊥
-
--- how many pages are free, on all volumes that are open
-abbrev pub free_in : DomainMemory → ℕ
-free_in memory = sum_by free_pages memory.space.volumes
 
 -- fewer pages are free than a command may need, no page waits, and nothing on the list may be let
 -- go of, nor anything of what is being removed

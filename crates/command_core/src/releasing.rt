@@ -5,8 +5,7 @@ ghost use Rattle.free_space.specs.Spaces.{free_pages};
 ghost use Rattle.deferred_delete.specs.Listing.{IsEmpty};
 ghost use Rattle.domain_memory.specs.Memory.{StandsFor};
 ghost use Rattle.domain_memory.specs.Staged.{IsSettled};
-ghost use Rattle.domain_stages.specs.Emptying.{NothingGoes};
-ghost use Rattle.domain_stages.specs.LettingGo.{NoneWaits};
+ghost use Rattle.domain_memory.specs.Going.{NoneWaits, NothingGoes};
 
 use domain_base::OutOfMemory;
 use domain_stages::Drained;

@@ -7,12 +7,11 @@ ghost use Rattle.history_model.specs.Step.{TakesSpace};
 ghost use Rattle.history_model.specs.VolumeReply.{is_movers};
 ghost use Rattle.domain_memory.specs.Memory.{StandsFor};
 ghost use Rattle.domain_memory.specs.Staged.{IsSettled, MayGoBack};
-ghost use Rattle.domain_stages.specs.Emptying.{NothingGoes};
-ghost use Rattle.domain_stages.specs.LettingGo.{NoneWaits};
+ghost use Rattle.domain_memory.specs.Going.{NoneWaits, NothingGoes, free_in};
 ghost use Rattle.domain_state.specs.History.{StandsForSome};
 ghost use Rattle.command_core.specs.Coming.{AddsAnswer, AddsNoSpace, AddsOne};
 ghost use Rattle.command_core.specs.Ending.{EndsAs, IsLaid, LacksPage};
-ghost use Rattle.command_core.specs.Wanting.{MayTake, free_in};
+ghost use Rattle.command_core.specs.Wanting.{MayTake};
 ghost use Rattle.command_core.specs.declared.stop.Stop.TheVariants.{NoPage};
 
 use crate::answering::{add_refusal, answer, take_back};

@@ -30,9 +30,7 @@ use Rattle.domain_memory.specs.declared.memory.DomainMemory.{DomainMemory}
 use Rattle.release_laws.specs.Freed.{freed}
 use Rattle.release_laws.proofs.FreedPages.{below_freed, bits_freed, slots_freed}
 use Rattle.deferred_laws.specs.Kept.{HasNoEntry}
-use Rattle.domain_stages.specs.Emptying.{IsUsedIn, NothingGoes}
-use Rattle.domain_stages.specs.QuotaCells.{HasQuotaCells}
-use Rattle.domain_stages.specs.LettingGo.{HavePlain, MayLetGo, NoneWaits}
+use Rattle.domain_memory.specs.Going.{HasQuotaCells, HavePlain, IsUsedIn, MayLetGo, NoneWaits, NothingGoes}
 
 pub none_waits : (space : Spaces) → NoneWaits (change_volumes with_none_waiting space)
 none_waits space vol = subst (λ o. IfSome o (λ v. v.waiting ≡ [])) (sym (volume_of-changed with_none_waiting space vol)) (by_volume (volume_of space vol))

@@ -27,7 +27,8 @@ use Rattle.release_laws.proofs.SlotTogether.{slot_together}
 use Rattle.domain_parts.specs.Slots.{places_in, slot_in}
 use Rattle.domain_memory.specs.Staged.{IsStaged, IsStagedForSome, MayGoBack, staged_in}
 use Rattle.domain_memory.specs.declared.memory.DomainMemory.{DomainMemory}
-use Rattle.domain_stages.specs.Emptying.{HasNoQuota, IsLeftOver, IsUsedIn}
+use Rattle.domain_memory.specs.Going.{HasNoQuota, IsUsedIn}
+use Rattle.domain_stages.specs.Emptying.{IsLeftOver}
 use Rattle.domain_stages.proofs.SlotFree.{has_listed}
 use Rattle.domain_stages.proofs.TagAsks.{held_known}
 

@@ -57,7 +57,7 @@ use Rattle.release_laws.proofs.ParentsOver.{parents_over}
 use Rattle.release_laws.proofs.SlotsOver.{slots_over}
 use Rattle.release_laws.proofs.SoundGo.{sound_goes}
 use Rattle.release_laws.proofs.SpacesOver.{alone_over, space_over}
-use Rattle.domain_stages.specs.LettingGo.{MayLetGo, are_plain, say_directory}
+use Rattle.domain_memory.specs.Going.{MayLetGo, are_plain, say_directory}
 
 -- ---- want of a page
 

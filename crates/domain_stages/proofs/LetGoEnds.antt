@@ -25,7 +25,8 @@ use Rattle.domain_memory.specs.declared.memory.DomainMemory.{DomainMemory}
 use Rattle.domain_memory.proofs.SettledKept.{settled_kept}
 use Rattle.release_laws.proofs.Entries.{gives_none}
 use Rattle.release_laws.proofs.FilesAtHand.{files_at_hand}
-use Rattle.domain_stages.specs.LettingGo.{HavePlain, MayLetGo, StandsForAny, are_plain}
+use Rattle.domain_memory.specs.Going.{HavePlain, MayLetGo, are_plain}
+use Rattle.domain_stages.specs.LettingGo.{StandsForAny}
 use Rattle.domain_stages.proofs.LetGo.{no_lack}
 
 module _ (memory : DomainMemory) (settled : IsSettled memory) (stands : ∥ StandsForAny memory ∥₁) where

@@ -24,7 +24,8 @@ use Rattle.release_laws.specs.Chains.{AreQuotasOf, IsRemoved}
 use Rattle.release_laws.proofs.QuotaAtHand.{quotas_at_hand}
 use Rattle.release_laws.proofs.QuotasListed.{quotas_listed}
 use Rattle.domain_stages.specs.Emptying.{MayBeKeptForAny}
-use Rattle.domain_stages.specs.QuotaCells.{BeginsQuotas, HasQuotaCells, LosesLast, LosesSecond}
+use Rattle.domain_memory.specs.Going.{HasQuotaCells}
+use Rattle.domain_stages.specs.QuotaCells.{BeginsQuotas, LosesLast, LosesSecond}
 use Rattle.domain_stages.proofs.QuotaKept.{kept_ended, kept_lost}
 
 -- they begin there with the files with which memory stands

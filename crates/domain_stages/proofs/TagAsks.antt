@@ -48,7 +48,8 @@ use Rattle.domain_parts.specs.Slots.{HasNumber, places_in, slot_in}
 use Rattle.domain_parts.specs.declared.slots.SlotFiles.{SlotFiles}
 use Rattle.domain_memory.specs.Staged.{IsStaged, IsStagedForSome, MayGoBack, staged_in}
 use Rattle.domain_memory.specs.declared.memory.DomainMemory.{DomainMemory}
-use Rattle.domain_stages.specs.Emptying.{HasIndexApart, IsUsedIn, MayTakeOut}
+use Rattle.domain_memory.specs.Going.{IsUsedIn}
+use Rattle.domain_stages.specs.Emptying.{HasIndexApart, MayTakeOut}
 
 -- ---- a file that is not to be removed has attributes
 

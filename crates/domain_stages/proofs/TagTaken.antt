@@ -30,7 +30,8 @@ use Rattle.domain_memory.specs.Kept.{KeepsKept}
 use Rattle.domain_memory.specs.Memory.{with_was}
 use Rattle.domain_memory.specs.Staged.{IsStaged, IsStagedForSome, MayBeKept, MayGoBack, staged_books, staged_in}
 use Rattle.domain_memory.specs.declared.memory.DomainMemory.{DomainMemory}
-use Rattle.domain_stages.specs.Emptying.{IsUsedIn, TakesOfFiles, TakesOut, TakesTag}
+use Rattle.domain_memory.specs.Going.{IsUsedIn}
+use Rattle.domain_stages.specs.Emptying.{TakesOfFiles, TakesOut, TakesTag}
 use Rattle.domain_stages.proofs.OutOfUse.{goes_out}
 use Rattle.domain_stages.proofs.TagAsks.{at_slot, has_by, its_number}
 

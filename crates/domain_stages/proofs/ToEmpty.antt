@@ -17,8 +17,8 @@ use Rattle.domain_memory.specs.Memory.{with_was}
 use Rattle.domain_memory.specs.Staged.{MayGoBack}
 use Rattle.domain_memory.specs.declared.memory.DomainMemory.{DomainMemory}
 use Rattle.domain_memory.specs.declared.memory.ReplacedSlot.{ReplacedSlot}
-use Rattle.domain_stages.specs.Emptying.{HasNoQuota, IsUsedIn, IsUsedOrBare, MayEmpty, NoneToEmpty}
-use Rattle.domain_stages.specs.QuotaCells.{HasQuotaCells}
+use Rattle.domain_memory.specs.Going.{HasNoQuota, HasQuotaCells, IsUsedIn, MayEmpty, NoneToEmpty}
+use Rattle.domain_stages.specs.Emptying.{IsUsedOrBare}
 
 -- ---- what has no quota cell
 

@@ -26,7 +26,7 @@ use Rattle.domain_parts.specs.Slots.{HasNumber, places_in, slot_in}
 use Rattle.domain_parts.specs.declared.slots.SlotFiles.{SlotFiles}
 use Rattle.domain_memory.specs.Staged.{IsStaged, IsStagedForSome, MayGoBack, staged_in}
 use Rattle.domain_memory.specs.declared.memory.DomainMemory.{DomainMemory}
-use Rattle.domain_stages.specs.Emptying.{IsUsedIn}
+use Rattle.domain_memory.specs.Going.{IsUsedIn}
 use Rattle.domain_stages.proofs.TagAsks.{files_known}
 
 -- ---- a tag whose slot is on no page leads nowhere

@@ -1,6 +1,6 @@
 -- What is being removed from slots of a domain's memory: tags of it that are taken out of use, and
 -- slots that come free.
-use Rattle.std.specs.Prelude.{◌≡◌, ◌≤◌, ◌⊎◌, ℕ, true, false, List, [], Option, None, Some, Contains, IsSome, IsSomeAnd, slice_get}
+use Rattle.std.specs.Prelude.{◌≡◌, ◌≤◌, ◌⊎◌, ℕ, true, false, List, [], Option, None, Some, Contains, IsSomeAnd, slice_get}
 use Rattle.std.specs.Option.{option_and_then, option_map_or}
 use Rattle.domain_base.specs.declared.place.CellAt.{CellAt}
 use Rattle.domain_base.specs.declared.place.Home.{Home}
@@ -17,21 +17,18 @@ use Rattle.bitfile_core.specs.Shown.{index_of}
 use Rattle.bitfile_core.specs.Together.{AreTogether}
 use Rattle.stored_index.specs.Changes.{AreHeld, DropsIndex, with_waiting_at}
 use Rattle.stored_index.specs.Homes.{AreIndexHomes}
-use Rattle.staged_pages.specs.Store.{before_of, pages_of}
+use Rattle.staged_pages.specs.Store.{before_of}
 use Rattle.fileset_table.specs.Page.{IsTablePage}
 use Rattle.fileset_table.specs.Table.{with_slot}
 use Rattle.fileset_table.specs.declared.slot.SlotItem.TheVariants as slot
 use Rattle.deferred_laws.specs.Links.{homes_of}
-use Rattle.domain_layout.specs.TagRules.{quota_of}
 use Rattle.release_laws.specs.Chains.{IsRemoved}
 use Rattle.release_laws.specs.Domain.{DomainNow, item_in}
 use Rattle.set_standing.specs.Sets.{without_index}
-use Rattle.domain_parts.specs.Slots.{places_in, slot_in}
 use Rattle.domain_parts.specs.declared.slots.SlotFiles.{SlotFiles}
 use Rattle.domain_memory.specs.Staged.{MayBeKept}
 use Rattle.domain_memory.specs.declared.memory.DomainMemory.{DomainMemory}
-use Rattle.domain_stages.specs.LettingGo.{MayLetGo}
-use Rattle.domain_stages.specs.QuotaCells.{HasQuotaCells}
+use Rattle.domain_memory.specs.Going.{HasNoQuota, IsUsedIn}
 use Rattle.fileset_model.specs.Filesets.{FilesetMap}
 
 -- the pages of the index that the first cell of a chain names, if it names one: each is used and
@@ -77,11 +74,6 @@ abbrev pub TakesOfFiles : ℕ → Tag → CellAt → Spaces → Spaces → Pages
 TakesOfFiles group tag at space space_now old new slot = TakesOut group slot.files.fileset
     slot.files.tags tag at space space_now old new
 
--- a tag of a slot leads to a cell
-abbrev pub IsUsedIn : DomainMemory → ℕ → Tag → Type 0
-IsUsedIn memory number tag = IsSome
-    (cell_of (pages_of memory.pages) (places_in (slot_in memory.slots.items number)) tag)
-
 -- a change may be kept, with some filesets
 abbrev pub MayBeKeptForAny : DomainMemory → Type 0
 MayBeKeptForAny memory = (all : FilesetMap) × MayBeKept memory all
@@ -113,11 +105,6 @@ pub record IsLeftOver (number : ℕ) (d : DomainNow) : Type 0 where
   pub low : (home : Home) → has_home (d.tags number) home ≡ true → 1 ≤ home.vol
   pub none_listed : d.list.tag_pages ≡ []
 
--- so memory says of a slot: it has no quota cell, and no page of a tag directory is on the list
-pub record HasNoQuota (memory : DomainMemory) (number : ℕ) : Type 0 where
-  pub none : option_and_then quota_of (slice_get memory.table.slots number) ≡ None
-  pub none_listed : memory.list.list.tag_pages ≡ []
-
 -- the slot is free then: the pages wait, the table's page says it, and no other page changes
 pub record FreesSlot (group number : ℕ) (d now : DomainNow) : Type 0 where
   pub left : IsLeftOver number d
@@ -138,20 +125,3 @@ pub record FreesSlot (group number : ℕ) (d now : DomainNow) : Type 0 where
 pub record IsUsedOrBare (memory : DomainMemory) (number : ℕ) : Type 0 where
   pub removed : IsRemoved (slice_get memory.table.slots number)
   pub some : ((tag : Tag) × IsUsedIn memory number tag) ⊎ HasNoQuota memory number
-
--- what is being removed from a slot may be emptied by a change: a tag of it is used; or it has
--- quota cells, which are not on the list; or it has none, and no page of a tag directory is on
--- the list
-pub record MayEmpty (memory : DomainMemory) (number : ℕ) : Type 0 where
-  pub removed : IsRemoved (slice_get memory.table.slots number)
-  pub some : ((tag : Tag) × IsUsedIn memory number tag)
-      ⊎ ((at : CellAt) × HasQuotaCells memory number at) ⊎ HasNoQuota memory number
-
--- nothing that is being removed may be
-abbrev pub NoneToEmpty : DomainMemory → Type 0
-NoneToEmpty memory = (number : ℕ) → ¬ MayEmpty memory number
-
--- nothing on a domain's list may be let go of, nor anything of what is being removed
-pub record NothingGoes (memory : DomainMemory) : Type 0 where
-  pub list : ¬ MayLetGo memory
-  pub slots : NoneToEmpty memory

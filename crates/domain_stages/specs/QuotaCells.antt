@@ -7,18 +7,10 @@ use Rattle.bmt_mcells.specs.Chain.{StandsAt}
 use Rattle.staged_pages.specs.Store.{pages_of}
 use Rattle.deferred_delete.specs.Standing.{Files}
 use Rattle.deferred_delete.specs.Steps.{HasQuotas, now_of}
-use Rattle.release_laws.specs.Chains.{IsQuotaOf, IsRemoved}
-use Rattle.release_laws.specs.Domain.{item_in}
 use Rattle.release_laws.specs.QuotaCells.{EndsQuotaOf, LosesQuotaOf}
+use Rattle.domain_memory.specs.Going.{HasQuotaCells}
 use Rattle.domain_memory.specs.Staged.{staged_in}
 use Rattle.domain_memory.specs.declared.memory.DomainMemory.{DomainMemory}
-use Rattle.deferred_laws.specs.Kept.{HasNoEntry}
-
--- the slot of what is being removed names quota cells, and these are not on the list
-pub record HasQuotaCells (memory : DomainMemory) (number : ℕ) (at : CellAt) : Type 0 where
-  pub removed : IsRemoved (item_in (staged_in memory) number)
-  pub quota : IsQuotaOf (staged_in memory) number at
-  pub unlisted : HasNoEntry (staged_in memory).list at
 
 -- with these files quota cells begin there, which may be let go of: as if they were the last
 -- thing on the list

@@ -17,7 +17,8 @@ ghost use Rattle.domain_memory.specs.Held.{held_open};
 ghost use Rattle.domain_memory.specs.Kept.{KeepsKept};
 ghost use Rattle.domain_memory.specs.Memory.{StandsFor};
 ghost use Rattle.domain_memory.specs.Staged.{IsSettled, MayBeKept, MayGoBack};
-ghost use Rattle.domain_stages.specs.Emptying.{HasIndexApart, HasNoQuota, IsUsedIn, IsUsedOrBare, MayBeKeptForAny, MayEmpty, MayTakeOut, NoneToEmpty, TakesOfFiles, TakesOut};
+ghost use Rattle.domain_memory.specs.Going.{HasNoQuota, IsUsedIn, MayEmpty, NoneToEmpty};
+ghost use Rattle.domain_stages.specs.Emptying.{HasIndexApart, IsUsedOrBare, MayBeKeptForAny, MayTakeOut, TakesOfFiles, TakesOut};
 ghost use Rattle.domain_stages.specs.LettingGo.{StandsForAny};
 
 use crate::quotas::{lose_or_take_back, names_quota_cells};

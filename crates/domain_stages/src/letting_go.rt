@@ -12,7 +12,8 @@ ghost use Rattle.domain_memory.specs.Held.{held_open};
 ghost use Rattle.domain_memory.specs.Kept.{KeepsKept};
 ghost use Rattle.domain_memory.specs.Memory.{StandsFor};
 ghost use Rattle.domain_memory.specs.Staged.{IsSettled, MayBeKept, MayGoBack};
-ghost use Rattle.domain_stages.specs.LettingGo.{LetsListGo, MayLetGo, StandsForAny, are_plain};
+ghost use Rattle.domain_memory.specs.Going.{MayLetGo, are_plain};
+ghost use Rattle.domain_stages.specs.LettingGo.{LetsListGo, StandsForAny};
 ghost use Rattle.staged_pages.specs.Store.{pages_of};
 
 use bmt_mcells::find_record;

@@ -13,7 +13,8 @@ ghost use Rattle.fileset_model.specs.Filesets.{FilesetMap};
 ghost use Rattle.domain_memory.specs.Held.{held_open};
 ghost use Rattle.domain_memory.specs.Staged.{IsSettled, MayBeKept, MayGoBack};
 ghost use Rattle.domain_stages.specs.Emptying.{MayBeKeptForAny};
-ghost use Rattle.domain_stages.specs.QuotaCells.{BeginsQuotas, HasQuotaCells, LeadsNowhere, LeadsOn, LosesLast, LosesSecond};
+ghost use Rattle.domain_memory.specs.Going.{HasQuotaCells};
+ghost use Rattle.domain_stages.specs.QuotaCells.{BeginsQuotas, LeadsNowhere, LeadsOn, LosesLast, LosesSecond};
 
 use crate::table::put_in_table;
 use bitfile_cells::next_cell;

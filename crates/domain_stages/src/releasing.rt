@@ -7,8 +7,8 @@ ghost use Rattle.deferred_delete.specs.Listing.{IsEmpty};
 ghost use Rattle.domain_memory.specs.Held.{held_open};
 ghost use Rattle.domain_memory.specs.Memory.{StandsFor};
 ghost use Rattle.domain_memory.specs.Staged.{IsSettled, MayGoBack};
-ghost use Rattle.domain_stages.specs.Emptying.{NothingGoes};
-ghost use Rattle.domain_stages.specs.LettingGo.{NoneWaits, StandsForAny};
+ghost use Rattle.domain_memory.specs.Going.{NoneWaits, NothingGoes};
+ghost use Rattle.domain_stages.specs.LettingGo.{StandsForAny};
 
 use crate::emptying::empty_some;
 use crate::letting_go::let_go;

@@ -18,3 +18,4 @@ pub use Rattle.domain_standing.specs.Sets
 pub use Rattle.domain_standing.specs.Sources
 pub use Rattle.domain_standing.specs.Tables
 pub use Rattle.quota_laws.specs.Setting
+pub use Rattle.deferred_laws.specs.Kept

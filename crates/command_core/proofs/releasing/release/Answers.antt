@@ -3,7 +3,7 @@ use Rattle.std.proofs.Math.Logic.{∥∥₁_map}
 use Rattle.page_ways.specs.Frame.{frame_in}
 use Rattle.domain_memory.specs.Memory.{StandsFor}
 use Rattle.domain_memory.specs.Staged.{IsSettled}
-use Rattle.domain_stages.specs.Emptying.{NothingGoes}
+use Rattle.domain_memory.specs.Going.{NothingGoes}
 use Rattle.domain_state.proofs.StaysWithin.{within_settled}
 use Rattle.domain_memory.specs.declared.memory.DomainMemory.{DomainMemory}
 use Rattle.command_core.proofs.releasing.release.Goals as goal

@@ -6,7 +6,8 @@ use Rattle.fileset_model.specs.declared.reply.Reply.TheVariants.{Refused}
 use Rattle.history_model.specs.Room.{need}
 use Rattle.domain_memory.specs.Memory.{StandsFor}
 use Rattle.domain_memory.specs.declared.memory.DomainMemory.{DomainMemory}
-use Rattle.command_core.specs.Wanting.{IsShort, MayLackPages, free_in}
+use Rattle.domain_memory.specs.Going.{free_in}
+use Rattle.command_core.specs.Wanting.{IsShort, MayLackPages}
 use Rattle.command_core.proofs.Tightness.{lacks}
 use Rattle.command_core.proofs.Wanted.{goes_unchanged, no_movers, taking}
 use Rattle.command_core.proofs.wanting.add_no_space.Goals as goal

@@ -1,8 +1,7 @@
 use Rattle.std.proofs.Common.{inl, inr, refl, subst, sym}
 use Rattle.domain_memory.specs.Staged.{IsSettled, MayGoBack}
 use Rattle.domain_memory.specs.declared.memory.DomainMemory.{DomainMemory}
-use Rattle.domain_stages.specs.Emptying.{NothingGoes}
-use Rattle.domain_stages.specs.LettingGo.{NoneWaits}
+use Rattle.domain_memory.specs.Going.{NoneWaits, NothingGoes}
 use Rattle.domain_state.specs.History.{StandsForSome}
 use Rattle.command_core.proofs.wanting.refuse_want.Goals as goal
 

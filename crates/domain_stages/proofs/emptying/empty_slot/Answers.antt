@@ -6,7 +6,7 @@ use Rattle.domain_memory.specs.Held.{held_open}
 use Rattle.domain_memory.specs.Memory.{StandsFor}
 use Rattle.domain_memory.specs.Staged.{IsStagedForSome, MayBeKept}
 use Rattle.domain_memory.specs.declared.memory.DomainMemory.{DomainMemory}
-use Rattle.domain_stages.specs.Emptying.{MayEmpty}
+use Rattle.domain_memory.specs.Going.{MayEmpty}
 use Rattle.domain_stages.specs.LettingGo.{StandsForAny}
 use Rattle.domain_stages.proofs.HeldStill.{back_held, kept_held}
 use Rattle.domain_stages.proofs.emptying.empty_slot.Goals as goal

@@ -1,5 +1,5 @@
 use Rattle.std.proofs.Common.{◌<◌, ℕ}
-use Rattle.domain_stages.specs.Emptying.{MayEmpty}
+use Rattle.domain_memory.specs.Going.{MayEmpty}
 use Rattle.domain_stages.proofs.emptying.slot_to_empty.Given as goal
 
 -- no slot in front may be emptied

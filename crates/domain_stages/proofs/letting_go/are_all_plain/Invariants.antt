@@ -2,7 +2,7 @@ use Rattle.std.proofs.Common.{◌≡◌, ◌<◌, ℕ, true, get_or}
 use Rattle.bmt_mcells.specs.Cell.{Cell}
 use Rattle.bmt_mcells.specs.Chain.{StandsAt}
 use Rattle.deferred_delete.specs.declared.list.Entry.{Entry}
-use Rattle.domain_stages.specs.LettingGo.{are_plain}
+use Rattle.domain_memory.specs.Going.{are_plain}
 use Rattle.domain_stages.proofs.letting_go.are_all_plain.Given as goal
 
 abbrev pub invariant-loop-entry : goal.invariant-loop-entry

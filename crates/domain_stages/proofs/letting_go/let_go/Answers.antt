@@ -7,7 +7,7 @@ use Rattle.deferred_delete.specs.Steps.{IsWell, LacksRoom, LetsGo, none, now_of}
 use Rattle.staged_pages.specs.Store.{pages_of}
 use Rattle.domain_memory.specs.declared.memory.DomainMemory.{DomainMemory}
 use Rattle.domain_memory.proofs.SettledKept.{settled_kept}
-use Rattle.domain_stages.specs.LettingGo.{MayLetGo}
+use Rattle.domain_memory.specs.Going.{MayLetGo}
 use Rattle.domain_stages.proofs.HeldOver.{list_less}
 use Rattle.domain_stages.proofs.LetGo.{let_go_so}
 use Rattle.domain_stages.proofs.LetGoEnds.{asks_well, back_stays, never_lacks}

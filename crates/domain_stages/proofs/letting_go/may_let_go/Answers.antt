@@ -1,7 +1,7 @@
 use Rattle.std.proofs.Common.{◌∙◌, not, List, Contains, length, sym, ap, subst}
 use Rattle.std.proofs.lemmas.Bool.{both_ways, eq-eqb}
 use Rattle.deferred_delete.specs.declared.list.Entry.{Entry}
-use Rattle.domain_stages.specs.LettingGo.{HavePlain}
+use Rattle.domain_memory.specs.Going.{HavePlain}
 use Rattle.domain_stages.proofs.LetGoEnds.{last_none, may_or_not, none_of}
 use Rattle.domain_stages.proofs.letting_go.may_let_go.Goals as goal
 use Rattle.domain_stages.proofs.letting_go.may_let_go.Goals.{then-not-is_empty, else-not-is_empty}

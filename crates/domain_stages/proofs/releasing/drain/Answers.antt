@@ -1,6 +1,6 @@
 use Rattle.std.proofs.Common.{◌≡◌, ◌∙◌, arith, sym, subst}
 use Rattle.std.proofs.Math.Logic.{∥∥₁_map}
-use Rattle.domain_stages.specs.Emptying.{NothingGoes}
+use Rattle.domain_memory.specs.Going.{NothingGoes}
 use Rattle.domain_stages.proofs.Freed.{back_freed, nothing_more}
 use Rattle.domain_stages.proofs.releasing.drain.Goals as goal
 

@@ -2,7 +2,7 @@ use Rattle.std.proofs.Common.{ap, arith, refl, sym, subst}
 use Rattle.free_space.specs.Spaces.{Spaces}
 use Rattle.domain_memory.specs.Held.{held_open}
 use Rattle.domain_memory.proofs.Held.{held_freed}
-use Rattle.domain_stages.specs.LettingGo.{NoneWaits}
+use Rattle.domain_memory.specs.Going.{NoneWaits}
 use Rattle.domain_stages.proofs.Freed.{freed_settled, freed_stands, none_waits}
 use Rattle.domain_stages.proofs.releasing.free_waiting.Goals as goal
 
