@@ -1,11 +1,5 @@
 //! Quota cells of what is being removed from slots, which go one after the other.
 ghost use Rattle.std.specs.Prelude.{◌≡◌, ◌≤◌, ℕ, false, true, [], None, Some, Contains, OnErr, OnOk, slice_get};
-ghost use Rattle.domain_base.specs.declared.place.Home.{Home as HomeOf};
-ghost use Rattle.page_store.specs.Pages.{same_home};
-ghost use Rattle.bmt_mcells.specs.Cell.{Cell};
-ghost use Rattle.bmt_mcells.specs.CellPage.{KeepsHeaders, KeepsWellFormed, home_of as home_there};
-ghost use Rattle.bmt_mcells.specs.Chain.{LeavesOthers, StandsAt, is_at};
-ghost use Rattle.bitfile_cells.specs.Changes.{IsInUse};
 ghost use Rattle.deferred_delete.specs.Standing.{Files};
 ghost use Rattle.deferred_delete.specs.declared.list.Entry.{Entry as EntryOf};
 ghost use Rattle.domain_memory.specs.Memory.{StandsFor};
@@ -24,46 +18,11 @@ ghost use Rattle.domain_stages.specs.QuotaCells.{BeginsQuotas, LeadsNowhere, Lea
 
 use crate::table::put_in_table;
 use bitfile_cells::next_cell;
-use bmt_mcells::{CellHead, read_used, write_cell};
-use deferred_delete::Entry;
+use deferred_delete::{Entry, lead_past};
 use domain_base::{CellAt, FilesetNo, Home, OutOfMemory};
 use domain_memory::DomainMemory;
 use fileset_table::SlotItem;
-use page_store::MetaPages;
 use std::alloc::Global;
-
-/// Writes a cell so that it leads past another one, to what comes next to that. After an error
-/// nothing has changed.
-fn lead_past<M: MetaPages>(
-    alloc: Global,
-    pages: &mut M,
-    at: &CellAt,
-    next: &CellAt,
-) -> Result<(), OutOfMemory>
-    requires first { IsInUse (M.pages pages.old) at.now }
-    requires next { IsInUse (M.pages pages.old) next.now }
-    ensures ok { (first gone : Cell) → StandsAt (M.pages pages.old) at.now first
-        → StandsAt (M.pages pages.old) next.now gone
-        → OnOk result (StandsAt (M.pages pages.new) at.now (record first {
-          head = record first.head { next = gone.head.next };
-        })) }
-    ensures err { OnErr result (M.pages pages.new ≡ M.pages pages.old) }
-    ensures others { LeavesOthers (is_at at.now) (M.pages pages.old) (M.pages pages.new) }
-    ensures well_formed { KeepsWellFormed (M.pages pages.old) (M.pages pages.new) }
-    ensures headers { KeepsHeaders (M.pages pages.old) (M.pages pages.new) }
-    ensures elsewhere { (home : HomeOf) → same_home home (home_there at.now) ≡ false
-        → M.pages pages.new home ≡ M.pages pages.old home }
-    ensures room { M.room pages.new ≡ M.room pages.old }
-    ensures before { M.before pages.new ≡ M.before pages.old }
-{
-    let used = read_used(alloc, pages, *at)?.unwrap();
-    let head = CellHead {
-        next: next_cell(pages, next),
-        ..used.head
-    };
-    write_cell(pages, *at, &head, &used.records);
-    Ok(())
-}
 
 /// Frees the second of the quota cells that begin there, to which the first leads: it leads past
 /// that then. There may only be no memory, and then nothing has changed.

@@ -31,4 +31,4 @@ returns-clause-ok c = λ number files has.
     let now : DomainMemory = record memory { pages = c.free_cell.new.pages; cells = c.free_cell.new.self } in
     let e = c.in_ok-lead_past.ensures in
     let f = c.free_cell.ensures in
-    second_lost memory c.args.at.now c.args.next.now files has c.requires.next now refl (pages_of c.lead_past.new.pages) e.others e.well_formed e.headers e.ok e.elsewhere f.value f.others f.belong f.headers f.elsewhere number
+    second_lost memory c.args.at.now c.args.next.now files has c.requires.next now refl (pages_of c.lead_past.new.pages) e.others e.well_formed e.headers e.ok e.elsewhere f.value f.others f.belong f.well_formed f.headers f.elsewhere number
