@@ -37,8 +37,8 @@ Keeps disk all =
     (image : Image) → MayLeave disk.now image → ∥ Means disk.sizes image all ∥₁
 
 -- and has an anchor with the volumes of a state, and no group of a log behind it
-abbrev pub HasVolumes : Disk → State → Type 0
-HasVolumes disk s = ∥ ((anchor : Anchor) × HasVolumesOf anchor s × HasNoGroup disk anchor) ∥₁
+abbrev pub KeepsVolumes : Disk → State → Type 0
+KeepsVolumes disk s = ∥ ((anchor : Anchor) × HasVolumesOf anchor s × HasNoGroup disk anchor) ∥₁
 
 -- from each state that pages with this anchor mean the entries lead to some filesets; these are on
 -- the rack where it holds that the domain was closed, with this anchor and the volumes that it has
@@ -57,7 +57,7 @@ pub record LeadsFromNew (version : Version) (sizes : List ℕ) (entries : List E
   pub leads : ∥ Legal (new_domain version sizes) entries None
       (record (new_domain version sizes) { filesets = all }) ∥₁
   pub kept : closed → Keeps new all
-  pub volumes : closed → HasVolumes new (new_domain version sizes)
+  pub volumes : closed → KeepsVolumes new (new_domain version sizes)
 
 -- pages with this anchor are those of an image once its log is redone and at rest
 abbrev pub AreOpenedFrom : List ℕ → Image → Pages → Frame → Type 0

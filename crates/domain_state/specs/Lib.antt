@@ -5,3 +5,4 @@ pub mod Rest
 pub mod Short
 pub use Rattle.log_ring.specs.Homes
 pub use Rattle.domain_standing.specs.Holders
+pub use Rattle.domain_making.specs.Making

@@ -53,7 +53,8 @@ impl Opening for Brand {
 
 /// A domain that was opened. The commands since then, with their replies, lead from each state that
 /// its pages meant then to the filesets for which it stands now, and no more pages are held than
-/// that state and these commands have room for. Its rack is at rest: no change has been written yet.
+/// that state and these commands have room for. Its rack is at rest: no change has been written
+/// yet.
 #[derive(Drop)]
 pub struct Domain<R: Rack, O: Opening> {
     memory: DomainMemory,
@@ -125,8 +126,9 @@ impl<R: Rack, O: Opening> Domain<R, O> {
 
     /// Keeps the change that is laid over the domain, and adds the command whose change it is, with
     /// its reply, which tells neither of a volume that panicked nor of want of pages: one in each
-    /// event, which gets its stamp where that ends. At most 24 pages more are held with the change than before it. The mover's
-    /// own entry ends its job. It takes no memory, and the time of what the change has changed.
+    /// event, which gets its stamp where that ends. At most 24 pages more are held with the change
+    /// than before it. The mover's own entry ends its job. It takes no memory, and the time of what
+    /// the change has changed.
     pub fn commit(&mut self, entry: Entry)
         requires first { ⟦<Domain<R, O> as Told>⟧.rests self.old }
         requires room { 1 ≤ ⟦<Domain<R, O> as Told>⟧.room self.old }
@@ -156,8 +158,8 @@ impl<R: Rack, O: Opening> Domain<R, O> {
 
     /// Adds a command that changed nothing, with its reply, which tells of no volume that panicked,
     /// and of want of pages only where memory is as short of them as it tells, no page waits, and
-    /// nothing may be given up: one in each event, which gets its stamp where that ends. What is kept in memory stays, with
-    /// the change that is laid over it. It takes no memory.
+    /// nothing may be given up: one in each event, which gets its stamp where that ends. What is
+    /// kept in memory stays, with the change that is laid over it. It takes no memory.
     pub fn commit_unchanged(&mut self, entry: Entry)
         requires first { ⟦<Domain<R, O> as Told>⟧.rests self.old }
         requires room { 1 ≤ ⟦<Domain<R, O> as Told>⟧.room self.old }
@@ -266,8 +268,8 @@ impl<R: Rack, O: Opening> Domain<R, O> {
         &self.memory
     }
 
-    /// How many calls the rack has had: no entry has a greater stamp, where no event goes on that has
-    /// added one.
+    /// How many calls the rack has had: no entry has a greater stamp, where no event goes on that
+    /// has added one.
     pub fn calls(&self) -> u64
         ensures stamps { ⟦<Domain<R, O> as Told>⟧.rests self.now
             → All (λ before. before.stamp ≤ result) (⟦<Domain<R, O> as Told>⟧.history self.now) }
