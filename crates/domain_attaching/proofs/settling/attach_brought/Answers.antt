@@ -2,6 +2,7 @@ use Rattle.std.proofs.Common.{◌∙◌, sym, ap, subst}
 use Rattle.volume_disk.specs.Disk.{Disk}
 use Rattle.volume_disk.specs.Image.{NoPlace}
 use Rattle.volume_disk.specs.Run.{Touches}
+use Rattle.disk_label.specs.Fault.{HasPassed}
 use Rattle.log_settling.specs.Settling.{Anywhere, StandsAtHome}
 use Rattle.disk_label.specs.declared.anchor.Anchor.{Anchor}
 use Rattle.domain_attaching.specs.Settling.{HasNoGroups, StaysReadSince, with_anchor}
@@ -36,3 +37,6 @@ returns-in-Ok-clause-none g c = subst (λ (d : Disk). HasNoGroups c.args.found.r
 
 pub returns-in-Ok-clause-touches : goal.returns-in-Ok-clause-touches
 returns-in-Ok-clause-touches g c = subst (λ (d : Disk). Touches (g.R.Rack.disk c.args.rack) d Anywhere) (sym (ap g.R.Rack.disk c.of_memory.ensures.rack)) c.settle_synced.ensures.touches
+
+pub returns-in-Ok-clause-passed : goal.returns-in-Ok-clause-passed
+returns-in-Ok-clause-passed g c = subst (λ (d : Disk). HasPassed (g.R.Rack.disk c.args.rack) d) (sym (ap g.R.Rack.disk c.of_memory.ensures.rack)) c.in-Ok.ensures.passed

@@ -1,3 +1,4 @@
+use Rattle.std.proofs.Common.{refl}
 use Rattle.volume_disk.proofs.Laws.{only_reads-none}
 use Rattle.log_settling.proofs.Settled.{read_still}
 use Rattle.log_settling.specs.Settling.{HasCause}
@@ -20,3 +21,6 @@ returns-clause-cause g c =
     let old = g.R.Rack.disk c.args.rack.now in
     let new = g.R.Rack.disk c.settle_log.new.rack in
     err_too c.settle_log.result (HasCause old new c.args.redone.now) (HasSettleCause old new) (λ why is. cause_now old new c.args.redone.now why c.requires.recovered is) c.settle_log.ensures.cause
+
+pub returns-then-redone-clause-passed : goal.returns-then-redone-clause-passed
+returns-then-redone-clause-passed g c = (refl, refl)
