@@ -1,5 +1,5 @@
-//! The whole of a run: the words, the script, its commands over a domain, and the printing; a domain
-//! that is made; and an image that is verified.
+//! The whole of a run: the words, the script, its commands over a domain, and the printing; a
+//! domain that is made; and an image that is verified.
 ghost use Rattle.std.specs.Prelude.{◌≡◌, ◌≢◌, ◌≤◌, ℕ, [], List, All, Err, IfErr, IfOk, MatchResult, Ok, flat_map, map, string_bytes};
 ghost use Rattle.std.specs.Io.KnownBytes.{Appends, Consumes};
 ghost use Rattle.domain_base.specs.Counts.{HasRisen};
@@ -181,8 +181,8 @@ fn run_script<S: Source, R: Rack, K: Sink, G: Gate>(
 /// domain, and print the history: `try` over a new domain of version 4 that is made on the rack's
 /// volume, `run` over the domain that the rack has. The domain is closed ahead of the printing. The
 /// gate is passed before each turn of a client and after its last, with the client's number less
-/// one. `mkfdmn` makes an empty domain on the rack's volume, and prints nothing. `verify` prints the
-/// faults of the domain there, which it only reads.
+/// one. `mkfdmn` makes an empty domain on the rack's volume, and prints nothing. `verify` prints
+/// the faults of the domain there, which it only reads.
 pub fn run<S: Source, R: Rack + Send, K: Sink, G: Gate + Sync>(
     alloc: Global,
     words: &[String],

@@ -3,7 +3,7 @@ use Rattle.std.proofs.Common.{◌≡◌, ◌∙◌, ◌++◌, ◌∷◌, [], ℕ
 use Rattle.std.proofs.lemmas.List.{map-append}
 use Rattle.std.proofs.lemmas.List.Elements.{All-push}
 use Rattle.fileset_model.specs.declared.entry.Entry.{Entry}
-use Rattle.domain_state.specs.History.{with_last_stamped}
+use Rattle.command_core.specs.History.{with_last_stamped}
 use Rattle.script_text.specs.Turns.{Turn, turn_of}
 use Rattle.client_turns.specs.Quiet.{TellNoFault, TellsNoFault}
 

@@ -7,9 +7,8 @@ ghost use Rattle.script_text.specs.Turns.{turn_of, turns_of};
 ghost use Rattle.client_turns.specs.Quiet.{TellNoFault};
 
 use crate::gates::Gate;
-use command_core::command;
+use command_core::{Domain, Opening, command};
 use domain_base::VolIx;
-use domain_state::{Domain, Opening};
 use fileset_model::{Command, Told};
 use script_text::Section;
 use std::alloc::Global;

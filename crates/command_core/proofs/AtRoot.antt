@@ -1,10 +1,10 @@
 -- What the root of an original refuses.
-use Rattle.std.proofs.Common.{◌≡◌, ◌∙◌, ◌∷◌, ℕ, true, false, not, Bool, List, [], Option, Some, None, IsSomeAnd, IsTrue, is_some, if◌then◌else◌, refl, sym, ap, subst}
+use Rattle.std.proofs.Common.{◌≡◌, ◌∙◌, ◌∷◌, ℕ, true, false, not, [], Option, Some, None, IsSomeAnd, IsTrue, is_some, if◌then◌else◌, refl, sym, ap, subst}
 use Rattle.std.specs.FinMap as map
 use Rattle.std.specs.Option.{option_and_then, option_map_or}
 use Rattle.domain_base.specs.declared.place.Kind.{Kind}
 use Rattle.domain_base.specs.declared.place.Kind.TheVariants as kind
-use Rattle.fileset_laws.specs.Valid.{IsDirectoryAt, IsValidFileset}
+use Rattle.fileset_laws.specs.Valid.{IsValidFileset}
 use Rattle.fileset_model.specs.Apply.{create_checks, in_fileset, link_checks, links_full, not_empty, path_taken, read_only}
 use Rattle.fileset_model.specs.Filesets.{FilesetMap}
 use Rattle.fileset_model.specs.Orders.{Path}

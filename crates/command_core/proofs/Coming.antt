@@ -16,13 +16,14 @@ use Rattle.fileset_model.specs.declared.reply.Refusal.TheVariants.{Panicked}
 use Rattle.fileset_model.specs.declared.reply.Reply.{Reply}
 use Rattle.fileset_model.specs.declared.reply.Reply.TheVariants.{Refused}
 use Rattle.history_model.specs.Legal.{IsForActor, MayFollow}
+use Rattle.history_model.specs.PlainRun.{IsInside}
 use Rattle.history_model.specs.Point.{Point, running_job}
 use Rattle.history_model.specs.State.{Apply, LooksLikeState, Numbered, State, numbered_cmp, numbered_cmp-total, still_striped}
 use Rattle.history_model.specs.Step.{Step}
 use Rattle.history_model.specs.Step.Step.{out_of_memory}
 use Rattle.history_laws.specs.GoingOn.{ComesTo, LeadsOn}
 use Rattle.history_laws.proofs.GoesOn.{command_steps}
-use Rattle.history_laws.proofs.NoPanic.{never_panics}
+use Rattle.history_laws.proofs.Inside.{stays_inside}
 use Rattle.history_laws.proofs.PlainLemmas.{there_itself}
 use Rattle.domain_layout.specs.Reached.{Frame}
 use Rattle.domain_memory.specs.Kept.{KeepsKept}
@@ -31,6 +32,7 @@ use Rattle.domain_memory.specs.Staged.{MayBeKept}
 use Rattle.fileset_table.specs.Table.{Table}
 use Rattle.domain_memory.specs.declared.memory.DomainMemory.{DomainMemory}
 use Rattle.domain_state.specs.History.{IsCalm, MayCommit, StandsForSome}
+use Rattle.domain_state.specs.Short.{HadPages}
 use Rattle.command_core.specs.Coming.{ComesNext, IsAnswered}
 
 -- ---- no file is striped where none was
@@ -86,10 +88,17 @@ may_commit pages frame sizes memory entries job e all now kept next means = reco
   step = λ start is point comes same. leads start entries job e all now next is.striped point comes same means;
 }
 
--- such an answer tells of no volume that panicked
-pub answered_calm : (memory : DomainMemory) (command : Command) (reply : Reply) → ∥ StandsForSome memory ∥₁ → ((all : FilesetMap) → StandsFor memory all → IsAnswered memory all command reply) → IsCalm reply
-answered_calm memory command reply stands answered volume is =
-    ∥∥₁_elim stands (λ x y. absurd x) (λ some. let a = answered some.0 some.1 in never_panics some.0 command reply a.now volume a.means is)
+-- a reply without a cause that lies outside tells of no volume that panicked
+pub inside_calm : (memory : DomainMemory) (reply : Reply) → ∥ StandsForSome memory ∥₁ → ((all : FilesetMap) → StandsFor memory all → IsInside reply) → IsCalm reply
+inside_calm memory reply stands inside volume is = ∥∥₁_elim stands (λ x y. absurd x) (λ some. subst IsInside is (inside some.0 some.1))
+
+-- nor of want of pages
+pub inside_spared : (memory : DomainMemory) (reply : Reply) → ∥ StandsForSome memory ∥₁ → ((all : FilesetMap) → StandsFor memory all → IsInside reply) → HadPages reply
+inside_spared memory reply stands inside free need is = ∥∥₁_elim stands (λ x y. absurd x) (λ some. subst IsInside is (inside some.0 some.1))
+
+-- and such is each answer
+pub answer_inside : (memory : DomainMemory) (command : Command) (reply : Reply) → ((all : FilesetMap) → StandsFor memory all → IsAnswered memory all command reply) → (all : FilesetMap) → StandsFor memory all → IsInside reply
+answer_inside memory command reply answered all stands = let a = answered all stands in stays_inside all command reply a.now a.means
 
 -- ---- over what was kept
 

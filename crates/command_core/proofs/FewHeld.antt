@@ -1,13 +1,13 @@
 -- How many pages more are held with the change that is laid over free space.
-use Rattle.std.proofs.Common.{◌≡◌, ◌∙◌, ◌+◌, ◌-◌, ◌<◌, ◌≤◌, ◌⊎◌, ◌&&◌, ◌++◌, ℕ, zero, suc, Bool, true, false, not, cond, nat_eq, List, [], ◌∷◌, Option, Some, None, inl, inr, length, refl, sym, ap, subst, arith, ⊎_elim, if◌then◌else◌}
-use Rattle.std.proofs.lemmas.Bool.{cases_Bool, cases_eq, eq-eqb, eqb-true, ne_eqb, or_cases, true≢false}
+use Rattle.std.proofs.Common.{◌≡◌, ◌∙◌, ◌+◌, ◌-◌, ◌<◌, ◌≤◌, ◌⊎◌, ◌&&◌, ◌++◌, ℕ, zero, suc, Bool, true, false, not, cond, List, [], ◌∷◌, Option, Some, None, inl, inr, length, refl, sym, ap, subst, arith, ⊎_elim, if◌then◌else◌}
+use Rattle.std.proofs.lemmas.Bool.{cases_Bool, eq-eqb, eqb-true, ne_eqb, or_cases, true≢false}
 use Rattle.std.proofs.lemmas.List.{length-append}
 use Rattle.std.proofs.lemmas.List.Sums.{sum_by-cons}
 use Rattle.std.specs.Cmp.{nat_cmp_total, unsigned_tied}
 use Rattle.std.specs.List.{list_any, sum_by}
 use Rattle.std.specs.Option.{option_map}
 use Rattle.std.specs.Ordering.{eq_by_cmp, nat_cmp}
-use Rattle.std.specs.FinSet.{FinSet, contains, contains-difference, contains-empty, contains-insert, contains-items, contains-remove, difference, empty, empty_of_len, from_list, insert, items, len, len-empty, len-insert, len-remove, nat_cmp-IsAntisymmetric, remove, same_set}
+use Rattle.std.specs.FinSet.{FinSet, contains, contains-difference, contains-empty, contains-items, contains-remove, difference, empty, empty_of_len, from_list, insert, items, len, len-empty, len-insert, len-remove, nat_cmp-IsAntisymmetric, remove, same_set}
 use Rattle.free_space.specs.Spaces.{AreGivenBackOn, AreTakenOn}
 use Rattle.free_space.specs.VolumeSpace.{VolumeSpace, as_kept}
 use Rattle.free_space.specs.declared.waiting.Waiting.{Waiting}

@@ -39,3 +39,4 @@ pub mod HeldWithin
 pub mod FileShown
 pub mod FrameKept
 pub mod VolumesTold
+pub use Rattle.history_laws.proofs.Inside

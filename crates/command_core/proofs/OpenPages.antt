@@ -1,6 +1,6 @@
 -- The open members of a start have the pages of the open volumes: those that are held, and those that
 -- are free.
-use Rattle.std.proofs.Common.{◌≡◌, ◌∙◌, ◌+◌, ◌-◌, ◌<◌, ◌≤◌, ◌↔◌, ℕ, zero, suc, Bool, true, false, List, [], ◌∷◌, Option, Some, None, IfSome, get_or, length, slice_get, refl, sym, ap, subst, arith, true≢false, if◌then◌else◌}
+use Rattle.std.proofs.Common.{◌≡◌, ◌∙◌, ◌+◌, ◌-◌, ◌<◌, ◌≤◌, ◌↔◌, ℕ, zero, suc, Bool, true, false, List, [], ◌∷◌, Option, Some, None, IfSome, get_or, length, refl, sym, ap, subst, arith, true≢false, if◌then◌else◌}
 use Rattle.std.proofs.lemmas.Option.{get_or_from_slice_get}
 use Rattle.std.proofs.lemmas.List.Sums.{sum_by-cons}
 use Rattle.std.specs.List.{sum_by}
@@ -73,19 +73,19 @@ module _ (memory : DomainMemory) (all : FilesetMap) (stands : StandsFor memory a
 
   at_volume : (vol : ℕ) (o : Option VolumeSpace) → AreHeldAt d files indexes vol o → (m : Option Member) → map.get start.members vol ≡ m → option_map_or opened_pages m 0 ≡ open_of o
   at_volume vol None not None there = refl
-  at_volume vol None not (Some member) there = absurd (not ((is.members vol member).0 there).there)
+  at_volume vol None not (Some member) there = absurd (not ((is.volumes.members vol member).0 there).there)
   at_volume vol (Some v) held None there =
       let member : Member = record { pages = v.pages; is_open = v.is_open } in
-      absurd (none_some member (sym there ∙ (is.members vol member).1 (record { there = held.0; pages = held.1.count; opened = held.1.opened })))
+      absurd (none_some member (sym there ∙ (is.volumes.members vol member).1 (record { there = held.0; pages = held.1.count; opened = held.1.opened })))
   at_volume vol (Some v) held (Some member) there =
-      let is_as = (is.members vol member).0 there in
+      let is_as = (is.volumes.members vol member).0 there in
       same_test member.is_open v.is_open _ is_as.opened held.1.opened member.pages v.pages (is_as.pages ∙ sym held.1.count)
 
   inside : (vol : ℕ) (member : Member) → map.get start.members vol ≡ Some member → (0 < vol) × (vol ≤ 0 + length (kept_spaces memory.space).volumes)
   inside vol member there = by_volume (volume_of (kept_spaces memory.space) vol) refl (stands.stands.owned.spaces vol low)
     where
       is_as : IsMemberAs (frame_in memory.frame).anchor vol member
-      is_as = (is.members vol member).0 there
+      is_as = (is.volumes.members vol member).0 there
 
       low : 1 ≤ vol
       low = is_as.there.first

@@ -1,5 +1,5 @@
 -- What an owner uses, told of an original.
-use Rattle.std.proofs.Common.{◌≡◌, ◌∙◌, ℕ, List, Option, Some, None, IsSomeAnd, slice_get, unwrap_or, sym, ap, subst}
+use Rattle.std.proofs.Common.{◌≡◌, ◌∙◌, ℕ, Option, Some, None, IsSomeAnd, slice_get, unwrap_or, sym, ap, subst}
 use Rattle.std.specs.FinMap as map
 use Rattle.std.specs.Option.{option_map_or}
 use Rattle.fileset_model.specs.Apply.{answer_of, quota_of, refusal_of}
@@ -19,7 +19,6 @@ use Rattle.domain_memory.specs.Memory.{StandsFor}
 use Rattle.domain_memory.specs.Staged.{IsSettled, staged_books, staged_in}
 use Rattle.domain_memory.specs.declared.memory.DomainMemory.{DomainMemory}
 use Rattle.domain_memory.proofs.SettledKept.{settled_kept}
-use Rattle.command_core.specs.Placing.{RepliesAs}
 use Rattle.command_core.proofs.Limits.{allows_limits}
 use Rattle.command_core.proofs.Means.{there}
 use Rattle.command_core.proofs.Removal.{HasNamed}

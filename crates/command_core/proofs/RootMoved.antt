@@ -1,5 +1,5 @@
 -- Renames of the root, and in its place.
-use Rattle.std.proofs.Common.{◌≡◌, ◌∙◌, ◌+◌, ◌-◌, ◌==◌, ◌≤◌, ◌∷◌, ◌||◌, ℕ, true, false, is_some, not, Bool, List, [], Option, Some, None, Result, Ok, Err, IfOk, IfErr, cond, if◌then◌else◌, inl, inr, length, take, refl, sym, ap, subst, arith}
+use Rattle.std.proofs.Common.{◌≡◌, ◌∙◌, ◌+◌, ◌-◌, ◌==◌, ◌≤◌, ◌∷◌, ℕ, true, false, is_some, not, Bool, [], Option, Some, None, Result, Ok, Err, IfOk, IfErr, cond, if◌then◌else◌, inl, inr, length, take, refl, sym, ap, subst, arith}
 use Rattle.std.specs.FinMap as map
 use Rattle.std.specs.Cmp.{Equal-is}
 use Rattle.std.specs.Ordering.{eq_by_cmp}

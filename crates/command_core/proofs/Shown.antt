@@ -1,5 +1,5 @@
 -- The filesets of a domain, shown in the order of their names.
-use Rattle.std.proofs.Common.{◌≡◌, ◌∙◌, ◌||◌, ◌+◌, ◌<◌, ◌≤◌, ℕ, zero, suc, Bool, true, false, ◌&&◌, cond, T, List, [], ◌∷◌, Option, Some, None, IsSomeAnd, is_some, get_or, length, map as map_each, slice_get, take, refl, sym, ap, subst, true≢false, arith}
+use Rattle.std.proofs.Common.{◌≡◌, ◌∙◌, ◌||◌, ◌+◌, ◌≤◌, ℕ, suc, Bool, true, false, ◌&&◌, cond, T, List, [], ◌∷◌, Option, Some, None, IsSomeAnd, is_some, get_or, length, map as map_each, slice_get, take, refl, sym, ap, subst, true≢false, arith}
 use Rattle.std.specs.BTreeMap.{is_at}
 use Rattle.std.specs.BTreeSet.{BTreeSet, IsOrdered, contains}
 use Rattle.std.specs.FinMap as map
@@ -29,7 +29,7 @@ use Rattle.history_laws.proofs.ImageLemmas.{images}
 use Rattle.domain_stages.specs.Domain.{DomainNow}
 use Rattle.domain_stages.specs.Slots.{StandSlots}
 use Rattle.command_core.proofs.Means.{missing, none_original, nothing, there}
-use Rattle.command_core.proofs.Removal.{HasNamed, has_named}
+use Rattle.command_core.proofs.Removal.{has_named}
 
 -- ---- names that are noted, slot by slot
 

@@ -1,18 +1,16 @@
 -- Where fewer pages are free than are needed, and none waits, the open members have fewer than may be needed.
-use Rattle.std.proofs.Common.{◌≡◌, ◌∙◌, ◌+◌, ◌-◌, ◌*◌, ◌<◌, ◌≤◌, ℕ, List, [], Option, None, IfSome, get_or, sym, ap, subst, arith, ⊎_elim}
+use Rattle.std.proofs.Common.{◌≡◌, ◌∙◌, ◌+◌, ◌-◌, ◌<◌, ◌≤◌, ℕ, List, [], Option, None, IfSome, get_or, sym, ap, subst, arith, ⊎_elim}
 use Rattle.std.proofs.Math.Logic.{∥∥₁_map}
 use Rattle.std.proofs.lemmas.Bool.{cases_lt}
 use Rattle.std.specs.List.{sum_by}
 use Rattle.page_store.specs.Pages.{Pages}
-use Rattle.page_ways.specs.Frame.{frame_in}
 use Rattle.free_space.specs.Spaces.{Spaces}
 use Rattle.fileset_model.specs.Filesets.{FilesetMap}
 use Rattle.fileset_model.specs.declared.command.Command.{Command}
 use Rattle.fileset_model.specs.declared.entry.Entry.{Entry}
-use Rattle.history_model.specs.Point.{Point, peak}
+use Rattle.history_model.specs.Point.{peak}
 use Rattle.history_model.specs.Room.{open_pages}
 use Rattle.history_model.specs.State.{State}
-use Rattle.history_laws.specs.GoingOn.{ComesTo}
 use Rattle.domain_layout.specs.Reached.{Frame}
 use Rattle.set_laws.proofs.Stable.{nothing}
 use Rattle.domain_memory.specs.Held.{held_open}

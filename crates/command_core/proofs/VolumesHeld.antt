@@ -1,5 +1,5 @@
 -- How many pages more are held of all volumes, counted volume by volume.
-use Rattle.std.proofs.Common.{◌≡◌, ◌∙◌, ◌+◌, ◌-◌, ◌<◌, ◌≤◌, ℕ, zero, suc, List, [], ◌∷◌, Option, Some, None, get_or, take, map, refl, sym, ap, subst, arith, add-one}
+use Rattle.std.proofs.Common.{◌≡◌, ◌∙◌, ◌+◌, ◌-◌, ◌<◌, ◌≤◌, ℕ, zero, suc, List, [], ◌∷◌, Option, Some, None, get_or, take, refl, sym, ap, subst, arith, add-one}
 use Rattle.std.proofs.Math.Logic.{∥∥₁_map}
 use Rattle.std.proofs.lemmas.List.Sums.{sum_by-cons, sum_by-take-le}
 use Rattle.std.specs.List.{sum_by}
@@ -9,7 +9,7 @@ use Rattle.free_space.specs.Spaces.{Spaces, kept_spaces, volume_of}
 use Rattle.free_space.specs.VolumeSpace.{VolumeSpace, as_kept}
 use Rattle.free_space.proofs.Kept.{volume_of-kept}
 use Rattle.set_laws.proofs.Stable.{nothing}
-use Rattle.domain_memory.specs.Held.{held_if_open, held_open}
+use Rattle.domain_memory.specs.Held.{held_if_open}
 use Rattle.domain_memory.specs.Memory.{kept_in}
 use Rattle.domain_memory.specs.declared.memory.DomainMemory.{DomainMemory}
 use Rattle.domain_stages.specs.Domain.{DomainNow}

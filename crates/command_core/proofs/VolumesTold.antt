@@ -1,7 +1,5 @@
 -- What is shown of volumes may be told: the history goes on by it, and nothing changes.
-use Rattle.std.proofs.Common.{◌≡◌, ◌∙◌, ◌∷◌, ◌↔◌, ℕ, false, [], List, MatchOption, Option, Some, None, inl, inr, refl, sym, ap, subst}
-use Rattle.std.proofs.Math.Logic.{∥∥₁_elim}
-use Rattle.std.specs.FinMap.{get}
+use Rattle.std.proofs.Common.{◌≡◌, ◌∷◌, ℕ, false, [], List, MatchOption, Option, Some, None, inl, inr, refl, sym, ap, subst}
 use Rattle.domain_layout.specs.Reached.{Frame}
 use Rattle.fileset_model.specs.Apply.{answer_of, in_fileset, read_checks}
 use Rattle.fileset_model.specs.Filesets.{FilesetMap}
@@ -12,13 +10,13 @@ use Rattle.fileset_model.specs.declared.command.Place.{Place}
 use Rattle.fileset_model.specs.declared.entry.Entry.{Entry}
 use Rattle.fileset_model.specs.declared.reply.ExtentItem.{ExtentItem}
 use Rattle.fileset_model.specs.declared.reply.Refusal.{Refusal}
-use Rattle.fileset_model.specs.declared.reply.Refusal.TheVariants.{OutOfMemory, Panicked}
 use Rattle.fileset_model.specs.declared.reply.Reply.{Reply}
 use Rattle.fileset_model.specs.declared.reply.Reply.TheVariants.{Extents, Refused, Volumes}
 use Rattle.fileset_model.specs.declared.reply.VolumeItem.{VolumeItem}
-use Rattle.history_laws.proofs.NoPanic.{never_panics}
+use Rattle.history_laws.proofs.Inside.{stays_inside}
+use Rattle.history_model.specs.PlainRun.{IsInside}
 use Rattle.history_model.specs.Point.{Point}
-use Rattle.history_model.specs.State.{Member, State}
+use Rattle.history_model.specs.State.{State}
 use Rattle.history_model.specs.Step.{Step}
 use Rattle.history_model.specs.Step.Step.{on_volumes, out_of_memory}
 use Rattle.history_model.specs.VolumeReply.{VolumeReply, is_movers}
@@ -28,10 +26,11 @@ use Rattle.page_ways.specs.Frame.{frame_in}
 use Rattle.domain_memory.specs.Memory.{StandsFor}
 use Rattle.domain_memory.specs.declared.memory.DomainMemory.{DomainMemory}
 use Rattle.domain_state.specs.History.{IsCalm, MayCommitUnchanged, StandsForSome}
-use Rattle.domain_state.specs.Opening.{HasVolumesOf, IsMemberAs}
+use Rattle.domain_state.specs.Opening.{HasVolumesOf}
+use Rattle.domain_state.specs.Short.{HadPages}
 use Rattle.command_core.specs.Coming.{ComesNext}
 use Rattle.command_core.specs.Shown.{IsShowing, IsShown, IsShownIfMemory, ShowsHomes}
-use Rattle.command_core.proofs.Coming.{follows, looks_itself}
+use Rattle.command_core.proofs.Coming.{follows, inside_calm, inside_spared, looks_itself}
 
 pub showing_client : (c : Command) → IsShowing c → is_movers c ≡ false
 showing_client Showfdmn is = refl
@@ -79,32 +78,35 @@ may_tell pages frame sizes memory entries job e all frame_is next showing shown 
 }
   where
     has_volumes : HasVolumesOf memory.frame.anchor point.state
-    has_volumes = subst (HasVolumesOf memory.frame.anchor) (sym same) (record {
-      members = subst (λ (f : Frame). (vol : ℕ) (member : Member) → (get start.members vol ≡ Some member) ↔ IsMemberAs f.anchor vol member) (sym frame_is) is.members;
-      log_volume = is.log_volume ∙ ap (λ (f : Frame). f.anchor.log_vol) (sym frame_is);
-    })
+    has_volumes =
+        let at_start : HasVolumesOf memory.frame.anchor start = subst (λ (f : Frame). HasVolumesOf f.anchor start) (sym frame_is) is.volumes in
+        subst (HasVolumesOf memory.frame.anchor) (sym same) (record { members = at_start.members; log_volume = at_start.log_volume })
 
     steps : IsShownIfMemory memory all e.command e.reply → Step point e point.state
     steps (inl told) = on_volumes (replies memory all point (ap (λ (s : State). s.filesets) same) has_volumes e.command e.reply showing told)
     steps (inr short) = out_of_memory short refl
 
--- ---- it tells of no volume that panicked
+-- ---- it has no cause that lies outside
 
-not_panicked : (told : Refusal) (all : FilesetMap) (place : Place) (volume : ℕ) → in_fileset all place.fileset (read_checks place.path) ≡ Some told → ¬ Refused told ≡ Refused (Panicked volume)
-not_panicked told all place volume refused is =
-    never_panics all (Read place 0 0) (Refused told) all volume
-    (inl (subst (λ o. MatchOption o ((Refused told ≡ answer_of all (Read place 0 0)) × (all ≡ all)) (λ refusal. (Refused told ≡ Refused refusal) × (all ≡ all))) (sym refused) (refl, refl))) is
+-- a file is refused as a read of it would be
+refused_inside : (told : Refusal) (all : FilesetMap) (place : Place) → in_fileset all place.fileset (read_checks place.path) ≡ Some told → IsInside (Refused told)
+refused_inside told all place refused =
+    stays_inside all (Read place 0 0) (Refused told) all
+    (inl (subst (λ o. MatchOption o ((Refused told ≡ answer_of all (Read place 0 0)) × (all ≡ all)) (λ refusal. (Refused told ≡ Refused refusal) × (all ≡ all))) (sym refused) (refl, refl)))
 
-calm_in : (memory : DomainMemory) (all : FilesetMap) (c : Command) (reply : Reply) → IsShowing c → IsShownIfMemory memory all c reply → (volume : ℕ) → ¬ reply ≡ Refused (Panicked volume)
-calm_in memory all c reply showing (inr short) volume is = let e : Refused OutOfMemory ≡ Refused (Panicked volume) = sym short ∙ is in absurd (cc)
-calm_in memory all Showfdmn reply showing (inl (lines, told, volumes)) volume is = let e : Volumes lines ≡ Refused (Panicked volume) = sym told ∙ is in absurd (cc)
-calm_in memory all (Showfile place) reply showing (inl shown) volume is = by_refusal (in_fileset all place.fileset (read_checks place.path)) refl shown
+pub shown_inside : (memory : DomainMemory) (all : FilesetMap) (c : Command) (reply : Reply) → IsShownIfMemory memory all c reply → IsInside reply
+shown_inside memory all c reply (inr short) = subst IsInside (sym short) tt
+shown_inside memory all Showfdmn reply (inl (lines, told, volumes)) = subst IsInside (sym told) tt
+shown_inside memory all (Showfile place) reply (inl shown) = by_refusal (in_fileset all place.fileset (read_checks place.path)) refl shown
   where
-    by_refusal : (o : Option Refusal) → in_fileset all place.fileset (read_checks place.path) ≡ o → MatchOption o ((es : List ExtentItem) × (reply ≡ Extents es) × ShowsHomes memory all place es) (λ told. reply ≡ Refused told) → ⊥
-    by_refusal None refused (es, told, homes) = let e : Extents es ≡ Refused (Panicked volume) = sym told ∙ is in absurd (cc)
-    by_refusal (Some refusal) refused told = not_panicked refusal all place volume refused (sym told ∙ is)
-calm_in memory all c reply showing (inl shown) volume is = absurd showing
+    by_refusal : (o : Option Refusal) → in_fileset all place.fileset (read_checks place.path) ≡ o → MatchOption o ((es : List ExtentItem) × (reply ≡ Extents es) × ShowsHomes memory all place es) (λ told. reply ≡ Refused told) → IsInside reply
+    by_refusal None refused (es, told, homes) = subst IsInside (sym told) tt
+    by_refusal (Some refusal) refused told = subst IsInside (sym told) (refused_inside refusal all place refused)
+shown_inside memory all c reply (inl shown) = absurd shown
 
-pub shown_calm : (memory : DomainMemory) (c : Command) (reply : Reply) → IsShowing c → ∥ StandsForSome memory ∥₁ → ((all : FilesetMap) → StandsFor memory all → IsShownIfMemory memory all c reply) → IsCalm reply
-shown_calm memory c reply showing stands shown volume is =
-    ∥∥₁_elim stands (λ x y. absurd x) (λ some. calm_in memory some.0 c reply showing (shown some.0 some.1) volume is)
+-- so it tells neither of a volume that panicked nor of want of pages
+pub shown_calm : (memory : DomainMemory) (c : Command) (reply : Reply) → ∥ StandsForSome memory ∥₁ → ((all : FilesetMap) → StandsFor memory all → IsShownIfMemory memory all c reply) → IsCalm reply
+shown_calm memory c reply stands shown = inside_calm memory reply stands (λ all stood. shown_inside memory all c reply (shown all stood))
+
+pub shown_spared : (memory : DomainMemory) (c : Command) (reply : Reply) → ∥ StandsForSome memory ∥₁ → ((all : FilesetMap) → StandsFor memory all → IsShownIfMemory memory all c reply) → HadPages reply
+shown_spared memory c reply stands shown = inside_spared memory reply stands (λ all stood. shown_inside memory all c reply (shown all stood))

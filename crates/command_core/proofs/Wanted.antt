@@ -1,5 +1,5 @@
 -- A command that finds no page in a domain that was drained.
-use Rattle.std.proofs.Common.{◌≡◌, ◌∙◌, ◌+◌, ◌-◌, ◌*◌, ◌/◌, ◌<◌, ◌≤◌, ◌==◌, ℕ, Bool, true, false, List, Option, None, Some, IfSome, IfErr, Result, Err, length, get_or, sum_by, zero, suc, [], ◌∷◌, refl, sym, ap, subst, arith, eqb-true, if◌then◌else◌}
+use Rattle.std.proofs.Common.{◌≡◌, ◌∙◌, ◌+◌, ◌-◌, ◌/◌, ◌<◌, ◌≤◌, ◌==◌, ℕ, Bool, true, false, List, Option, None, Some, IfSome, IfErr, Result, Err, length, get_or, sum_by, zero, suc, [], ◌∷◌, refl, sym, ap, subst, arith, eqb-true, if◌then◌else◌}
 use Rattle.std.proofs.Math.Nat.{div-mul-le_self}
 use Rattle.std.proofs.lemmas.Nat.{le-div}
 use Rattle.std.proofs.lemmas.List.FromFn.{length-range_with_len}
@@ -25,14 +25,13 @@ use Rattle.fileset_model.specs.declared.reply.Refusal.TheVariants.{NoSpace}
 use Rattle.fileset_model.specs.declared.reply.Reply.{Reply}
 use Rattle.fileset_model.specs.declared.reply.Reply.TheVariants.{Refused}
 use Rattle.history_model.specs.Point.{Point, Tight}
-use Rattle.history_model.specs.Room.{need, open_pages, path_count, present_pages, room}
+use Rattle.history_model.specs.Room.{need}
 use Rattle.history_model.specs.State.{State}
 use Rattle.history_model.specs.Step.{Step, TakesSpace, refusal_in}
 use Rattle.history_model.specs.Step.Step.{no_space}
 use Rattle.history_model.specs.VolumeReply.{is_movers}
 use Rattle.history_model.specs.Volumes.{volume_refusal}
 use Rattle.history_laws.specs.GoingOn.{ComesTo, LeadsOn}
-use Rattle.history_laws.proofs.RoomLemmas.{comes_with_entries, comes_with_room}
 use Rattle.domain_layout.specs.Reached.{Frame}
 use Rattle.domain_memory.specs.Memory.{StandsFor}
 use Rattle.domain_memory.specs.declared.memory.DomainMemory.{DomainMemory}

@@ -3,7 +3,7 @@ use Rattle.std.proofs.Common.{◌≡◌, ◌∙◌, ◌+◌, ◌<◌, ◌≤◌,
 use Rattle.std.specs.List.{range_with_len}
 use Rattle.std.proofs.lemmas.List.{length-take-le, map-append}
 use Rattle.std.proofs.lemmas.List.FromFn.{map-range_with_len_more}
-use Rattle.fileset_model.specs.Orders.{Name, Path}
+use Rattle.fileset_model.specs.Orders.{Path}
 use Rattle.fileset_model.specs.Paths.{directory_refusal, first_refusal, walk_refusal}
 use Rattle.fileset_model.specs.declared.fileset.FilesetSlot.{FilesetSlot}
 use Rattle.fileset_model.specs.declared.reply.Refusal.{Refusal}

@@ -15,8 +15,8 @@ use Rattle.domain_memory.specs.Memory.{StandsFor}
 use Rattle.domain_memory.specs.Staged.{IsSettled, MayBeKept}
 use Rattle.domain_memory.specs.declared.memory.DomainMemory.{DomainMemory}
 use Rattle.domain_memory.specs.Going.{free_in}
-use Rattle.command_core.specs.Wanting.{IsShort}
 use Rattle.domain_state.specs.History.{NonePanicked}
+use Rattle.domain_state.specs.Short.{IsShort}
 
 -- an entry of a client's may come after these: none has a greater stamp, and none panicked
 pub record ComesNext (entries : List Entry) (e : Entry) : Type 0 where
@@ -63,7 +63,7 @@ pub record AddsNoSpace (client : ℕ) (command : Command) (old new : DomainMemor
     reply = Refused (NoSpace (free_in new) (need command));
     stamp = stamp;
   } ∷ []
-  pub short : IsShort new command
+  pub short : IsShort new (free_in new) (need command)
   pub takes : (all : FilesetMap) → StandsFor old all → TakesSpace all command
   pub allowed : (all : FilesetMap) → StandsFor old all → refusal_of all command ≡ None
   pub stands : (all : FilesetMap) → StandsFor old all → StandsFor new all

@@ -6,4 +6,6 @@ pub mod Placing
 pub mod Wanting
 pub mod Rooted
 pub use Rattle.domain_memory.specs.Staged
+pub use Rattle.domain_state.specs.History
+pub use Rattle.history_model.specs.PlainRun
 pub mod Shown

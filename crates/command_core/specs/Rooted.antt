@@ -1,5 +1,5 @@
 -- Commands at the root of a fileset, which stays.
-use Rattle.std.specs.Prelude.{◌≡◌, Some, None, Option, Result, Ok, Err, if◌then◌else◌}
+use Rattle.std.specs.Prelude.{◌≡◌, Some, None, Result, Ok, Err, if◌then◌else◌}
 use Rattle.std.specs.FinMap.{get}
 use Rattle.std.specs.Option.{option_map}
 use Rattle.domain_base.specs.declared.place.Kind.{Kind}

@@ -1,17 +1,14 @@
 -- Want of pages.
-use Rattle.std.specs.Prelude.{◌≡◌, ◌<◌, ℕ, List, Option}
+use Rattle.std.specs.Prelude.{◌≡◌, ℕ, List, Option}
 use Rattle.page_store.specs.Pages.{Pages}
 use Rattle.fileset_model.specs.Filesets.{FilesetMap}
 use Rattle.fileset_model.specs.declared.command.Command.{Command}
 use Rattle.fileset_model.specs.declared.command.Command.TheVariants.{Create, Link, Mkdir, Mkfset, Rename, Setquota, Write}
 use Rattle.fileset_model.specs.declared.entry.Entry.{Entry}
 use Rattle.history_model.specs.Point.{Point, Tight}
-use Rattle.history_model.specs.Room.{need}
 use Rattle.history_model.specs.State.{State}
 use Rattle.history_laws.specs.GoingOn.{ComesTo}
 use Rattle.domain_layout.specs.Reached.{Frame}
-use Rattle.domain_memory.specs.declared.memory.DomainMemory.{DomainMemory}
-use Rattle.domain_memory.specs.Going.{NoneWaits, NothingGoes, free_in}
 use Rattle.domain_state.specs.Opening.{IsStartOf}
 
 -- the commands that may be answered no-space, of those that are answered here
@@ -24,13 +21,6 @@ MayTake (Write place offset bytes) = Unit {0}
 MayTake (Rename place to) = Unit {0}
 MayTake (Link place to) = Unit {0}
 MayTake command = ⊥
-
--- fewer pages are free than a command may need, no page waits, and nothing on the list may be let
--- go of, nor anything of what is being removed
-pub record IsShort (memory : DomainMemory) (command : Command) : Type 0 where
-  pub few : free_in memory < need command
-  pub none_waits : NoneWaits memory.space
-  pub none_goes : NothingGoes memory
 
 -- wherever this history may have come with these filesets, from a state that the pages at the
 -- opening mean, the open members have fewer pages than may be needed, and so many more

@@ -96,8 +96,8 @@ pub(crate) fn add_refusal<R: Rack, O: Opening>(
     add_answer(take_back(domain), client, command, Reply::Refused(refusal))
 }
 
-/// Adds a client's command with its answer, with the change that is laid over the domain; where that
-/// leaves more than 24 pages more held it is taken back, and the answer is out-of-memory.
+/// Adds a client's command with its answer, with the change that is laid over the domain; where
+/// that leaves more than 24 pages more held it is taken back, and the answer is out-of-memory.
 fn add_if_few<R: Rack, O: Opening>(
     domain: Domain<R, O>,
     client: u8,

@@ -18,10 +18,10 @@ use volume_disk::Rack;
 /// of filesets say, in their order; or out-of-memory, where nothing changes. One that shows volumes
 /// tells of the domain's own, and changes nothing. Where a page is wanted in vain the domain is
 /// drained, and the command laid over it once more; where a page is wanted again it is answered
-/// no-space with the pages that are free and those that it may need, if fewer are free and nothing is
-/// left to be given up, and else out-of-memory; and so it is where its change would leave more than
-/// 24 pages more held. Behind a command that changes something, things on the list are let go of.
-/// The preferred volume is the one of which pages and cells are taken first.
+/// no-space with the pages that are free and those that it may need, if fewer are free and nothing
+/// is left to be given up, and else out-of-memory; and so it is where its change would leave more
+/// than 24 pages more held. Behind a command that changes something, things on the list are let go
+/// of. The preferred volume is the one of which pages and cells are taken first.
 pub fn command<R: Rack, O: Opening>(
     domain: Domain<R, O>,
     alloc: Global,

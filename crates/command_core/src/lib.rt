@@ -32,6 +32,7 @@ mod wanting;
 mod writing;
 
 pub use commands::command;
+pub use domain_state::{Domain, Opening};
 pub use laws::{
     what_a_client_is_answered_may_be_committed, what_beginnings_mean, what_is_said_of_filesets,
     what_limits_mean, what_removals_mean,

@@ -11,10 +11,11 @@ use Rattle.disk_label.specs.Body.{no_member}
 use Rattle.disk_label.specs.FirstPages.{first_pages}
 use Rattle.disk_label.specs.Slot.{IsReady, IsReadyFor}
 use Rattle.disk_label.specs.declared.anchor.Anchor.{Anchor}
-use Rattle.log_ring.specs.Groups.{HasLog}
+use Rattle.log_ring.specs.Groups.{HasLog, pages_in}
 use Rattle.log_recovery.specs.Outcome.{HasGoodAnchor}
 use Rattle.domain_layout.specs.Reached.{Frame}
 use Rattle.domain_layout.specs.Read.{Means}
+use Rattle.layout_laws.specs.NewDomain.{IsNew}
 
 -- the pages of volume 1 that a domain of this version uses
 abbrev pub pages_in_use : Version → List ℕ → ℕ
@@ -45,10 +46,13 @@ abbrev pub new_frame : Version → ℕ → Frame
 new_frame version pages = record { anchor = new_anchor version pages; version = version }
 
 -- an image is that of an empty domain with this anchor: recovery takes the anchor and no group
--- behind it, and the image means no fileset
+-- behind it, the pages are those of a domain that was just made, and the image means no fileset
 pub record IsEmptyDomain (sizes : List ℕ) (anchor : Anchor) (image : Image) : Type 0 where
   pub good : HasGoodAnchor sizes image anchor
   pub log : HasLog sizes anchor [] image
+  pub version : Version
+  pub is_version : anchor.version ≡ number_of version
+  pub fresh : IsNew (pages_in image) (record { anchor = anchor; version = version })
   pub means : Means sizes image empty
 
 -- no image that a stop might leave now has an anchor that counts on a volume but the first

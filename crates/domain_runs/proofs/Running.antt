@@ -11,7 +11,7 @@ use Rattle.fileset_model.specs.declared.command.Command.{Command}
 use Rattle.fileset_model.specs.declared.entry.Entry.{Entry}
 use Rattle.history_model.specs.Legal.{Legal}
 use Rattle.history_model.specs.State.{new_domain}
-use Rattle.log_settling.specs.Settling.{Anywhere}
+use Rattle.log_settling.specs.Settling.{Anywhere, HasNoGroup}
 use Rattle.staged_pages.specs.Store.{before_of}
 use Rattle.domain_layout.specs.Read.{Means}
 use Rattle.domain_layout.specs.Reached.{Frame}
@@ -38,18 +38,25 @@ use Rattle.domain_runs.specs.Statuses.{status_of_close}
 
 -- a domain that goes on leads to what it stands for, which is kept where that is
 pub leads_kept : (pages : Pages) (frame : Frame) (sizes : List ℕ) (memory : DomainMemory) (entries : List Entry) (job : Option Command) (old new : Disk) (closed : Type 0)
-    → ∥ GoesOn pages frame sizes memory entries job ∥₁ → job ≡ None → (closed → Tells old → MeansKept new memory) → ∥ LeadsFrom pages frame sizes entries new (Tells old × closed) ∥₁
-leads_kept pages frame sizes memory entries job old new closed goes none means = ∥∥₁_map goes (λ on. record {
+    → ∥ GoesOn pages frame sizes memory entries job ∥₁ → job ≡ None → (closed → Tells old → MeansKept new memory) → (closed → Tells old → ∥ HasNoGroup new memory.frame.anchor ∥₁)
+    → ∥ LeadsFrom pages frame sizes entries new (Tells old × closed) ∥₁
+leads_kept pages frame sizes memory entries job old new closed goes none means stands = ∥∥₁_map goes (λ on. record {
   all = on.all;
   leads = λ start is. subst (λ (j : Option Command). ∥ Legal start entries j (record start { filesets = on.all }) ∥₁) none (on.leads start is);
   kept = λ both. means both.1 both.0 on.all on.stands;
+  volumes = λ both. subst (λ (f : Frame). ∥ HasNoGroup new f.anchor ∥₁) on.same (stands both.1 both.0);
 })
 
 -- the same of another name for the rack of before
 pub leads_since : (pages : Pages) (frame : Frame) (sizes : List ℕ) (entries : List Entry) (old mid new : Disk) (closed : Type 0)
     → (Tells old → Tells mid) → ∥ LeadsFrom pages frame sizes entries new (Tells mid × closed) ∥₁ → ∥ LeadsFrom pages frame sizes entries new (Tells old × closed) ∥₁
 leads_since pages frame sizes entries old mid new closed told leads =
-    ∥∥₁_map leads (λ on. record { all = on.all; leads = on.leads; kept = λ both. on.kept (told both.0, both.1) })
+    ∥∥₁_map leads (λ on. record {
+      all = on.all;
+      leads = on.leads;
+      kept = λ both. on.kept (told both.0, both.1);
+      volumes = λ both. on.volumes (told both.0, both.1);
+    })
 
 -- a domain that was made runs from the empty state
 pub runs_new : (version : Version) (old made new : Disk) (memory : DomainMemory) (entries : List Entry) (closed : Type 0) → Touches old made IsOnFirst
@@ -58,10 +65,13 @@ pub runs_new : (version : Version) (old made new : Disk) (memory : DomainMemory)
 runs_new version old made new memory entries closed touches fresh frame leads = ∥∥₁_map leads (λ on. record {
   all = on.all;
   leads = on.leads (new_domain version old.sizes)
-      (subst (λ (l : List ℕ). IsStartOf (before_of memory.pages) (frame_in memory.frame) l (new_domain version old.sizes)) (sym touches.sizes)
-      (subst (λ (f : Frame). IsStartOf (before_of memory.pages) f old.sizes (new_domain version old.sizes)) (sym frame) (is_start version old.sizes (before_of memory.pages) fresh)));
+      (subst (λ (l : List ℕ). IsStartOf (before_of memory.pages) (frame_in memory.frame) l (new_domain version old.sizes)) (sym touches.sizes) starts);
   kept = λ both. on.kept (touches.told ∙ both.0, both.1);
+  volumes = λ both. ∥∥₁_map (on.volumes (touches.told ∙ both.0, both.1)) (λ none. (memory.frame.anchor, (starts.volumes, none)));
 })
+  where
+    starts : IsStartOf (before_of memory.pages) (frame_in memory.frame) old.sizes (new_domain version old.sizes)
+    starts = subst (λ (f : Frame). IsStartOf (before_of memory.pages) f old.sizes (new_domain version old.sizes)) (sym frame) (is_start version old.sizes (before_of memory.pages) fresh)
 
 -- a domain that was attached runs from what the rack had
 pub runs_from : (old attached new : Disk) (memory : DomainMemory) (sizes : List ℕ) (entries : List Entry) (closed : Type 0) → Touches old attached Anywhere → sizes ≡ attached.sizes

@@ -8,6 +8,8 @@ use Rattle.page_store.specs.Pages.{Pages}
 use Rattle.volume_disk.specs.Disk.{Disk, MayLeave, Tells, volume_pages}
 use Rattle.volume_disk.specs.Image.{Image}
 use Rattle.volume_disk.specs.Run.{OnlyReads}
+use Rattle.disk_label.specs.declared.anchor.Anchor.{Anchor}
+use Rattle.log_settling.specs.Settling.{HasNoGroup}
 use Rattle.fileset_model.specs.Filesets.{FilesetMap}
 use Rattle.fileset_model.specs.declared.entry.Entry.{Entry}
 use Rattle.history_model.specs.Legal.{Legal}
@@ -19,7 +21,7 @@ use Rattle.domain_attaching.specs.Brought.{IsBroughtFrom}
 use Rattle.domain_attaching.specs.Fault.{IsNoDomain}
 use Rattle.domain_attaching.specs.unfit.Unfit.{Unfit}
 use Rattle.domain_attaching.specs.unfit.Unfit.TheVariants as unfit
-use Rattle.domain_state.specs.Opening.{IsStartOf}
+use Rattle.domain_state.specs.Opening.{HasVolumesOf, IsStartOf}
 use Rattle.domain_attaching.specs.Attaching.{IsUnfitDomain}
 use Rattle.domain_attaching.specs.Settling.{LacksNumbers, StaysReadSince, rested_anchor}
 use Rattle.run_parts.specs.declared.status.Status.{Status}
@@ -34,14 +36,19 @@ abbrev pub Keeps : Disk → FilesetMap → Type 0
 Keeps disk all =
     (image : Image) → MayLeave disk.now image → ∥ Means disk.sizes image all ∥₁
 
+-- and has an anchor with the volumes of a state, and no group of a log behind it
+abbrev pub HasVolumes : Disk → State → Type 0
+HasVolumes disk s = ∥ ((anchor : Anchor) × HasVolumesOf anchor s × HasNoGroup disk anchor) ∥₁
+
 -- from each state that pages with this anchor mean the entries lead to some filesets; these are on
--- the rack where it holds that the domain was closed
+-- the rack where it holds that the domain was closed, with this anchor and the volumes that it has
 pub record LeadsFrom (pages : Pages) (frame : Frame) (sizes : List ℕ) (entries : List Entry)
     (new : Disk) (closed : Type 0) : Type 0 where
   pub all : FilesetMap
   pub leads : (start : State) → IsStartOf pages frame sizes start
       → ∥ Legal start entries None (record start { filesets = all }) ∥₁
   pub kept : closed → Keeps new all
+  pub volumes : closed → ∥ HasNoGroup new frame.anchor ∥₁
 
 -- the same from the state of a domain that was just made
 pub record LeadsFromNew (version : Version) (sizes : List ℕ) (entries : List Entry) (new : Disk)
@@ -50,6 +57,7 @@ pub record LeadsFromNew (version : Version) (sizes : List ℕ) (entries : List E
   pub leads : ∥ Legal (new_domain version sizes) entries None
       (record (new_domain version sizes) { filesets = all }) ∥₁
   pub kept : closed → Keeps new all
+  pub volumes : closed → HasVolumes new (new_domain version sizes)
 
 -- pages with this anchor are those of an image once its log is redone and at rest
 abbrev pub AreOpenedFrom : List ℕ → Image → Pages → Frame → Type 0

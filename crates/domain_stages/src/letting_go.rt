@@ -92,8 +92,9 @@ pub fn may_let_go(memory: &DomainMemory) -> bool
 /// Lets go of things on a domain's list, one after the other, sixteen at most, with which at most
 /// so many pages of metadata change, five or more; the bits of bitmaps stay for now. What no file
 /// has any more waits for the group, and no page more is held. It answers how many, 0 exactly where
-/// nothing may be let go of. The filesets stay what they are. No change may be laid over the domain before, and this one is
-/// to be kept: the list is not taken back. There may only be no memory, and then all is as it was.
+/// nothing may be let go of. The filesets stay what they are. No change may be laid over the domain
+/// before, and this one is to be kept: the list is not taken back. There may only be no memory, and
+/// then all is as it was.
 pub fn let_go(
     memory: &mut DomainMemory,
     alloc: Global,

@@ -8,7 +8,6 @@ use Rattle.domain_base.specs.Version.{most_pages}
 use Rattle.domain_base.specs.declared.place.Home.{Home}
 use Rattle.domain_base.specs.declared.version.Version.{Version}
 use Rattle.page_store.specs.Pages.{Pages}
-use Rattle.log_ring.specs.Homes.{IsMember}
 use Rattle.fileset_model.proofs.MapLemmas.{get-insert_same, got-insert}
 use Rattle.fileset_table.specs.Table.{IsNewTable, Table}
 use Rattle.history_model.specs.State.{Member, new_domain}
@@ -135,8 +134,7 @@ module _ (version : Version) (sizes : List ℕ) (pages : Pages) (new : IsNew pag
       record {
         filesets = λ home at. subst (λ h. ReadsFrom pages h empty) (some_same (on_first (firsts frame).table) home (sym new.anchor.table ∙ at)) (reads_none pages frame new);
         rack = refl;
-        members = λ vol member. (as_member vol member, as_there vol member);
-        log_volume = refl;
+        volumes = record { members = λ vol member. (as_member vol member, as_there vol member); log_volume = refl };
         version = refl;
         striped = refl;
         old_pages = counts_one pages frame new table.is.table table.is.fresh (laid_with pages frame new refl table.is.table table.is.fresh (first_table frame) refl);

@@ -140,7 +140,7 @@ module _ (d : DomainNow) (all : FilesetMap) (stands : StandsDomain d all) (sizes
         let few_of = few_bitmaps d.frame.version (member_of d.frame.anchor home.vol).pages (stands.tables.few home.vol there) in
         in_first first_part log_part table_part file_part old.homes home
         (first_among start.members (record { pages = (member_of d.frame.anchor home.vol).pages; is_open = (member_of d.frame.anchor home.vol).state == 1 }) home
-        ((is.members home.vol (record { pages = (member_of d.frame.anchor home.vol).pages; is_open = (member_of d.frame.anchor home.vol).state == 1 })).1 (shown d.frame home.vol there)) (omega (arith, less, few_of)))
+        ((is.volumes.members home.vol (record { pages = (member_of d.frame.anchor home.vol).pages; is_open = (member_of d.frame.anchor home.vol).state == 1 })).1 (shown d.frame home.vol there)) (omega (arith, less, few_of)))
 
     log_listed : (frame : Frame) → frame ≡ d.frame → IsLogPage frame.anchor home → Contains homes home
     log_listed frame same logged =

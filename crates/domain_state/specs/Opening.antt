@@ -70,9 +70,7 @@ pub record IsStartOf (pages : Pages) (frame : Frame) (sizes : List ℕ) (start :
   pub filesets : (home : Home) → frame.anchor.table ≡ Some home
       → ReadsFrom pages home start.filesets
   pub rack : start.rack ≡ rack_of sizes
-  pub members : (vol : ℕ) (member : Member) → (get start.members vol ≡ Some member)
-      ↔ IsMemberAs frame.anchor vol member
-  pub log_volume : start.log_volume ≡ frame.anchor.log_vol
+  pub volumes : HasVolumesOf frame.anchor start
   pub version : start.version ≡ frame.version
   pub striped : start.striped ≡ set.empty
   pub old_pages : CountsOld pages frame start.old_pages

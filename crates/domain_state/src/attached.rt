@@ -7,7 +7,8 @@ ghost use Rattle.domain_state.specs.Rest.{IsAtRest};
 use domain_memory::DomainMemory;
 use volume_disk::Rack;
 
-/// A domain that was made or attached: its rack, which is at rest, and what is kept in memory of it.
+/// A domain that was made or attached: its rack, which is at rest, and what is kept in memory of
+/// it.
 #[derive(Drop)]
 pub struct Attached<R: Rack> {
     pub(crate) rack: R,
@@ -19,8 +20,8 @@ pub struct Attached<R: Rack> {
 }
 
 impl<R: Rack> Attached<R> {
-    /// The domain on a rack at rest of which this is kept in memory: it stands for some filesets, with
-    /// no change laid over it.
+    /// The domain on a rack at rest of which this is kept in memory: it stands for some filesets,
+    /// with no change laid over it.
     pub fn of_memory(rack: R, memory: DomainMemory) -> Attached<R>
         requires stands { ∥ StandsForSome memory ∥₁ }
         requires settled { ∥ IsSettled memory ∥₁ }

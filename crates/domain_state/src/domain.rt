@@ -1,6 +1,5 @@
 //! A domain with the history of its commands.
 ghost use Rattle.std.specs.Prelude.{◌≡◌, ◌+◌, ◌-◌, ◌≤◌, ◌∷◌, ◌++◌, ℕ, [], All, List, None, OnOk, false, true, if◌then◌else◌, is_some, length, vec_capacity};
-ghost use Rattle.std.specs.FinMap.{len};
 ghost use Rattle.std.specs.Option.{option_copied};
 ghost use Rattle.domain_base.specs.declared.version.Version.TheVariants.{Four};
 ghost use Rattle.page_store.specs.Pages.{Pages, no_pages};
@@ -11,8 +10,6 @@ ghost use Rattle.domain_making.specs.Making.{new_frame};
 ghost use Rattle.fileset_model.specs.Filesets.{FilesetMap};
 ghost use Rattle.domain_memory.specs.Memory.{StandsFor, books_in, kept_in};
 ghost use Rattle.domain_memory.specs.Staged.{IsSettled, MayBeKept, MayGoBack};
-ghost use Rattle.history_model.specs.Room.{open_pages};
-ghost use Rattle.history_model.specs.State.{State};
 ghost use Rattle.history_laws.specs.GoingOn.{job_left};
 ghost use Rattle.domain_state.specs.History.{
   GoesOn,
@@ -23,13 +20,12 @@ ghost use Rattle.domain_state.specs.History.{
   StandsForSome,
   with_last_stamped,
 };
-ghost use Rattle.domain_state.specs.Opening.{IsStartOf};
 ghost use Rattle.domain_state.specs.Rest.{IsAtRest};
 ghost use Rattle.domain_state.specs.Room.{HoldsFew};
+ghost use Rattle.domain_state.specs.Short.{HadPages, HasCause};
 
 use crate::Attached;
 use crate::history::History;
-use crate::members::{count_members, open_pages};
 use domain_base::{Home, OutOfMemory, Page, VolIx};
 use domain_memory::DomainMemory;
 use fileset_model::{Entry, Told};
@@ -57,7 +53,8 @@ impl Opening for Brand {
 
 /// A domain that was opened. The commands since then, with their replies, lead from each state that
 /// its pages meant then to the filesets for which it stands now, and no more pages are held than
-/// that state and these commands have room for. Its rack is at rest: no change has been written yet.
+/// that state and these commands have room for. Its rack is at rest: no change has been written
+/// yet.
 #[derive(Drop)]
 pub struct Domain<R: Rack, O: Opening> {
     memory: DomainMemory,
@@ -128,13 +125,15 @@ impl<R: Rack, O: Opening> Domain<R, O> {
     }
 
     /// Keeps the change that is laid over the domain, and adds the command whose change it is, with
-    /// its reply, which tells of no volume that panicked: one in each event, which gets its stamp
-    /// where that ends. At most 24 pages more are held with the change than before it. The mover's
-    /// own entry ends its job. It takes no memory, and the time of what the change has changed.
+    /// its reply, which tells neither of a volume that panicked nor of want of pages: one in each
+    /// event, which gets its stamp where that ends. At most 24 pages more are held with the change
+    /// than before it. The mover's own entry ends its job. It takes no memory, and the time of what
+    /// the change has changed.
     pub fn commit(&mut self, entry: Entry)
         requires first { ⟦<Domain<R, O> as Told>⟧.rests self.old }
         requires room { 1 ≤ ⟦<Domain<R, O> as Told>⟧.room self.old }
         requires calm { IsCalm entry.reply }
+        requires pages { HadPages entry.reply }
         requires few { HoldsFew self.old.memory }
         requires step { (all : FilesetMap) → StandsFor self.old.memory all → MayCommit O.pages
             O.frame O.sizes self.old.memory (⟦<Domain<R, O> as Told>⟧.history self.old)
@@ -157,13 +156,15 @@ impl<R: Rack, O: Opening> Domain<R, O> {
         self.history.add(entry);
     }
 
-    /// Adds a command that changed nothing, with its reply, which tells of no volume that panicked:
-    /// one in each event, which gets its stamp where that ends. What is kept in memory stays, with
-    /// the change that is laid over it. It takes no memory.
+    /// Adds a command that changed nothing, with its reply, which tells of no volume that panicked,
+    /// and of want of pages only where memory is as short of them as it tells, no page waits, and
+    /// nothing may be given up: one in each event, which gets its stamp where that ends. What is
+    /// kept in memory stays, with the change that is laid over it. It takes no memory.
     pub fn commit_unchanged(&mut self, entry: Entry)
         requires first { ⟦<Domain<R, O> as Told>⟧.rests self.old }
         requires room { 1 ≤ ⟦<Domain<R, O> as Told>⟧.room self.old }
         requires calm { IsCalm entry.reply }
+        requires cause { HasCause self.old.memory entry.reply }
         requires step { (all : FilesetMap) → StandsFor self.old.memory all → MayCommitUnchanged
             O.pages O.frame O.sizes (⟦<Domain<R, O> as Told>⟧.history self.old)
             (⟦<Domain<R, O> as Told>⟧.begun self.old) entry all }
@@ -267,24 +268,8 @@ impl<R: Rack, O: Opening> Domain<R, O> {
         &self.memory
     }
 
-    /// How many pages the open members have together.
-    pub fn open_pages(&self) -> u64
-        ensures { (start : State) → IsStartOf O.pages O.frame O.sizes start
-            → result ≡ open_pages start }
-    {
-        open_pages(&self.memory.frame)
-    }
-
-    /// How many members there are.
-    pub fn count_members(&self) -> u64
-        ensures { (start : State) → IsStartOf O.pages O.frame O.sizes start
-            → result ≡ len start.members }
-    {
-        count_members(&self.memory.frame)
-    }
-
-    /// How many calls the rack has had: no entry has a greater stamp, where no event goes on that has
-    /// added one.
+    /// How many calls the rack has had: no entry has a greater stamp, where no event goes on that
+    /// has added one.
     pub fn calls(&self) -> u64
         ensures stamps { ⟦<Domain<R, O> as Told>⟧.rests self.now
             → All (λ before. before.stamp ≤ result) (⟦<Domain<R, O> as Told>⟧.history self.now) }

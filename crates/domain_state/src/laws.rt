@@ -33,8 +33,8 @@ pub fn a_new_domain_is_a_start()
         (new_domain version sizes) }
 {}
 
-/// The pages of a domain that stands for some filesets, as it does when it was made or attached, mean
-/// a state on each rack: its filesets, members and old pages are told by them.
+/// The pages of a domain that stands for some filesets, as it does when it was made or attached,
+/// mean a state on each rack: its filesets, members and old pages are told by them.
 pub fn an_attached_domain_has_a_start()
     ensures { (memory : DomainMemory) (sizes : List ℕ) (all : FilesetMap) → StandsFor memory all
         → (start : State) × IsStartOf (before_of memory.pages) (frame_in memory.frame) sizes start }

@@ -7,7 +7,6 @@ mod domain;
 mod history;
 mod laws;
 mod making;
-mod members;
 
 pub use attached::Attached;
 pub use domain::{Domain, Opening};

@@ -54,12 +54,12 @@ fn new_memory<R: Rack>(
     Ok(DomainMemory::of_new(alloc, new, version, pages)?)
 }
 
-/// Makes an empty domain of this version on volume 1 of a rack, whatever that volume held, and keeps
-/// it in memory. All memory is taken ahead of the first write. No other volume may have an anchor
-/// that counts.
+/// Makes an empty domain of this version on volume 1 of a rack, whatever that volume held, and
+/// keeps it in memory. All memory is taken ahead of the first write. No other volume may have an
+/// anchor that counts.
 ///
-/// `VolumeSmall` comes exactly where volume 1 has fewer than 160 pages, and `Fault` where one call of
-/// the volume that it names failed. The rack comes back with the fault; nothing is written at
+/// `VolumeSmall` comes exactly where volume 1 has fewer than 160 pages, and `Fault` where one call
+/// of the volume that it names failed. The rack comes back with the fault; nothing is written at
 /// `VolumeSmall` and `OutOfMemory`, and where no anchor could count before, each image that a stop
 /// may leave has none or is the empty domain.
 pub fn make<R: Rack>(

@@ -2,7 +2,7 @@ pub mod GoesOn
 pub mod ImageLemmas
 pub mod MarkedLemmas
 pub mod NewDomainLemmas
-pub mod NoPanic
+pub mod Inside
 pub mod PlaceLemmas
 pub mod PlainLemmas
 pub mod Restamped

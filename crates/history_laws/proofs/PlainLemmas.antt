@@ -27,7 +27,7 @@ use Rattle.history_model.specs.Point.{Answered, Job, Point, history_of, job_afte
 use Rattle.history_model.specs.State.{State, with_filesets}
 use Rattle.history_model.specs.Step.{Step}
 use Rattle.history_model.specs.Step.Step.{applied, out_of_memory}
-use Rattle.history_laws.proofs.NoPanic.{no_panic}
+use Rattle.history_laws.proofs.Inside.{no_panic}
 
 -- ---- lists that grow at their end
 

@@ -9,7 +9,7 @@ use Rattle.fileset_model.specs.Filesets.{FilesetMap}
 use Rattle.fileset_model.specs.Orders.{name_cmp, name_cmp-IsAntisymmetric}
 use Rattle.fileset_model.specs.declared.command.Command.{Command}
 use Rattle.fileset_model.specs.declared.entry.Entry.{Entry}
-use Rattle.fileset_model.specs.declared.reply.Refusal.TheVariants.{Panicked}
+use Rattle.fileset_model.specs.declared.reply.Refusal.TheVariants.{NoSpace, Panicked}
 use Rattle.fileset_model.specs.declared.reply.Reply.TheVariants.{Done, Refused}
 use Rattle.history_model.specs.Legal.{MayFollow}
 use Rattle.history_model.specs.Point.{Point}
@@ -23,6 +23,7 @@ use Rattle.domain_memory.specs.Staged.{IsSettled}
 use Rattle.domain_memory.specs.declared.memory.DomainMemory.{DomainMemory}
 use Rattle.domain_memory.proofs.SettledKept.{settled_kept}
 use Rattle.domain_state.specs.History.{IsCalm, MayCommit}
+use Rattle.domain_state.specs.Short.{HadPages}
 use Rattle.state_tests.specs.Sync.{sync_entry}
 
 -- ---- no file is striped where none was
@@ -71,6 +72,9 @@ leads start now point comes none same = record {
 
 pub is_calm : (e : Entry) → e ≡ sync_entry → IsCalm e.reply
 is_calm e is volume panicked = let same : Done ≡ Refused (Panicked volume) = sym (ap (λ (x : Entry). x.reply) is) ∙ panicked in absurd (cc)
+
+pub had_pages : (e : Entry) → e ≡ sync_entry → HadPages e.reply
+had_pages e is free need wanted = let same : Done ≡ Refused (NoSpace free need) = sym (ap (λ (x : Entry). x.reply) is) ∙ wanted in absurd (cc)
 
 pub may_sync : (pages : Pages) (frame : Frame) (sizes : List ℕ) (memory : DomainMemory) (history : List Entry) (job : Option Command) (e : Entry) → history ≡ [] → job ≡ None → e ≡ sync_entry → IsSettled memory
     → (all : FilesetMap) → StandsFor memory all → MayCommit pages frame sizes memory history job e all

@@ -2,7 +2,7 @@ use Rattle.std.proofs.Common.{refl}
 use Rattle.std.proofs.Math.Logic.{∥∥₁_map}
 use Rattle.fileset_model.specs.declared.command.Actor.TheVariants.{Client}
 use Rattle.fileset_model.specs.declared.entry.Entry.{Entry}
-use Rattle.command_core.proofs.Coming.{answered_calm, may_commit}
+use Rattle.command_core.proofs.Coming.{answer_inside, inside_calm, inside_spared, may_commit}
 use Rattle.command_core.proofs.answering.add_answer.Goals as goal
 
 pub commit-requires-clause-step : goal.commit-requires-clause-step
@@ -16,7 +16,14 @@ commit-requires-clause-step g c = λ all stands.
     a.means
 
 pub commit-requires-clause-calm : goal.commit-requires-clause-calm
-commit-requires-clause-calm g c = answered_calm c.args.domain.memory c.args.command c.args.reply (∥∥₁_map c.args.domain.stands (λ goes. (goes.all, goes.stands))) c.requires.answered
+commit-requires-clause-calm g c =
+    let it = c.args.domain in
+    inside_calm it.memory c.args.reply (∥∥₁_map it.stands (λ goes. (goes.all, goes.stands))) (answer_inside it.memory c.args.command c.args.reply c.requires.answered)
+
+pub commit-requires-clause-pages : goal.commit-requires-clause-pages
+commit-requires-clause-pages g c =
+    let it = c.args.domain in
+    inside_spared it.memory c.args.reply (∥∥₁_map it.stands (λ goes. (goes.all, goes.stands))) (answer_inside it.memory c.args.command c.args.reply c.requires.answered)
 
 pub returns-clause-adds : goal.returns-clause-adds
 returns-clause-adds g c = record {

@@ -1,4 +1,4 @@
-use Rattle.std.proofs.Common.{◌+◌, ◌-◌, ◌∙◌, ◌≤◌, ap, length, subst, sym, arith}
+use Rattle.std.proofs.Common.{◌-◌, ap, arith}
 use Rattle.free_space.specs.Spaces.{volume_of}
 use Rattle.free_space.proofs.Kept.{volume_of-kept}
 use Rattle.domain_memory.specs.Held.{held_if_open}

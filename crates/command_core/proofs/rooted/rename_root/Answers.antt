@@ -1,4 +1,4 @@
-use Rattle.std.proofs.Common.{◌≡◌, ◌∙◌, ◌+◌, ◌-◌, Some, IfErr, IfOk, Ok, inl, length, slice_get, refl, ap, subst, sym, arith, take}
+use Rattle.std.proofs.Common.{◌≡◌, ◌∙◌, ◌-◌, Some, IfErr, IfOk, Ok, inl, length, slice_get, refl, ap, subst, sym, arith, take}
 use Rattle.std.proofs.Math.Logic.{∥∥₁_map}
 use Rattle.fileset_model.specs.Apply.{rename_checks}
 use Rattle.fileset_model.specs.Orders.{Path}

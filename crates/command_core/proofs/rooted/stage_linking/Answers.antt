@@ -1,5 +1,4 @@
 use Rattle.fileset_model.specs.declared.command.Command.TheVariants.{Link}
-use Rattle.command_core.specs.Ending.{LacksPage}
 use Rattle.command_core.proofs.RootMoved.{is_new}
 use Rattle.command_core.proofs.AtRoot.{linked_onto, linked_there}
 use Rattle.command_core.proofs.rooted.stage_linking.Goals as goal

@@ -1,4 +1,4 @@
-use Rattle.std.proofs.Common.{◌∷◌, [], Some, subst, sym}
+use Rattle.std.proofs.Common.{◌∷◌, [], subst, sym}
 use Rattle.fileset_model.specs.Apply.{read_only}
 use Rattle.fileset_model.specs.declared.command.Command.TheVariants.{Showquota}
 use Rattle.command_core.specs.Ending.{StopsAs}

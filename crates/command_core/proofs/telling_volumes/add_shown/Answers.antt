@@ -3,7 +3,7 @@ use Rattle.std.proofs.Math.Logic.{∥∥₁_map}
 use Rattle.fileset_model.specs.declared.command.Actor.TheVariants.{Client}
 use Rattle.fileset_model.specs.declared.entry.Entry.{Entry}
 use Rattle.command_core.proofs.FrameKept.{frame_is}
-use Rattle.command_core.proofs.VolumesTold.{may_tell, showing_client, shown_calm}
+use Rattle.command_core.proofs.VolumesTold.{may_tell, showing_client, shown_calm, shown_spared}
 use Rattle.command_core.proofs.telling_volumes.add_shown.Goals as goal
 
 pub commit_unchanged-requires-clause-step : goal.commit_unchanged-requires-clause-step
@@ -18,7 +18,11 @@ commit_unchanged-requires-clause-step g c = λ all stands.
 
 pub commit_unchanged-requires-clause-calm : goal.commit_unchanged-requires-clause-calm
 commit_unchanged-requires-clause-calm g c =
-    shown_calm c.args.domain.memory c.args.command c.args.reply c.requires.showing (∥∥₁_map c.args.domain.stands (λ goes. (goes.all, goes.stands))) c.requires.shown
+    shown_calm c.args.domain.memory c.args.command c.args.reply (∥∥₁_map c.args.domain.stands (λ goes. (goes.all, goes.stands))) c.requires.shown
+
+pub commit_unchanged-requires-clause-cause : goal.commit_unchanged-requires-clause-cause
+commit_unchanged-requires-clause-cause g c = λ free need is.
+    absurd (shown_spared c.args.domain.memory c.args.command c.args.reply (∥∥₁_map c.args.domain.stands (λ goes. (goes.all, goes.stands))) c.requires.shown free need is)
 
 pub returns-clause-adds : goal.returns-clause-adds
 returns-clause-adds g c = record { stamp = c.calls-stamp.result; adds = c.commit_unchanged.ensures.history }

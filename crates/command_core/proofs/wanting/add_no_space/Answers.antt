@@ -2,12 +2,14 @@ use Rattle.std.proofs.Common.{◌≡◌, ◌∙◌, ◌++◌, ◌∷◌, ◌<◌
 use Rattle.fileset_model.specs.declared.command.Actor.TheVariants.{Client}
 use Rattle.fileset_model.specs.declared.entry.Entry.{Entry}
 use Rattle.fileset_model.specs.declared.reply.Refusal.TheVariants.{NoSpace}
+use Rattle.fileset_model.specs.declared.reply.Reply.{Reply}
 use Rattle.fileset_model.specs.declared.reply.Reply.TheVariants.{Refused}
 use Rattle.history_model.specs.Room.{need}
 use Rattle.domain_memory.specs.Memory.{StandsFor}
 use Rattle.domain_memory.specs.declared.memory.DomainMemory.{DomainMemory}
 use Rattle.domain_memory.specs.Going.{free_in}
-use Rattle.command_core.specs.Wanting.{IsShort, MayLackPages}
+use Rattle.domain_state.specs.Short.{IsShort}
+use Rattle.command_core.specs.Wanting.{MayLackPages}
 use Rattle.command_core.proofs.Tightness.{lacks}
 use Rattle.command_core.proofs.Wanted.{goes_unchanged, no_movers, taking}
 use Rattle.command_core.proofs.wanting.add_no_space.Goals as goal
@@ -28,6 +30,26 @@ commit_unchanged-requires-clause-step g c = λ all stands.
 pub commit_unchanged-requires-clause-calm : goal.commit_unchanged-requires-clause-calm
 commit_unchanged-requires-clause-calm g c = λ volume is. absurd (cc)
 
+free_told : Reply → ℕ
+free_told (Refused (NoSpace free need)) = free
+free_told reply = 0
+
+need_told : Reply → ℕ
+need_told (Refused (NoSpace free need)) = need
+need_told reply = 0
+
+pub commit_unchanged-requires-clause-cause : goal.commit_unchanged-requires-clause-cause
+unfolding free_told need_told
+commit_unchanged-requires-clause-cause g c = λ free more is.
+    let want = c.args.want in
+    let same : (want.free ≡ free) × (want.need ≡ more) = (ap free_told is, ap need_told is) in
+    subst (λ n. IsShort c.args.domain.memory n more) same.0 (subst (IsShort c.args.domain.memory want.free) same.1 (record {
+      is_free = c.requires.free;
+      few = c.requires.few;
+      none_waits = c.requires.waits;
+      none_goes = c.requires.goes;
+    }))
+
 pub returns-clause-adds : goal.returns-clause-adds
 returns-clause-adds g c =
     let it = c.args.domain in
@@ -39,7 +61,8 @@ returns-clause-adds g c =
     record {
       stamp = c.calls-stamp.result;
       adds = c.commit_unchanged.ensures.history ∙ (λ i. it.history.entries.items ++ entry (free i) (c.requires.need i) ∷ []);
-      short = subst (λ (m : DomainMemory). IsShort m c.args.command) (sym same) (record {
+      short = subst (λ (m : DomainMemory). IsShort m (free_in m) (need c.args.command)) (sym same) (record {
+        is_free = refl;
         few = subst (λ n. free_in it.memory < n) c.requires.need (subst (λ n. n < want.need) c.requires.free c.requires.few);
         none_waits = c.requires.waits;
         none_goes = c.requires.goes;

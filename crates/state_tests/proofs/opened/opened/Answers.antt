@@ -1,6 +1,6 @@
 use Rattle.std.proofs.Common.{◌∙◌}
 use Rattle.domain_state.proofs.StaysWithin.{settled_few}
-use Rattle.state_tests.proofs.Synced.{is_calm, may_sync}
+use Rattle.state_tests.proofs.Synced.{had_pages, is_calm, may_sync}
 use Rattle.state_tests.proofs.opened.opened.Goals as goal
 
 pub commit-requires-clause-step : goal.commit-requires-clause-step
@@ -12,6 +12,9 @@ commit-requires-clause-step g c =
 
 pub commit-requires-clause-calm : goal.commit-requires-clause-calm
 commit-requires-clause-calm g c = is_calm _ c.synced.ensures
+
+pub commit-requires-clause-pages : goal.commit-requires-clause-pages
+commit-requires-clause-pages g c = had_pages _ c.synced.ensures
 
 pub commit-requires-clause-few : goal.commit-requires-clause-few
 commit-requires-clause-few g c = settled_few c.discard.new.self.memory c.discard.ensures.settled

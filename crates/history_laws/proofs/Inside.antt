@@ -1,4 +1,4 @@
--- No command over filesets without volumes is answered by a panic.
+-- What a command means for filesets without volumes has no cause that lies outside.
 use Rattle.std.proofs.Common.{◌≡◌, ◌<◌, ◌*◌, ℕ, inl, inr, nat_lt, not, Bool, true, false, cond, Option, Some, None, MatchOption, List, [], ◌∷◌, length, map, get_or, sym, subst, ◌∙◌, arith}
 use Rattle.std.proofs.lemmas.List.{length-map, get_or-map}
 use Rattle.std.proofs.lemmas.List.Elements.{All-nil, All-push}
@@ -27,25 +27,17 @@ use Rattle.fileset_model.specs.declared.reply.Refusal.TheVariants.{CloneOfClone,
 use Rattle.fileset_model.specs.declared.reply.Reply.{Reply}
 use Rattle.fileset_model.specs.declared.reply.Reply.TheVariants as reply
 use Rattle.fileset_model.specs.declared.reply.Reply.TheVariants.{Refused}
-use Rattle.history_model.specs.PlainRun.{PlainRun}
+use Rattle.history_model.specs.PlainRun.{IsInside, PlainRun}
 use Rattle.history_model.specs.PlainRun.PlainRun.{none, entry}
 
--- no panic
-IsCalm : Refusal → Type 0
-IsCalm (Panicked volume) = ⊥
-IsCalm _ = Unit {0}
-
+-- no check refuses for such a cause
 Check : Option Refusal → Type 0
 Check None = Unit {0}
-Check (Some refusal) = IsCalm refusal
+Check (Some refusal) = IsInside (Refused refusal)
 
 Checks : List (Option Refusal) → Type 0
 Checks [] = Unit {0}
 Checks (check ∷ checks) = Check check × Checks checks
-
-IsCalmReply : Reply → Type 0
-IsCalmReply (Refused refusal) = IsCalm refusal
-IsCalmReply _ = Unit {0}
 
 first : (checks : List (Option Refusal)) → Checks checks → Check (first_refusal checks)
 unfolding Check Checks
@@ -53,7 +45,7 @@ first [] calm = tt
 first (None ∷ checks) calm = first checks calm.1
 first (Some refusal ∷ checks) calm = calm.0
 
-refused_if : (test : Bool) (refusal : Refusal) → IsCalm refusal → Check (refuse_if test refusal)
+refused_if : (test : Bool) (refusal : Refusal) → IsInside (Refused refusal) → Check (refuse_if test refusal)
 unfolding Check
 refused_if true refusal calm = calm
 refused_if false refusal calm = tt
@@ -68,7 +60,7 @@ mapped f each [] = tt
 mapped f each (x ∷ xs) = (each x, mapped f each xs)
 
 in_directory : (slot : FilesetSlot) (path : Path) → Check (directory_refusal slot path)
-unfolding IsCalm Check Checks
+unfolding Check Checks
 in_directory slot path =
     map_or Check (λ node. first_refusal (refuse_if (not (is_directory node)) NotDirectory ∷ refuse_if (is_out_of_sync_at slot path) OutOfSync ∷ [])) (node_at slot.tree path) (Some NoPath)
     (λ node. first (refuse_if (not (is_directory node)) NotDirectory ∷ refuse_if (is_out_of_sync_at slot path) OutOfSync ∷ []) (refused_if _ _ tt, (refused_if _ _ tt, tt))) tt
@@ -77,16 +69,16 @@ walk : (slot : FilesetSlot) (path : Path) → Check (walk_refusal slot path)
 walk slot path = first (map (directory_refusal slot) (directories_to path)) (mapped (directory_refusal slot) (in_directory slot) (directories_to path))
 
 target : (slot : FilesetSlot) (path : Path) → Check (target_refusal slot path)
-unfolding IsCalm Check Checks
+unfolding Check Checks
 target slot path =
     first (walk_refusal slot path ∷ refuse_if (not (finite.contains_key slot.tree.paths path)) NoPath ∷ []) (walk slot path, (refused_if _ _ tt, tt))
 
 owner : (tree : Fileset) (who : Owner) (files blocks : ℕ) → Check (first_refusal (files_refusal tree who files ∷ blocks_refusal tree who blocks ∷ []))
-unfolding IsCalm Check Checks
+unfolding Check Checks
 owner tree who files blocks = first (files_refusal tree who files ∷ blocks_refusal tree who blocks ∷ []) (refused_if _ _ tt, (refused_if _ _ tt, tt))
 
 quota : (tree : Fileset) (uid gid files blocks : ℕ) → Check (quota_refusal tree uid gid files blocks)
-unfolding IsCalm Check Checks
+unfolding Check Checks
 quota tree uid gid files blocks = first (of (User uid) ∷ of (Group gid) ∷ of WholeFileset ∷ [])
     (owner tree (User uid) files blocks, (owner tree (Group gid) files blocks, (owner tree WholeFileset files blocks, tt)))
   where
@@ -99,11 +91,11 @@ written tree offset bytes (File uid gid size logged pages) = quota tree uid gid 
 written tree offset bytes (Directory uid gid) = tt
 
 in_one : (all : FilesetMap) (name : Name) (checks : FilesetSlot → List (Option Refusal)) → ((slot : FilesetSlot) → Checks (checks slot)) → Check (in_fileset all name checks)
-unfolding IsCalm Check
+unfolding Check
 in_one all name checks each = map_or Check (λ slot. first_refusal (checks slot)) (finite.get all name) (Some NoFileset) (λ slot. first (checks slot) (each slot)) tt
 
 replaced : (from to : Path) (slot : FilesetSlot) → Check (first_refusal (replace_checks from to slot))
-unfolding IsCalm Check Checks
+unfolding Check Checks
 replaced from to slot = at (option_map_or is_directory (node_at slot.tree from) false)
   where
     at : (b : Bool) → Check (first_refusal (cond b (file_here slot to ∷ not_empty slot to ∷ []) (directory_here slot to ∷ [])))
@@ -115,16 +107,16 @@ chosen true x y p q = p
 chosen false x y p q = q
 
 created : (path : Path) (uid gid : ℕ) (slot : FilesetSlot) → Checks (create_checks path uid gid slot)
-unfolding IsCalm Check Checks
+unfolding Check Checks
 created path uid gid slot = (refused_if _ _ tt, (walk slot path, (refused_if _ _ tt, (quota slot.tree uid gid 1 0, tt))))
 
 moves : (from to : Path) (slot : FilesetSlot) → Checks (move_checks from to slot)
-unfolding IsCalm Check Checks
+unfolding Check Checks
 moves from to slot =
     (refused_if _ _ tt, (chosen (finite.contains_key slot.tree.paths to) (first_refusal (replace_checks from to slot)) None (replaced from to slot) tt, tt))
 
 renamed : (from to : Path) (slot : FilesetSlot) → Checks (rename_checks from to slot)
-unfolding IsCalm Check Checks
+unfolding Check Checks
 renamed from to slot = (
   refused_if _ _ tt,
   (
@@ -137,7 +129,7 @@ renamed from to slot = (
 )
 
 writes : (path : Path) (offset : ℕ) (bytes : List ℕ) (slot : FilesetSlot) → Checks (write_checks path offset bytes slot)
-unfolding IsCalm Check Checks
+unfolding Check Checks
 writes path offset bytes slot = (
   refused_if _ _ tt,
   (
@@ -153,7 +145,7 @@ writes path offset bytes slot = (
 )
 
 refusals : (all : FilesetMap) (c : Command) → Check (refusal_of all c)
-unfolding IsCalm Check Checks
+unfolding Check Checks
 refusals all (command.Mkfset fileset) = first (name_taken all fileset ∷ filesets_full all ∷ []) (refused_if _ _ tt, (refused_if _ _ tt, tt))
 refusals all (command.Rmfset fileset) = in_one all fileset (λ slot. refuse_if (has_clone all fileset) HasClone ∷ []) (λ slot. (refused_if _ _ tt, tt))
 refusals all (command.Clonefset fileset new_name) =
@@ -195,57 +187,48 @@ refusals all c = tt
 
 -- ---- answers
 
-of_one : (all : FilesetMap) (place : Place) (answer : Fileset → Node → Reply) → ((tree : Fileset) (node : Node) → IsCalmReply (answer tree node)) → IsCalmReply (of_node all place answer)
-unfolding IsCalmReply
+of_one : (all : FilesetMap) (place : Place) (answer : Fileset → Node → Reply) → ((tree : Fileset) (node : Node) → IsInside (answer tree node)) → IsInside (of_node all place answer)
 of_one all place answer each =
-    map_or IsCalmReply (λ slot. option_map_or (answer slot.tree) (node_at slot.tree place.path) reply.Done) (finite.get all place.fileset) reply.Done
-    (λ slot. map_or IsCalmReply (answer slot.tree) (node_at slot.tree place.path) reply.Done (each slot.tree) tt) tt
+    map_or IsInside (λ slot. option_map_or (answer slot.tree) (node_at slot.tree place.path) reply.Done) (finite.get all place.fileset) reply.Done
+    (λ slot. map_or IsInside (answer slot.tree) (node_at slot.tree place.path) reply.Done (each slot.tree) tt) tt
 
-reads : (offset count : ℕ) (node : Node) → IsCalmReply (read_of offset count node)
-unfolding IsCalmReply
+reads : (offset count : ℕ) (node : Node) → IsInside (read_of offset count node)
 reads offset count (File uid gid size logged pages) = tt
 reads offset count (Directory uid gid) = tt
 
-stats : (tree : Fileset) (path : Path) (node : Node) → IsCalmReply (stat_of tree path node)
-unfolding IsCalmReply
+stats : (tree : Fileset) (path : Path) (node : Node) → IsInside (stat_of tree path node)
 stats tree path (File uid gid size logged pages) = tt
 stats tree path (Directory uid gid) = tt
 
-answers : (all : FilesetMap) (c : Command) → IsCalmReply (answer_of all c)
-unfolding IsCalmReply
+answers : (all : FilesetMap) (c : Command) → IsInside (answer_of all c)
 answers all (command.Read place offset count) = of_one all place (λ tree. read_of offset count) (λ tree. reads offset count)
 answers all (command.Stat place) = of_one all place (λ tree. stat_of tree place.path) (λ tree. stats tree place.path)
 answers all (command.List place) =
-    map_or IsCalmReply (λ slot. reply.Names (rows_of slot.tree place.path)) (finite.get all place.fileset) reply.Done (λ slot. tt) tt
+    map_or IsInside (λ slot. reply.Names (rows_of slot.tree place.path)) (finite.get all place.fileset) reply.Done (λ slot. tt) tt
 answers all (command.Links place) =
-    map_or IsCalmReply (λ slot. links_of place.path slot.tree) (finite.get all place.fileset) reply.Done
-    (λ slot. map_or IsCalmReply (λ number. reply.Count (paths_to slot.tree number)) (finite.get slot.tree.paths place.path) reply.Done (λ number. tt) tt) tt
-answers all (command.Showquota fileset who) = map_or IsCalmReply (λ slot. quota_of slot.tree who) (finite.get all fileset) reply.Done (λ slot. tt) tt
+    map_or IsInside (λ slot. links_of place.path slot.tree) (finite.get all place.fileset) reply.Done
+    (λ slot. map_or IsInside (λ number. reply.Count (paths_to slot.tree number)) (finite.get slot.tree.paths place.path) reply.Done (λ number. tt) tt) tt
+answers all (command.Showquota fileset who) = map_or IsInside (λ slot. quota_of slot.tree who) (finite.get all fileset) reply.Done (λ slot. tt) tt
 answers all c = tt
 
-answered : (all : FilesetMap) (c : Command) (r : Reply) (new : FilesetMap) → AnswersIfMemory all c r new → IsCalmReply r
-unfolding IsCalm IsCalmReply Check
-answered all c r new (inl as_meant) = at (refusal_of all c) (refusals all c) as_meant
+-- what a command means for filesets is not refused for such a cause
+pub stays_inside : (all : FilesetMap) (c : Command) (r : Reply) (new : FilesetMap) → AnswersIfMemory all c r new → IsInside r
+unfolding Check
+stays_inside all c r new (inl as_meant) = at (refusal_of all c) (refusals all c) as_meant
   where
-    at : (o : Option Refusal) → Check o → MatchOption o ((r ≡ answer_of all c) × Changes all c new) (λ refusal. (r ≡ Refused refusal) × (new ≡ all)) → IsCalmReply r
-    at None calm is = subst IsCalmReply (sym is.0) (answers all c)
-    at (Some refusal) calm is = subst IsCalmReply (sym is.0) calm
-answered all c r new (inr for_memory) = subst IsCalmReply (sym for_memory.0) tt
+    at : (o : Option Refusal) → Check o → MatchOption o ((r ≡ answer_of all c) × Changes all c new) (λ refusal. (r ≡ Refused refusal) × (new ≡ all)) → IsInside r
+    at None calm is = subst IsInside (sym is.0) (answers all c)
+    at (Some refusal) calm is = subst IsInside (sym is.0) calm
+stays_inside all c r new (inr for_memory) = subst IsInside (sym for_memory.0) tt
 
-calm_history : (start : FilesetMap) (history : List Entry) (all : FilesetMap) → PlainRun start history all → All (λ e. IsCalmReply e.reply) history
-calm_history start _ _ none = All-nil (λ e. IsCalmReply e.reply)
-calm_history start _ _ (entry {history} {all} before e new is) = All-push (λ e. IsCalmReply e.reply) history e (calm_history start history all before) (answered all e.command e.reply new is)
-
--- what a command means for filesets is no panic
-pub never_panics : (all : FilesetMap) (c : Command) (r : Reply) (new : FilesetMap) (volume : ℕ) → AnswersIfMemory all c r new → r ≡ Refused (Panicked volume) → ⊥
-unfolding IsCalm IsCalmReply
-never_panics all c r new volume means is = subst IsCalmReply is (answered all c r new means)
+inside_history : (start : FilesetMap) (history : List Entry) (all : FilesetMap) → PlainRun start history all → All (λ e. IsInside e.reply) history
+inside_history start _ _ none = All-nil (λ e. IsInside e.reply)
+inside_history start _ _ (entry {history} {all} before e new is) = All-push (λ e. IsInside e.reply) history e (inside_history start history all before) (stays_inside all e.command e.reply new is)
 
 -- no reply of such a history is a panic
 pub no_panic : (start : FilesetMap) (history : List Entry) (all : FilesetMap) (e : Entry) (volume : ℕ) → PlainRun start history all
     → Contains (map (λ before. before.reply) history) (Refused (Panicked volume)) → ⊥
-unfolding IsCalm IsCalmReply
 no_panic start history all e volume plain found =
     let within : found.0 < length history = omega (arith, found.1, length-map history (λ (before : Entry). before.reply)) in
     let is : (get_or history found.0 e).reply ≡ Refused (Panicked volume) = sym (get_or-map (λ (before : Entry). before.reply) history found.0 e (Refused (Panicked volume)) within) ∙ found.2 in
-    subst IsCalmReply is (calm_history start history all plain found.0 e within)
+    subst IsInside is (inside_history start history all plain found.0 e within)
