@@ -1,46 +1,19 @@
 -- Pages that stand in a row, read or written by one call.
-use Rattle.std.proofs.Common.{◌≡◌, ◌∙◌, ◌⊎◌, ⊎_elim, inl, inr, true, false, cond, Some, None, ◌∷◌, ℕ, zero, suc, ◌+◌, ◌-◌, ◌*◌, ◌<◌, ◌≤◌, List, IsSome, length, min, take, drop, get_or, slice_range, refl, sym, ap, subst, arith}
+use Rattle.std.proofs.Common.{◌≡◌, ◌∙◌, ◌⊎◌, ⊎_elim, inl, inr, ℕ, ◌+◌, ◌-◌, ◌*◌, ◌<◌, ◌≤◌, List, IsSome, length, min, drop, get_or, slice_range, sym, ap, subst, arith}
 use Rattle.std.proofs.Math.Nat.{min-eq_left, min_comm}
-use Rattle.std.proofs.lemmas.Bool.{cases_Bool, cases_lt}
+use Rattle.std.proofs.lemmas.Bool.{cases_lt}
 use Rattle.std.proofs.lemmas.List.{get_or-drop, get_or-take, length-drop, length-take-le}
 use Rattle.domain_base.specs.declared.place.Home.{Home}
-use Rattle.page_store.specs.Pages.{Pages, same_home, with_page}
-use Rattle.bmt_mcells.proofs.Changed.{homes_same}
-use Rattle.metadata_loading.proofs.Brought.{none_there}
-use Rattle.volume_disk.specs.Image.{HasBytes, Image, IsIn, SameOutside, bytes_at, bytes_from, page_at}
-use Rattle.volume_disk.proofs.Bytes.{bytes_from-list, bytes_from-same, get_or-bytes_from, length-bytes_from}
-use Rattle.domain_layout.specs.Reached.{Frame, IsWithin}
-use Rattle.file_runs.specs.Runs.{IsPageOf, home_in}
+use Rattle.page_store.specs.Pages.{Pages}
+use Rattle.volume_disk.specs.Image.{HasBytes, Image, IsIn, SameOutside, page_at}
+use Rattle.volume_disk.proofs.Bytes.{bytes_from-same}
+use Rattle.domain_layout.specs.Reached.{Frame}
+use Rattle.file_runs.specs.Runs.{home_in}
 use Rattle.file_runs.specs.declared.run.FileRun.{FileRun}
-use Rattle.domain_bringing.specs.Files.{AreThereFrom, HasPagesBelow, HasPagesBetween, IsPartWithin, IsThereWithin}
+use Rattle.metadata_loading.specs.Rows.{AreThereFrom}
+use Rattle.metadata_loading.proofs.PagesRead.{page_in_is}
+use Rattle.domain_bringing.specs.Files.{HasPagesBelow, HasPagesBetween, IsPartWithin, IsThereWithin}
 use Rattle.domain_bringing.proofs.Runs.{stays}
-
--- volumes that agree, one from a place on and the other from another
-shifted : (one other : ℕ → ℕ) (at to n : ℕ) → ((k : ℕ) → k < n → one (at + k) ≡ other (to + k)) → bytes_from one at n ≡ bytes_from other to n
-unfolding bytes_from
-shifted one other at to zero same = refl
-shifted one other at to (suc n) same =
-    let here : one at ≡ other to = ap one (omega arith) ∙ same 0 (omega arith) ∙ ap other (omega arith) in
-    let rest = shifted one other (at + 1) (to + 1) n (λ k lt. ap one (omega arith) ∙ same (k + 1) (omega arith) ∙ ap other (omega arith)) in
-    λ i. here i ∷ rest i
-
--- a page of bytes as one of a volume
-pub page_in_is : (image : Image) (vol page from to : ℕ) (found : List ℕ) → to ≡ from + 8192 → to ≤ length found → ((j : ℕ) → j < 8192 → get_or found (from + j) 0 ≡ image vol (8192 * page + j)) → slice_range found from to ≡ page_at image vol page
-page_in_is image vol page from to found is fits same =
-    let n : to - from ≡ 8192 = omega (arith, is) in
-    bytes_from-list found from (to - from) (omega (arith, fits, is))
-    ∙ shifted (λ j. get_or found j 0) (image vol) from (8192 * page) (to - from) (λ j lt. same j (omega (arith, lt, n)))
-    ∙ ap (bytes_from (image vol) (8192 * page)) n
-
--- a page of what was read of several
-pub read_in : (image : Image) (vol first count k from to : ℕ) (found : List ℕ) → found ≡ bytes_at image vol (512 * (16 * first)) (8192 * count) → k < count → from ≡ 8192 * k → to ≡ from + 8192 → slice_range found from to ≡ page_at image vol (first + k)
-read_in image vol first count k from to found read less start is =
-    let size : length found ≡ 8192 * count = ap (length {A = ℕ}) read ∙ length-bytes_from (image vol) (512 * (16 * first)) (8192 * count) in
-    page_in_is image vol (first + k) from to found is (omega (arith, size, less, start, is))
-    (λ j lt.
-    ap (λ (l : List ℕ). get_or l (from + j) 0) read
-    ∙ get_or-bytes_from (image vol) (512 * (16 * first)) (8192 * count) (from + j) 0 (omega (arith, lt, less, start))
-    ∙ ap (image vol) (omega (arith, start)))
 
 -- a page of bytes that were written, of several
 pub written_in : (image : Image) (vol first at end k from to lo hi : ℕ) (found bytes : List ℕ) → bytes ≡ slice_range found lo hi → lo ≡ at * 8192 → hi ≡ end * 8192 → hi ≤ length found → HasBytes vol (512 * (16 * (first + at))) bytes image → at ≤ k → k < end → from ≡ 8192 * k → to ≡ from + 8192
@@ -69,13 +42,6 @@ page_outside old new vol at n page same apart =
     let high = here.2 in
     ⊎_elim (λ before. absurd (omega (arith, before, low, lt))) (λ behind. absurd (omega (arith, behind, high, le))) apart))
 
--- one page more in the row
-pub one_there : (vol first number : ℕ) (old new : Pages) → ((home : Home) → IsSome (old home) → new home ≡ old home) → AreThereFrom vol first number old → IsSome (new (record { vol = vol; page = first + number })) → AreThereFrom vol first (number + 1) new
-one_there vol first number old new kept there here k less =
-    ⊎_elim (λ low. let some = there k low in subst IsSome (sym (kept (record { vol = vol; page = first + k }) some)) some)
-    (λ high. let same : number ≡ k = omega (arith, less, high) in subst (λ j. IsSome (new (record { vol = vol; page = first + j }))) same here)
-    (cases_lt k number)
-
 -- a part of a run, of which all pages are there
 pub part_there : (pages : Pages) (frame : Frame) (run : FileRun) (from count most vol first : ℕ) → IsPartWithin frame run from count vol first → (run.row.count ≤ from + count ⊎ most ≤ count) → AreThereFrom vol first count pages → HasPagesBetween from (from + most) pages frame run
 part_there pages frame run from count most vol first is enough there page of low high within =
@@ -102,14 +68,6 @@ one_between old new frame run from number kept between here page is low high =
 
 pub all_between : (pages : Pages) (frame : Frame) (run : FileRun) (from end number : ℕ) → end ≤ number → HasPagesBetween from number pages frame run → HasPagesBetween from end pages frame run
 all_between pages frame run from end number most between page is low high = between page is low (omega (arith, high, most))
-
--- a page that was put where none was leaves all others
-pub kept_beside : (old new : Pages) (home other : Home) (page : List ℕ) → new ≡ with_page home page old → old home ≡ None → IsSome (old other) → new other ≡ old other
-kept_beside old new home other page put none some = by_same (cases_Bool (same_home other home))
-  where
-    by_same : (same_home other home ≡ true) ⊎ (same_home other home ≡ false) → new other ≡ old other
-    by_same (inl same) = absurd (none_there (old other) (ap old (homes_same other home same) ∙ none) some)
-    by_same (inr apart) = ap (λ (p : Pages). p other) put ∙ ap (λ b. cond b (Some page) (old other)) apart
 
 -- as many as are read by one call, or all that are left
 pub enough : (most have from count : ℕ) → count ≡ min most (have - from) → (have ≤ from + count) ⊎ (most ≤ count)

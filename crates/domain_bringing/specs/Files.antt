@@ -33,11 +33,6 @@ HasPagesOfAll pages frame runs =
 
 -- ** Pages that stand in a row
 
--- so many pages of a volume from one on are there
-abbrev pub AreThereFrom : ℕ → ℕ → ℕ → Pages → Type 0
-AreThereFrom vol first count pages =
-    (number : ℕ) → number < count → IsSome (pages (record { vol = vol; page = first + number }))
-
 -- so many pages of a run behind one stand there, and all are a member's
 pub record IsPartWithin (frame : Frame) (run : FileRun) (number count vol first : ℕ) : Type 0 where
   pub on : run.row.vol ≡ vol

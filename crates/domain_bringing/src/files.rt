@@ -10,14 +10,13 @@ ghost use Rattle.page_ways.specs.Frame.{frame_in};
 ghost use Rattle.domain_bringing.specs.Brought.{HasDomainPages, IsLaidOut};
 ghost use Rattle.domain_bringing.specs.Files.{HasPagesBetween, HasPagesOf, HasPagesOfAll, IsPartWithin, IsThereWithin};
 
-use crate::parts::read_part;
 use cell_faults::read_tables as read_cells;
 use chain_faults::read_links;
 use domain_base::limits::PAGE_BYTES;
 use domain_base::{Home, OutOfMemory, VolIx};
 use file_runs::{FileRun, read_runs};
 use filesets_reading::read_tables;
-use metadata_loading::{LoadFault, fetch_within};
+use metadata_loading::{LoadFault, fetch_within, read_part};
 use page_store::MetaPages;
 use page_ways::DomainFrame;
 use std::alloc::Global;

@@ -7,7 +7,6 @@ mod fault;
 mod files;
 mod images;
 mod laws;
-mod parts;
 mod range;
 
 pub use bringing::{Brought, bring_domain};

@@ -1,6 +1,6 @@
 //! Pages of tables that are brought.
 use crate::fixture::{frame, has_members, home, led_page, rack_with, there};
-use domain_base::FilesetNo;
+use domain_base::{FilesetNo, OutOfMemory, Page};
 use fileset_table::{FilesetTable, SlotItem};
 use memory_store::MemoryPages;
 use metadata_loading::{LoadFault, load_bitmaps, load_cells, load_table, load_tags};
@@ -92,6 +92,38 @@ fn another_page_leads_nowhere(rt: HostRuntime) -> Result<(), Fail> {
         there(&pages),
         [false, true, false, false, true, false, false]
     );
+    Ok(())
+}
+
+/// Bits 3, 4, 140, 141 and 150 of a bitmap.
+fn marks(alloc: Global) -> Result<Page, OutOfMemory> {
+    let mut page = Page::zeros(alloc)?;
+    page.set(0, &[0x18]);
+    page.set(17, &[0x30, 0x40]);
+    Ok(page)
+}
+
+/// Cells lead from page 3 over page 140 to page 150. Page 141 is in use, too: it comes with the
+/// page in front of it, by one read; page 4, the log's, does not.
+#[test]
+fn pages_in_use_come_with_one_in_front(rt: HostRuntime) -> Result<(), Fail> {
+    let alloc = rt.alloc();
+    let rows = [
+        (*b"BMTP", 3, 140),
+        (*b"BMTP", 140, 150),
+        (*b"TAGP", 141, 7),
+        (*b"BMTP", 150, 0),
+    ];
+    let mut rack = rack_with(alloc, &rows, &[])?;
+    let mut pages = MemoryPages::new(alloc);
+    pages.reserve(alloc, 1)?;
+    pages.put(home(2), marks(alloc)?);
+    cells(alloc, &mut rack, &mut pages)?;
+    let want = [true, true, false, false, true, true, true];
+    assert_eq!(rt; (there(&pages), rack.calls()), (want, 7));
+    assert!(rt; pages.get(home(4)).is_none(), "no page of the log");
+    let read = pages.get(home(141)).map(|page| page.bytes()[12]);
+    assert_eq!(rt; read, Some(7));
     Ok(())
 }
 

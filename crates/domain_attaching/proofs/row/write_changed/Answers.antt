@@ -4,7 +4,8 @@ use Rattle.volume_disk.specs.Disk.{Tells}
 use Rattle.volume_disk.specs.Image.{IsIn}
 use Rattle.volume_disk.proofs.Laws.{touches-none, touches-then, touches-wider}
 use Rattle.staged_pages.specs.Store.{pages_of}
-use Rattle.domain_bringing.proofs.InARow.{read_in, written_in}
+use Rattle.domain_bringing.proofs.InARow.{written_in}
+use Rattle.domain_bringing.proofs.PagesRead.{read_in}
 use Rattle.domain_attaching.specs.Closing.{IsOnRow}
 use Rattle.domain_attaching.proofs.Rows.{all_of_row, home_more, part_of_row, passed_over, read_more}
 use Rattle.domain_attaching.proofs.row.write_changed.Goals as goal

@@ -1,13 +1,18 @@
-use Rattle.std.proofs.Common.{◌∙◌, ap}
-use Rattle.page_store.specs.Pages.{with_page}
-use Rattle.metadata_loading.proofs.Brought.{brings_nothing, brings_one}
+use Rattle.std.proofs.lemmas.Result.{on_ok_weaker}
+use Rattle.page_ways.specs.Frame.{frame_in}
+use Rattle.metadata_loading.proofs.PagesRead.{first_there, row_blocks, row_low}
 use Rattle.metadata_loading.proofs.reading.bring.Goals as goal
 
-pub returns-clause-brings : goal.returns-clause-brings
-returns-clause-brings g c =
-    brings_one (g.R.Rack.disk c.args.rack.now) (g.R.Rack.disk c.read_page.new.rack) (g.M.MetaPages.pages c.args.pages.now) (g.M.MetaPages.pages c.put.new.self) c.args.home.now c.in_ok-page.page
-    c.read_page.ensures.reads (c.put.ensures.value ∙ ap (with_page c.args.home.now c.in_ok-page.page) c.reserve.ensures.same) c.requires.none c.in_ok-page.ensures.page
+pub read_part-requires-clause-fits : goal.read_part-requires-clause-fits
+read_part-requires-clause-fits g c =
+    row_low (g.R.Rack.disk c.args.rack.now).sizes (g.M.MetaPages.pages c.args.pages.now) (frame_in c.args.frame.now) c.args.home.now c.count_in_row.result c.requires.members c.requires.within c.count_in_row.ensures
 
-pub returns-in_err-page-clause-brings : goal.returns-in_err-page-clause-brings
-returns-in_err-page-clause-brings g c =
-    brings_nothing (g.R.Rack.disk c.args.rack.now) (g.R.Rack.disk c.read_page.new.rack) (g.M.MetaPages.pages c.args.pages.now) (g.M.MetaPages.pages c.reserve.new.self) c.read_page.ensures.reads c.reserve.ensures.same
+pub read_part-requires-clause-on : goal.read_part-requires-clause-on
+read_part-requires-clause-on g c =
+    row_blocks (g.R.Rack.disk c.args.rack.now) (g.M.MetaPages.pages c.args.pages.now) (frame_in c.args.frame.now) c.args.home.now c.count_in_row.result c.requires.members c.requires.within c.count_in_row.ensures
+
+pub returns-clause-there : goal.returns-clause-there
+returns-clause-there g c =
+    on_ok_weaker c.read_part.result
+    (λ there. first_there c.args.home.now c.count_in_row.result (g.M.MetaPages.pages c.read_part.new.pages) (c.count_in_row.ensures).some there)
+    c.read_part.ensures.there

@@ -2,8 +2,8 @@ use Rattle.std.proofs.Common.{◌≡◌, ◌*◌}
 use Rattle.volume_disk.specs.Disk.{Disk, Tells}
 use Rattle.volume_disk.specs.Image.{bytes_at}
 use Rattle.metadata_loading.specs.Loading.{Brings}
-use Rattle.domain_bringing.specs.Files.{AreThereFrom}
-use Rattle.domain_bringing.proofs.parts.put_part.Given as goal
+use Rattle.metadata_loading.specs.Rows.{AreThereFrom}
+use Rattle.metadata_loading.proofs.parts.put_part.Given as goal
 
 abbrev pub invariant-loop-number : goal.invariant-loop-number
 invariant-loop-number g l =

@@ -2,8 +2,8 @@ use Rattle.std.proofs.Common.{◌∙◌, Some, ap}
 use Rattle.page_store.specs.Pages.{with_page}
 use Rattle.volume_disk.proofs.Laws.{only_reads-none}
 use Rattle.metadata_loading.proofs.Brought.{brings_one}
-use Rattle.domain_bringing.proofs.InARow.{kept_beside}
-use Rattle.domain_bringing.proofs.parts.put_absent.Goals as goal
+use Rattle.metadata_loading.proofs.PagesRead.{kept_beside}
+use Rattle.metadata_loading.proofs.parts.put_absent.Goals as goal
 
 pub returns-clause-brings : goal.returns-clause-brings
 returns-clause-brings g c disk is =

@@ -1,18 +1,28 @@
 //! Pages that stand in a row, read by one call.
-ghost use Rattle.std.specs.Prelude.{◌≡◌, ◌+◌, ◌*◌, ◌^◌, ◌<◌, IsSome, None, OnOk, Some, length};
+ghost use Rattle.std.specs.Prelude.{◌≡◌, ◌+◌, ◌*◌, ◌^◌, ◌<◌, IfOk, IsSome, None, OnOk, Some, length};
 ghost use Rattle.domain_base.specs.declared.place.Home.{Home as HomeOf};
 ghost use Rattle.log_ring.specs.Groups.{pages_in};
 ghost use Rattle.metadata_loading.specs.Loading.{Brings, NamesCause};
 ghost use Rattle.volume_disk.specs.Disk.{AreBlocks, Disk, Tells};
 ghost use Rattle.volume_disk.specs.Image.{bytes_at};
-ghost use Rattle.domain_bringing.specs.Files.{AreThereFrom};
+ghost use Rattle.metadata_loading.specs.Rows.{AreThereFrom};
 
+use crate::fault::LoadFault;
 use domain_base::limits::{BLOCKS_PER_PAGE, PAGE_BYTES};
-use domain_base::{Home, OutOfMemory, VolIx};
-use metadata_loading::{LoadFault, page_of};
+use domain_base::{Home, OutOfMemory, Page, VolIx};
 use page_store::MetaPages;
 use std::alloc::Global;
 use volume_disk::{Rack, read_blocks};
+
+/// A page with these bytes.
+fn page_of(alloc: Global, bytes: &[u8]) -> Result<Page, OutOfMemory>
+    requires { length bytes.now ≡ PAGE_BYTES }
+    ensures { IfOk result (λ page. page ≡ bytes.now) }
+{
+    let mut page = Page::zeros(alloc)?;
+    page.set(0, bytes);
+    Ok(page)
+}
 
 /// Puts a page that was read to its home, at which none is.
 fn put_absent<M: MetaPages>(
@@ -38,7 +48,7 @@ fn put_absent<M: MetaPages>(
 }
 
 /// The same, if none is there; else that one stays.
-#[tactic(auto, using(metadata_loading::proofs::Brought::brings_none))]
+#[tactic(auto, using(crate::proofs::Brought::brings_none))]
 fn put_missing<M: MetaPages>(
     alloc: Global,
     home: &Home,
@@ -89,7 +99,7 @@ fn put_part<M: MetaPages>(
 }
 
 /// Brings so many pages that stand in a row from one of a volume on, by one call.
-pub(crate) fn read_part<R: Rack, M: MetaPages>(
+pub fn read_part<R: Rack, M: MetaPages>(
     alloc: Global,
     rack: &mut R,
     vol: VolIx,

@@ -1,7 +1,7 @@
 use Rattle.std.proofs.Common.{◌∙◌, ◌*◌, ◌+◌, Some, refl, ap, arith}
 use Rattle.metadata_loading.proofs.Brought.{brings_then}
-use Rattle.domain_bringing.proofs.InARow.{one_there, read_in}
-use Rattle.domain_bringing.proofs.parts.put_part.Goals as goal
+use Rattle.metadata_loading.proofs.PagesRead.{one_there, read_in}
+use Rattle.metadata_loading.proofs.parts.put_part.Goals as goal
 
 pub returns-in_err-put_missing-clause-brings : goal.returns-in_err-put_missing-clause-brings
 returns-in_err-put_missing-clause-brings g c disk is =
