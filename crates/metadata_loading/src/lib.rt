@@ -12,7 +12,6 @@ mod way;
 
 pub use fault::LoadFault;
 pub use laws::brought_pages_agree;
-pub use parts::read_part;
 pub use reading::{fetch, fetch_next, fetch_within};
 pub use tables::{load_bitmaps, load_cells, load_table, load_tags};
 pub use way::load_way;

@@ -99,7 +99,7 @@ fn put_part<M: MetaPages>(
 }
 
 /// Brings so many pages that stand in a row from one of a volume on, by one call.
-pub fn read_part<R: Rack, M: MetaPages>(
+pub(crate) fn read_part<R: Rack, M: MetaPages>(
     alloc: Global,
     rack: &mut R,
     vol: VolIx,

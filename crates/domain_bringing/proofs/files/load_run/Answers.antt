@@ -1,46 +1,36 @@
-use Rattle.std.proofs.Common.{◌≡◌, ◌∙◌, ◌+◌, ◌*◌, ◌≤◌, refl, subst, sym, arith}
-use Rattle.std.proofs.lemmas.Grind.{div_ceil_times}
+use Rattle.std.proofs.Common.{◌∙◌, refl, arith}
 use Rattle.page_ways.specs.Frame.{frame_in}
 use Rattle.metadata_loading.proofs.Brought.{brings_none, brings_then, members_stay}
-use Rattle.domain_bringing.specs.Files.{HasPagesBelow}
-use Rattle.domain_bringing.proofs.Runs.{all_below}
-use Rattle.domain_bringing.proofs.InARow.{part_more}
+use Rattle.domain_bringing.proofs.Runs.{all_below, one_below}
 use Rattle.domain_bringing.proofs.files.load_run.Goals as goal
 
-pub load_part-requires-clause-members : goal.load_part-requires-clause-members
-load_part-requires-clause-members g c = members_stay (g.R.Rack.disk c.args.rack.now) (g.R.Rack.disk c.loop-part.rack) c.args.frame.now.anchor c.loop-part.invariant.brings.reads c.requires.members
+pub load_page-requires : goal.load_page-requires
+load_page-requires g c = members_stay (g.R.Rack.disk c.args.rack.now) (g.R.Rack.disk c.loop-number.rack) c.args.frame.now.anchor c.loop-number.invariant.brings.reads c.requires
 
-pub loop-part-init : goal.loop-part-init
-loop-part-init g c = record {
+pub loop-number-init : goal.loop-number-init
+loop-number-init g c = record {
   brings = brings_none (g.R.Rack.disk c.args.rack.now) (g.M.MetaPages.pages c.args.pages.now);
   passed = refl;
   before = refl;
-  buffer = c.requires.buffer;
   there = λ page is less. let low = is.0 in absurd (omega (arith, low, less));
 }
 
-pub loop-part-preserved : goal.loop-part-preserved
-loop-part-preserved g c =
+pub loop-number-preserved : goal.loop-number-preserved
+loop-number-preserved g c =
     let disk = g.R.Rack.disk in
     let pages = g.M.MetaPages.pages in
-    let end : c.args.run.now.row.page + (c.loop-part.part * 64 + 64) ≡ c.args.run.now.row.page + (c.loop-part.part + 1) * 64 = omega arith in
     record {
-      brings = brings_then (disk c.args.rack.now) (disk c.loop-part.rack) (disk c.load_part.new.rack) (pages c.args.pages.now) (pages c.loop-part.pages) (pages c.load_part.new.pages) c.loop-part.invariant.brings c.load_part.ensures.brings;
-      passed = c.in_ok-load_part.ensures.fault ∙ c.loop-part.invariant.passed;
-      before = c.load_part.ensures.before ∙ c.loop-part.invariant.before;
-      buffer = c.load_part.ensures.buffer;
-      there = subst (λ n. HasPagesBelow n (pages c.load_part.new.pages) (frame_in c.args.frame.now) c.args.run.now) end
-          (part_more (pages c.loop-part.pages) (pages c.load_part.new.pages) (frame_in c.args.frame.now) c.args.run.now (c.loop-part.part * 64) (c.loop-part.part * 64 + 64) c.load_part.ensures.brings.kept c.loop-part.invariant.there c.in_ok-load_part.ensures.there);
+      brings = brings_then (disk c.args.rack.now) (disk c.loop-number.rack) (disk c.load_page.new.rack) (pages c.args.pages.now) (pages c.loop-number.pages) (pages c.load_page.new.pages) c.loop-number.invariant.brings c.load_page.ensures.brings;
+      passed = c.in_ok-load_page.ensures.fault ∙ c.loop-number.invariant.passed;
+      before = c.load_page.ensures.before ∙ c.loop-number.invariant.before;
+      there = one_below (pages c.loop-number.pages) (pages c.load_page.new.pages) (frame_in c.args.frame.now) c.args.run.now c.loop-number.number c.load_page.ensures.brings.kept c.loop-number.invariant.there c.in_ok-load_page.ensures.there;
     }
 
-pub returns-in_err-load_part-clause-brings : goal.returns-in_err-load_part-clause-brings
-returns-in_err-load_part-clause-brings g c =
+pub returns-in_err-load_page-clause-brings : goal.returns-in_err-load_page-clause-brings
+returns-in_err-load_page-clause-brings g c =
     let disk = g.R.Rack.disk in
     let pages = g.M.MetaPages.pages in
-    brings_then (disk c.args.rack.now) (disk c.loop-part.rack) (disk c.load_part.new.rack) (pages c.args.pages.now) (pages c.loop-part.pages) (pages c.load_part.new.pages) c.loop-part.invariant.brings c.load_part.ensures.brings
+    brings_then (disk c.args.rack.now) (disk c.loop-number.rack) (disk c.load_page.new.rack) (pages c.args.pages.now) (pages c.loop-number.pages) (pages c.load_page.new.pages) c.loop-number.invariant.brings c.load_page.ensures.brings
 
 pub returns-clause-there : goal.returns-clause-there
-returns-clause-there g c =
-    let enough : c.args.run.now.row.count ≤ c.div_ceil-part-end.result * 64 = subst (λ n. c.args.run.now.row.count ≤ n * 64) (sym c.div_ceil-part-end.ensures) (div_ceil_times c.args.run.now.row.count 64 (omega arith)).0 in
-    let past = c.loop-part-test.false in
-    all_below (g.M.MetaPages.pages c.loop-part.pages) (frame_in c.args.frame.now) c.args.run.now (c.loop-part.part * 64) (omega (arith, enough, past)) c.loop-part.invariant.there
+returns-clause-there g c = all_below (g.M.MetaPages.pages c.loop-number.pages) (frame_in c.args.frame.now) c.args.run.now c.loop-number.number c.loop-number-test.false c.loop-number.invariant.there

@@ -1,17 +1,16 @@
-use Rattle.std.proofs.Common.{◌≡◌, ◌+◌, ◌*◌, length}
+use Rattle.std.proofs.Common.{◌≡◌, ◌+◌}
 use Rattle.page_ways.specs.Frame.{frame_in}
 use Rattle.metadata_loading.specs.Loading.{Brings}
 use Rattle.domain_bringing.specs.Files.{HasPagesBelow}
 use Rattle.domain_bringing.proofs.files.load_run.Given as goal
 
-abbrev pub invariant-loop-part : goal.invariant-loop-part
-invariant-loop-part g l =
+abbrev pub invariant-loop-number : goal.invariant-loop-number
+invariant-loop-number g l =
     let disk = g.R.Rack.disk in
     let pages = g.M.MetaPages.pages in
     record {
       brings : Brings (disk l.fn.rack) (disk l.rack) (pages l.fn.pages) (pages l.pages);
       passed : (disk l.rack).read_faults ≡ (disk l.fn.rack).read_faults;
       before : g.M.MetaPages.before l.pages ≡ g.M.MetaPages.before l.fn.pages;
-      buffer : length l.found ≡ 8192 * 64;
-      there : HasPagesBelow (l.run.row.page + l.part * 64) (pages l.pages) (frame_in l.frame) l.run;
+      there : HasPagesBelow (l.run.row.page + l.number) (pages l.pages) (frame_in l.frame) l.run;
     }

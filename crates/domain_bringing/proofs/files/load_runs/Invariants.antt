@@ -1,4 +1,4 @@
-use Rattle.std.proofs.Common.{◌≡◌, ◌*◌, length}
+use Rattle.std.proofs.Common.{◌≡◌}
 use Rattle.page_ways.specs.Frame.{frame_in}
 use Rattle.metadata_loading.specs.Loading.{Brings}
 use Rattle.image_loading.proofs.Listed.{HoldBelow}
@@ -13,6 +13,5 @@ invariant-loop-run g l =
       brings : Brings (disk l.fn.rack) (disk l.rack) (pages l.fn.pages) (pages l.pages);
       passed : (disk l.rack).read_faults ≡ (disk l.fn.rack).read_faults;
       before : g.M.MetaPages.before l.pages ≡ g.M.MetaPages.before l.fn.pages;
-      buffer : length l.found ≡ 8192 * 64;
       below : HoldBelow l.run-index l.runs (HasPagesOf (pages l.pages) (frame_in l.frame));
     }
