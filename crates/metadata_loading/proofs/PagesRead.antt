@@ -1,5 +1,5 @@
 -- Pages of a rack that stand in a row, read by one call.
-use Rattle.std.proofs.Common.{◌≡◌, ◌∙◌, ◌⊎◌, ⊎_elim, inl, inr, true, false, cond, Some, None, ◌∷◌, ℕ, zero, suc, ◌+◌, ◌-◌, ◌*◌, ◌<◌, ◌≤◌, List, IsSome, length, get_or, slice_range, refl, sym, ap, subst, arith}
+use Rattle.std.proofs.Common.{◌≡◌, ◌∙◌, ◌⊎◌, ⊎_elim, inl, inr, true, false, cond, Some, None, ◌∷◌, ℕ, zero, suc, ◌+◌, ◌-◌, ◌*◌, ◌^◌, ◌<◌, ◌≤◌, List, IsSome, length, get_or, slice_range, refl, sym, ap, subst, arith}
 use Rattle.std.proofs.lemmas.Bool.{cases_Bool, cases_lt}
 use Rattle.domain_base.specs.declared.place.Home.{Home}
 use Rattle.page_store.specs.Pages.{Pages, same_home, with_page}
@@ -11,7 +11,7 @@ use Rattle.volume_disk.specs.Disk.{AreBlocks, Disk, volume_pages}
 use Rattle.domain_base.specs.Limits.{max_volume_pages_4}
 use Rattle.log_ring.specs.Homes.{HasMembers}
 use Rattle.domain_layout.specs.Reached.{Frame, IsWithin}
-use Rattle.metadata_loading.specs.Rows.{AreThereFrom, IsRow}
+use Rattle.metadata_loading.specs.Rows.{AreThereFrom, ComesAlong, IsRow}
 
 -- volumes that agree, one from a place on and the other from another
 shifted : (one other : ℕ → ℕ) (at to n : ℕ) → ((k : ℕ) → k < n → one (at + k) ≡ other (to + k)) → bytes_from one at n ≡ bytes_from other to n
@@ -58,7 +58,7 @@ kept_beside old new home other page put none some = by_same (cases_Bool (same_ho
 -- ---- the pages that come along with one
 
 -- the last page of a row is a member's, as the first one is
-last_within : (pages : Pages) (frame : Frame) (home : Home) (count : ℕ) → IsWithin frame home → IsRow pages frame home (count + 1) → IsWithin frame (record { vol = home.vol; page = home.page + count })
+last_within : (pages : Pages) (frame : Frame) (home : Home) (count : ℕ) → IsWithin frame home → IsRow pages frame home (suc count) → IsWithin frame (record { vol = home.vol; page = home.page + count })
 last_within pages frame home zero within row = subst (λ p. IsWithin frame (record { vol = home.vol; page = p })) (omega arith) within
 last_within pages frame home (suc n) within row = (row.behind (suc n) (omega arith) (omega arith)).may.0
 
@@ -74,7 +74,7 @@ row_blocks disk pages frame home count members within row =
     let on = on_rack disk.sizes frame home members within in
     let limit = row_limit disk.sizes pages frame home count members within row in
     record {
-      in_rack = record { first = on.first; last = on.last };
+      in_rack = (on.first, on.last);
       whole = omega arith;
       some = let some = row.some in omega (arith, some);
       within = let most = limit.1 in omega (arith, most);
@@ -86,3 +86,20 @@ row_low sizes pages frame home count members within row = let low = (row_limit s
 -- and the first one is there with all of them
 pub first_there : (home : Home) (count : ℕ) (pages : Pages) → 1 ≤ count → AreThereFrom home.vol home.page count pages → IsSome (pages home)
 first_there home count pages some there = subst (λ p. IsSome (pages (record { vol = home.vol; page = p }))) (omega arith) (there 0 (omega (arith, some)))
+
+-- ---- how many come along
+
+-- so far each page behind the first one comes along
+abbrev pub ComeSoFar : ℕ → Pages → Frame → Home → Type 0
+ComeSoFar count pages frame home = (number : ℕ) → 1 ≤ number → number < count → ComesAlong pages frame (record { vol = home.vol; page = home.page + number })
+
+-- none is behind the first one yet
+pub none_so_far : (pages : Pages) (frame : Frame) (home : Home) → ComeSoFar 1 pages frame home
+none_so_far pages frame home number first less = absurd (omega (arith, first, less))
+
+-- one more does
+pub one_so_far : (count : ℕ) (pages : Pages) (frame : Frame) (home : Home) → ComeSoFar count pages frame home → ComesAlong pages frame (record { vol = home.vol; page = home.page + count }) → ComeSoFar (count + 1) pages frame home
+one_so_far count pages frame home before here number first less =
+    ⊎_elim (λ low. before number first low)
+    (λ high. let same : count ≡ number = omega (arith, less, high) in subst (λ k. ComesAlong pages frame (record { vol = home.vol; page = home.page + k })) same here)
+    (cases_lt number count)
