@@ -1,5 +1,5 @@
 -- How a run ends, by what its words ask for.
-use Rattle.std.specs.Prelude.{◌≡◌, ◌⊎◌, ◌≤◌, ℕ, Option, Result, Ok, Err, List, []}
+use Rattle.std.specs.Prelude.{◌≡◌, ◌≢◌, ◌⊎◌, ◌≤◌, ℕ, Option, Result, Ok, Err, List, []}
 use Rattle.domain_base.specs.Limits.{min_first_volume_pages}
 use Rattle.domain_base.specs.declared.version.Version.TheVariants.{Four}
 use Rattle.volume_disk.specs.Disk.{Disk, Tells, volume_pages}
@@ -10,7 +10,7 @@ use Rattle.domain_making.specs.Making.{AreSlotsReady, IsNoneOrEmpty, IsOnFirst, 
 use Rattle.script_text.specs.declared.script.Script.{Script}
 use Rattle.script_text.specs.declared.script.Section.{Section}
 use Rattle.domain_runs.specs.Settling.{StaysReadSince}
-use Rattle.domain_runs.specs.Runs.{BeginsNot, HasFailed, LeadsFromNew, MakesNone, RunsFrom, WritesPassed}
+use Rattle.domain_runs.specs.Runs.{BeginsNot, HasFailed, LeadsFromNew, MakesNone, RunsFrom, WriteFailed, WritesPassed}
 use Rattle.run_parts.specs.Answering.{SameByNumber}
 use Rattle.run_parts.specs.Made.{MakeEnds}
 use Rattle.run_parts.specs.Reading.{HasRead, IsScript}
@@ -104,6 +104,11 @@ EndsFor (Ok Run) old new (ended.VolumeFault vol) = HasFailed old new vol
 EndsFor (Ok Run) old new (ended.VolumeSmall n) = ⊥
 EndsFor (Ok Run) old new (ended.Found faults) = ⊥
 EndsFor other old new status = Unit {0}
+
+-- a volume that is named behind a history is one of which a write or a sync has failed
+abbrev pub IsLostBehind : Disk → Disk → Status → List Entry → Type 0
+IsLostBehind old new status history =
+    (vol : ℕ) → status ≡ ended.VolumeFault vol → history ≢ [] → WriteFailed old new vol
 
 -- ** An image that is made, or verified
 
