@@ -11,7 +11,7 @@ use Rattle.fileset_model.specs.declared.entry.Entry.{Entry}
 use Rattle.history_text.specs.History.{history_text}
 use Rattle.script_text.specs.Turns.{turn_of, turns_of}
 use Rattle.script_text.specs.declared.script.Section.{Section}
-use Rattle.domain_runs.specs.Runs.{AreStampedWithin, BeginsNot, ClosesAs}
+use Rattle.domain_runs.specs.Runs.{AreStampedWithin, BeginsNot, ClosesAs, WriteFailed}
 use Rattle.run_parts.specs.Reading.{Follows, GetsNoScript, HasRead}
 use Rattle.run_parts.specs.Transfer.{AppendsFront}
 use Rattle.run_parts.proofs.Reading.{Follows-from_answers, IsNoLonger-from_short}
@@ -253,7 +253,7 @@ closed_read left read history old new (status.NotADomain vol at) is closed = abs
 closed_read left read history old new (status.VolumeFault vol) is closed = inr is
 closed_read left read history old new status.SinkFault is closed = absurd closed
 closed_read left read history old new (status.Found faults) is closed = absurd closed
-closed_read left read history old new status.OutOfMemory is closed = inr is
+closed_read left read history old new status.OutOfMemory is closed = absurd closed
 closed_read left read history old new (status.VolumeSmall n) is closed = absurd closed
 closed_read left read history old new (status.Unfit why) is closed = absurd closed
 
@@ -264,7 +264,7 @@ closed_ends (a_form.Try pages) old new status.SourceFault run large closed = tt
 closed_ends (a_form.Try pages) old new status.TooLong run large closed = tt
 closed_ends (a_form.Try pages) old new (status.BadScript line kind) run large closed = tt
 closed_ends (a_form.Try pages) old new (status.NotADomain vol at) run large closed = closed
-closed_ends (a_form.Try pages) old new (status.VolumeFault vol) run large closed = closed
+closed_ends (a_form.Try pages) old new (status.VolumeFault vol) run large closed = inr closed
 closed_ends (a_form.Try pages) old new status.SinkFault run large closed = tt
 closed_ends (a_form.Try pages) old new (status.Found faults) run large closed = closed
 closed_ends (a_form.Try pages) old new status.OutOfMemory run large closed = tt
@@ -276,7 +276,7 @@ closed_ends a_form.Run old new status.SourceFault run large closed = tt
 closed_ends a_form.Run old new status.TooLong run large closed = tt
 closed_ends a_form.Run old new (status.BadScript line kind) run large closed = tt
 closed_ends a_form.Run old new (status.NotADomain vol at) run large closed = absurd closed
-closed_ends a_form.Run old new (status.VolumeFault vol) run large closed = closed
+closed_ends a_form.Run old new (status.VolumeFault vol) run large closed = inr closed
 closed_ends a_form.Run old new status.SinkFault run large closed = tt
 closed_ends a_form.Run old new (status.Found faults) run large closed = closed
 closed_ends a_form.Run old new status.OutOfMemory run large closed = tt
@@ -319,6 +319,16 @@ module _ (end s : Status) (prints : PrintsAs end s) where
       memory a_form.Run is = tt
       memory (a_form.Make version) is = tt
       memory a_form.Verify is = tt
+
+  pub ended_lost : (old new : Disk) → ClosesAs old new end → (vol : ℕ) → s ≡ status.VolumeFault vol → WriteFailed old new vol
+  ended_lost old new closed vol is =
+      ⊎_elim (λ same. subst (ClosesAs old new) (sym same ∙ is) closed) (λ other. ⊎_elim (λ sink. absurd (no_sink (sym sink ∙ is))) (λ memory. absurd (no_memory (sym memory ∙ is))) other) prints
+    where
+      no_sink : ¬ status.SinkFault ≡ status.VolumeFault vol
+      no_sink same = cc
+
+      no_memory : ¬ status.OutOfMemory ≡ status.VolumeFault vol
+      no_memory same = cc
 
   pub ended_run : (form : Form) (old new : Disk) (history : List Entry) → LeadsFor form old new history (end ≡ status.Ok) → RunsFor (Ok form) old new s history
   ended_run (a_form.Try pages) old new history leads =

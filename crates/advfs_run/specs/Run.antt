@@ -1,5 +1,5 @@
 -- How a run ends, by what its words ask for.
-use Rattle.std.specs.Prelude.{◌≡◌, ◌⊎◌, ◌≤◌, ℕ, Option, Result, Ok, Err, List, []}
+use Rattle.std.specs.Prelude.{◌≡◌, ◌≢◌, ◌⊎◌, ◌≤◌, ℕ, Option, Result, Ok, Err, List, []}
 use Rattle.domain_base.specs.Limits.{min_first_volume_pages}
 use Rattle.domain_base.specs.declared.version.Version.TheVariants.{Four}
 use Rattle.volume_disk.specs.Disk.{Disk, Tells, volume_pages}
@@ -10,7 +10,7 @@ use Rattle.domain_making.specs.Making.{AreSlotsReady, IsNoneOrEmpty, IsOnFirst, 
 use Rattle.script_text.specs.declared.script.Script.{Script}
 use Rattle.script_text.specs.declared.script.Section.{Section}
 use Rattle.domain_runs.specs.Settling.{StaysReadSince}
-use Rattle.domain_runs.specs.Runs.{BeginsNot, HasFailed, LeadsFromNew, MakesNone, NoneFailed, RunsFrom}
+use Rattle.domain_runs.specs.Runs.{BeginsNot, HasFailed, LeadsFromNew, MakesNone, RunsFrom, WriteFailed, WritesPassed}
 use Rattle.run_parts.specs.Answering.{SameByNumber}
 use Rattle.run_parts.specs.Made.{MakeEnds}
 use Rattle.run_parts.specs.Reading.{HasRead, IsScript}
@@ -85,24 +85,30 @@ NotBegun (Try pages) old new status = MakesNone old new status
 NotBegun Run old new status = BeginsNot old new status
 NotBegun other old new status = ⊥
 
--- the causes of the statuses: at Ok no call of the rack has failed; of `run` those for which a domain
--- is not attached, of `try` those for which none is made, and for both that a call failed of a volume
+-- the causes of the statuses: at Ok no write or sync of the rack has failed; of `run` those for which
+-- a domain is not attached, of `try` those for which none is made, and for both that a call failed of
+-- a volume
 abbrev pub EndsFor : Result Form ℕ → Disk → Disk → Status → Type 0
 EndsFor (Ok (Try pages)) old new ended.Ok =
-    IsLargeFor (Try pages) old × NoneFailed old new
+    IsLargeFor (Try pages) old × WritesPassed old new
 EndsFor (Ok (Try pages)) old new (ended.VolumeSmall n) =
     NotBegun (Try pages) old new (ended.VolumeSmall n)
 EndsFor (Ok (Try pages)) old new (ended.NotADomain vol at) = ⊥
 EndsFor (Ok (Try pages)) old new (ended.Unfit why) = ⊥
 EndsFor (Ok (Try pages)) old new (ended.VolumeFault vol) = HasFailed old new vol
 EndsFor (Ok (Try pages)) old new (ended.Found faults) = ⊥
-EndsFor (Ok Run) old new ended.Ok = NoneFailed old new
+EndsFor (Ok Run) old new ended.Ok = WritesPassed old new
 EndsFor (Ok Run) old new (ended.NotADomain vol at) = NotBegun Run old new (ended.NotADomain vol at)
 EndsFor (Ok Run) old new (ended.Unfit why) = NotBegun Run old new (ended.Unfit why)
 EndsFor (Ok Run) old new (ended.VolumeFault vol) = HasFailed old new vol
 EndsFor (Ok Run) old new (ended.VolumeSmall n) = ⊥
 EndsFor (Ok Run) old new (ended.Found faults) = ⊥
 EndsFor other old new status = Unit {0}
+
+-- a volume that is named behind a history is one of which a write or a sync has failed
+abbrev pub IsLostBehind : Disk → Disk → Status → List Entry → Type 0
+IsLostBehind old new status history =
+    (vol : ℕ) → status ≡ ended.VolumeFault vol → history ≢ [] → WriteFailed old new vol
 
 -- ** An image that is made, or verified
 

@@ -16,6 +16,7 @@ ghost use Rattle.advfs_run.specs.Run.{
   HasReadFor,
   HasSections,
   IsLargeFor,
+  IsLostBehind,
   IsPrinted,
   IsRun,
   IsTold,
@@ -154,6 +155,8 @@ fn run_script<S: Source, R: Rack, K: Sink, G: Gate>(
     ensures quiet { TellNoFault result.history.items }
     ensures stamps { AreStampedWithin (R.disk rack) (R.disk result.rack) result.history.items }
     ensures ends { EndsFor (Ok form) (R.disk rack) (R.disk result.rack) result.status }
+    ensures lost { IsLostBehind (R.disk rack) (R.disk result.rack) result.status
+        result.history.items }
     ensures rack { LacksScript result.status → result.rack ≡ rack }
     ensures printed { IsPrinted result.status
         → Appends (K.held sink.old) (K.held sink.new) (history_text result.history.items) }
@@ -225,6 +228,8 @@ pub fn run<S: Source, R: Rack + Send, K: Sink, G: Gate + Sync>(
     // The causes of the other statuses.
     ensures ends { EndsFor (form_of (map string_bytes words.now)) (R.disk rack)
         (R.disk result.rack) result.status }
+    ensures lost { IsLostBehind (R.disk rack) (R.disk result.rack) result.status
+        result.history.items }
     ensures usage { MatchResult (form_of (map string_bytes words.now))
         (λ _. (word : ℕ) → result.status ≢ Status.Usage word)
         (λ word. result.status ≡ Status.Usage word) }

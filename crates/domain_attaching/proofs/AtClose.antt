@@ -1,7 +1,7 @@
 -- A domain that is closed.
-use Rattle.std.proofs.Common.{◌≡◌, ◌∙◌, ℕ, ◌+◌, ◌%◌, ◌≤◌, List, [], length, Option, Some, None, IfSome, IsSome, refl, sym, ap, subst, arith, ⊎_elim}
+use Rattle.std.proofs.Common.{◌≡◌, ◌∙◌, ℕ, ◌+◌, ◌-◌, ◌%◌, ◌≤◌, List, [], length, Option, Some, None, IfSome, IsSome, IsSomeAnd, slice_get, refl, sym, ap, subst, arith, ⊎_elim}
 use Rattle.std.proofs.Math.Logic.{∥∥₁_elim, ∥∥₁_map, ∥∥₁_map₂}
-use Rattle.std.proofs.lemmas.Bool.{cases_lt}
+use Rattle.std.proofs.lemmas.Bool.{cases_eq, cases_lt}
 use Rattle.page_store.specs.Pages.{Pages}
 use Rattle.volume_disk.specs.Disk.{Disk, IsSettled, MayLeave, Tells, volume_pages}
 use Rattle.volume_disk.specs.Image.{Image, page_at}
@@ -30,7 +30,8 @@ use Rattle.domain_bringing.proofs.Means.{AreThoseOf, those_mean}
 use Rattle.domain_bringing.proofs.Ranges.{good_frame, in_range}
 use Rattle.domain_state.specs.Rest.{IsAtRest}
 use Rattle.domain_attaching.proofs.ItsPages.{all_there, looked_there}
-use Rattle.domain_attaching.specs.Closing.{AreHome, IsClosed, IsOnLoggable, MeansKept}
+use Rattle.domain_attaching.specs.Closing.{AreHome, HasRoomFor, IsClosed, IsOnLoggable, MeansKept}
+use Rattle.domain_attaching.specs.declared.closing_room.ClosingRoom.{ClosingRoom}
 
 -- ---- where the pages lie
 
@@ -115,6 +116,20 @@ asks_members disk anchor rest vol first last there whole = (
   asks_most rest (member_of anchor vol).pages (volume_pages disk.sizes vol) (λ r. (r.members vol first last there whole).1),
   asks_most rest (member_of anchor vol).pages 1048576 (λ r. (r.members vol first last there whole).2),
 )
+
+-- ---- the room
+
+asks_same : {A : Type 0} → ∥ A ∥₁ → (a b : ℕ) → (A → a ≡ b) → a ≡ b
+asks_same t a b is = ⊎_elim (λ same. same) (λ apart. absurd (nothing t (λ x. apart (is x)))) (cases_eq a b)
+
+-- the room for one anchor is that for another that is known to be the same
+pub room_of_other : (one other : Anchor) (room : ClosingRoom) → ∥ other ≡ one ∥₁ → HasRoomFor one room → HasRoomFor other room
+room_of_other one other room same has = record {
+  marks = λ vol first last.
+      let pages : (member_of one vol).pages ≡ (member_of other vol).pages = asks_same same _ _ (λ is. sym (ap (λ (a : Anchor). (member_of a vol).pages) is)) in
+      subst (λ (n : ℕ). IsSomeAnd (slice_get room.tables.volumes.items (vol - 1)) (λ marks. length marks.items ≡ n)) pages (has.marks vol first last);
+  buffer = has.buffer;
+}
 
 -- ---- all of it
 

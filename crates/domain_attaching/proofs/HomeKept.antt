@@ -1,19 +1,17 @@
 -- Pages that are brought home.
-use Rattle.std.proofs.Common.{◌≤◌, ◌≡◌, ◌∙◌, ◌⊎◌, ℕ, ◌+◌, ◌<◌, List, Option, Some, None, IfSome, sym, ap, subst, arith, ⊎_elim}
+use Rattle.std.proofs.Common.{◌≤◌, ◌≡◌, ◌∙◌, ◌⊎◌, ℕ, ◌+◌, ◌<◌, List, Option, Some, None, IfSome, Result, Ok, Err, sym, ap, subst, arith, ⊎_elim}
 use Rattle.std.proofs.lemmas.Bool.{cases_lt}
 use Rattle.domain_base.specs.declared.place.Home.{Home}
 use Rattle.page_store.specs.Pages.{Pages}
 use Rattle.volume_disk.specs.Disk.{Disk, raised_at}
 use Rattle.volume_disk.specs.Image.{Image, NoPlace, Places, page_at}
-use Rattle.volume_disk.specs.Run.{Touches}
+use Rattle.volume_disk.specs.Run.{NamesWriteFault, Touches}
 use Rattle.volume_disk.proofs.Laws.{touches-wider}
 use Rattle.disk_label.specs.Fault.{HasPassed}
 use Rattle.disk_label.specs.declared.anchor.Anchor.{Anchor}
 use Rattle.log_ring.specs.Homes.{HasMembers, IsHomeOf, IsLoggable, member_of}
 use Rattle.log_ring.proofs.HomePages.{page-same}
-use Rattle.domain_attaching.specs.Closing.{AreTheseHome, HasCloseCause, HasFailed, IsHome, IsOnThese, StayHome}
-use Rattle.domain_attaching.specs.declared.closing_fault.CloseFault.{CloseFault}
-use Rattle.domain_attaching.specs.declared.closing_fault.CloseFault.TheVariants.{OutOfMemory, Read, Write}
+use Rattle.domain_attaching.specs.Closing.{AreTheseHome, IsHome, IsOnThese, StayHome}
 
 -- what touches nothing touches some places at most
 pub none_wider : (old new : Disk) (places : Places) → Touches old new NoPlace → Touches old new places
@@ -89,12 +87,7 @@ stay_then pages anchor old mid new places touches one other told home was = othe
 pub passed_then : (old mid new : Disk) → HasPassed old mid → HasPassed mid new → HasPassed old new
 passed_then old mid new one other = (other.0 ∙ one.0, other.1 ∙ one.1)
 
-pub failed_then : (old mid new : Disk) (fault : CloseFault) → HasPassed old mid → HasFailed mid new fault → HasFailed old new fault
-failed_then old mid new (Read vol) passed cause = (cause.0 ∙ ap (λ (c : ℕ → ℕ). raised_at c vol) passed.0, cause.1 ∙ passed.1)
-failed_then old mid new (Write vol) passed cause = (cause.0 ∙ passed.0, cause.1 ∙ ap (λ (c : ℕ → ℕ). raised_at c vol) passed.1)
-failed_then old mid new OutOfMemory passed cause = cause
-
-pub failed_so : (old new : Disk) (fault : CloseFault) → HasFailed old new fault → HasCloseCause old new fault
-failed_so old new (Read vol) cause = cause
-failed_so old new (Write vol) cause = cause
-failed_so old new OutOfMemory cause = absurd cause
+-- where none had failed before, a fault is that of all of it
+pub fault_then : {T : Type 0} (old mid new : Disk) (r : Result T ℕ) → mid.write_faults ≡ old.write_faults → NamesWriteFault mid new r → NamesWriteFault old new r
+fault_then old mid new (Ok x) passed is = is ∙ passed
+fault_then old mid new (Err vol) passed is = is ∙ ap (λ (c : ℕ → ℕ). raised_at c vol) passed

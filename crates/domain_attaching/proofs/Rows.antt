@@ -7,13 +7,14 @@ use Rattle.std.proofs.lemmas.Slice.{between-put_mid, drop-put_mid, take-put_mid_
 use Rattle.domain_base.specs.declared.place.Home.{Home}
 use Rattle.page_store.specs.Pages.{Pages}
 use Rattle.volume_disk.specs.Disk.{Disk, Tells}
-use Rattle.volume_disk.specs.Image.{Image, IsIn, SameOutside, page_at}
+use Rattle.volume_disk.specs.Image.{HasBytes, Image, IsIn, SameOutside, page_at}
 use Rattle.volume_disk.specs.Run.{Touches}
 use Rattle.volume_disk.proofs.Laws.{touches-wider}
 use Rattle.disk_label.specs.declared.anchor.Anchor.{Anchor}
 use Rattle.log_ring.specs.Homes.{HasMembers, IsLoggable}
 use Rattle.log_ring.proofs.HomePages.{page-same}
 use Rattle.domain_bringing.proofs.InARow.{page_outside}
+use Rattle.domain_bringing.proofs.PagesRead.{page_in_is}
 use Rattle.domain_attaching.specs.Closing.{AreBetween, AreOnRack, AreTheseHome, IsChosen, IsHome, IsOnRow, IsOnThese, IsToBring, StandsHome, StayHome, page_in}
 use Rattle.domain_attaching.specs.declared.tables.TablePages.{TablePages}
 use Rattle.domain_attaching.proofs.HomeKept.{absent_home, same_page}
@@ -102,6 +103,25 @@ pub all_of_row : (pages : Pages) (image : Image) (vol first count at : ℕ) → 
 all_of_row pages image vol first count at most home page low high =
     let back : first + (page - first) ≡ page = omega (arith, low) in
     subst (λ p. StandsHome pages image (record { vol = vol; page = p })) back (home (page - first) (omega (arith, low, high, most)) (omega (arith, low, high)))
+
+-- ---- all of a row, written by one call
+
+-- it is the row's bytes that are written
+pub whole_row : (vol first count n : ℕ) → n ≡ 8192 * count → (v k : ℕ) → IsIn vol (512 * (16 * first)) n v k → IsOnRow vol first count v k
+whole_row vol first count n size v k on =
+    let from = on.1 in
+    let to = on.2 in
+    (on.0, omega (arith, from), omega (arith, to, size))
+
+-- then each page stands there that was laid
+pub row_written : (pages : Pages) (image : Image) (vol first count : ℕ) (laid : List ℕ) → length laid ≡ 8192 * count → ((k : ℕ) → k < count → pages (record { vol = vol; page = first + k }) ≡ Some (page_in laid k)) → HasBytes vol (512 * (16 * first)) laid image
+    → AreBetween vol first (first + count) (StandsHome pages image)
+row_written pages image vol first count laid size is_laid has =
+    all_of_row pages image vol first count count (omega arith)
+    (λ k less inside.
+    stands_as pages image (record { vol = vol; page = first + k }) (page_in laid k) (is_laid k less)
+    (sym (page_in_is image vol (first + k) (8192 * k) (8192 * k + 8192) laid refl (omega (arith, size, less))
+    (λ j lt. sym (has (8192 * k + j) (omega (arith, size, less, lt))) ∙ ap (image vol) (omega arith)))))
 
 -- ---- rows
 

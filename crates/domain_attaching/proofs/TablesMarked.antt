@@ -1,13 +1,15 @@
 -- Pages of tables that are marked.
-use Rattle.std.proofs.Common.{◌≡◌, ◌∙◌, ◌⊎◌, ◌↔◌, ◌+◌, ◌-◌, ◌<◌, ◌≤◌, ℕ, Bool, true, false, List, [], Vec, Global, length, get_or, replicate, Option, Some, None, IsSomeAnd, inl, inr, sym, ap, subst, arith, ⊎_elim}
+use Rattle.std.proofs.Common.{◌≡◌, ◌∙◌, ◌⊎◌, ◌↔◌, ◌+◌, ◌-◌, ◌<◌, ◌≤◌, ℕ, Bool, true, false, List, [], Vec, Global, length, get_or, get_or-set_other, get_or-set_same, replicate, set, Option, Some, None, IsSomeAnd, inl, inr, sym, ap, subst, arith, ⊎_elim}
 use Rattle.std.specs.Prelude.{Contains, map, slice_get}
 use Rattle.std.specs.Option.{option_map_or}
-use Rattle.std.proofs.lemmas.Bool.{both_ways, cases_lt}
-use Rattle.std.proofs.lemmas.List.{get_or-replicate, length-replicate}
+use Rattle.std.proofs.lemmas.Bool.{both_ways, cases_eq, cases_lt}
+use Rattle.std.proofs.lemmas.List.{get_or-replicate, length-replicate, length-set}
+use Rattle.std.proofs.lemmas.Option.{slice_get-get_or, slice_get_past}
 use Rattle.domain_base.specs.declared.place.Home.{Home}
+use Rattle.disk_label.specs.declared.anchor.Anchor.{Anchor}
 use Rattle.log_ring.specs.Homes.{member_of}
 use Rattle.domain_layout.specs.Layout.{Layout}
-use Rattle.domain_attaching.specs.Tables.{AreTables, AreTablesOn, HasTagPage, IsTableHome, Marks}
+use Rattle.domain_attaching.specs.Tables.{AreTables, AreTablesOn, HasMarksFor, HasMarksOn, HasTablesOn, HasTagPage, IsTableHome, Marks}
 use Rattle.domain_attaching.specs.declared.tables.TablePages.{TablePages}
 use Rattle.domain_attaching.proofs.Marked.{AreEach, contains_nothing, each_at, marks_as, marks_none, marks_then}
 
@@ -59,22 +61,67 @@ three_marked layout vol old cells slots all one two three =
     marks_as (λ k. A k ⊎ (B k ⊎ C k)) (λ k. IsTableHome layout (record { vol = vol; page = k })) old all (λ k is. is) (λ k is. is)
     (marks_then A (λ k. B k ⊎ C k) old cells all one (marks_then B C cells slots all two three))
 
--- the marks of a volume
-abbrev pub AreMarksOf : Layout → ℕ → Vec Bool Global → Type 0
-AreMarksOf layout k marks = (length marks.items ≡ (member_of layout.anchor (k + 1)).pages) × AreTablesOn layout (k + 1) marks.items
+-- ---- the marks of one volume
 
-pub tables_marked : (layout : Layout) (tables : TablePages) → AreEach (AreMarksOf layout) tables.volumes.items → 8 ≤ length tables.volumes.items → AreTables layout tables
-tables_marked layout tables each eight home first last within = by_marks (slice_get tables.volumes.items (home.vol - 1)) (each_at (AreMarksOf layout) tables.volumes.items (home.vol - 1) each (omega (arith, first, last, eight)))
+module _ {X : Type 0} (xs : List X) (i : ℕ) (x : X) where
+  set_here : (k : ℕ) → k ≡ i → i < length xs → slice_get (set xs i x) k ≡ Some x
+  set_here k same within =
+      subst (λ (j : ℕ). slice_get (set xs i x) j ≡ Some x) (sym same)
+      (slice_get-get_or (set xs i x) i x (subst (λ (n : ℕ). i < n) (sym (length-set xs i x)) within) ∙ ap (λ (y : X). Some y) (get_or-set_same xs i x x within))
+
+  pub set_other : (k : ℕ) → ¬ k ≡ i → slice_get (set xs i x) k ≡ slice_get xs k
+  set_other k other =
+      let size = length-set xs i x in
+      ⊎_elim
+      (λ within. slice_get-get_or (set xs i x) k x (omega (arith, within, size)) ∙ ap (λ (y : X). Some y) (get_or-set_other xs i k x x other) ∙ sym (slice_get-get_or xs k x within))
+      (λ past. slice_get_past (set xs i x) k (omega (arith, past, size)) ∙ sym (slice_get_past xs k past))
+      (cases_lt k (length xs))
+
+  within_there : (P : X → Type 0) (k : ℕ) → IsSomeAnd (slice_get xs k) P → k < length xs
+  within_there P k some = ⊎_elim (λ within. within) (λ past. absurd (none (slice_get_past xs k past))) (cases_lt k (length xs))
+    where
+      none : slice_get xs k ≡ None → ⊥
+      none is = subst (λ (o : Option X). IsSomeAnd o P) is some
+
+  -- what is so of an element that is put is so of the one that is there then
+  pub put_there : (P Q : X → Type 0) (k : ℕ) → k ≡ i → IsSomeAnd (slice_get xs k) P → Q x → IsSomeAnd (slice_get (set xs i x) k) Q
+  put_there P Q k same some is =
+      let within = within_there P k some in
+      subst (λ (o : Option X). IsSomeAnd o Q) (sym (set_here k same (omega (arith, within, same)))) is
+
+-- ---- those of all volumes
+
+-- as many as an anchor has pages
+abbrev pub HasCount : Anchor → ℕ → Vec Bool Global → Type 0
+HasCount anchor k marks = length marks.items ≡ (member_of anchor (k + 1)).pages
+
+pub counted_marks : (anchor : Anchor) (tables : TablePages) → AreEach (HasCount anchor) tables.volumes.items → 8 ≤ length tables.volumes.items → HasMarksFor anchor tables
+counted_marks anchor tables each eight vol first last =
+    let at : vol - 1 + 1 ≡ vol = omega (arith, first) in
+    subst (λ (v : ℕ). IsSomeAnd (slice_get tables.volumes.items (vol - 1)) (λ marks. length marks.items ≡ (member_of anchor v).pages)) at
+    (each_at (HasCount anchor) tables.volumes.items (vol - 1) each (omega (arith, first, last, eight)))
+
+-- one volume is marked, and the others are left
+module _ (layout : Layout) (old new : TablePages) (vol : ℕ) (first : 1 ≤ vol) (others : (k : ℕ) → ¬ k ≡ vol - 1 → slice_get new.volumes.items k ≡ slice_get old.volumes.items k) where
+  still : (P : Vec Bool Global → Type 0) (v : ℕ) → 1 ≤ v → ¬ v ≡ vol → IsSomeAnd (slice_get old.volumes.items (v - 1)) P → IsSomeAnd (slice_get new.volumes.items (v - 1)) P
+  still P v low apart = subst (λ (o : Option (Vec Bool Global)). IsSomeAnd o P) (sym (others (v - 1) (λ same. apart (omega (arith, same, low, first)))))
+
+  pub marks_still : HasMarksFor layout.anchor old → HasMarksOn layout.anchor new vol → HasMarksFor layout.anchor new
+  marks_still all here v low high =
+      ⊎_elim (λ same. subst (λ (u : ℕ). HasMarksOn layout.anchor new u) (sym same) here)
+      (λ apart. still (λ marks. length marks.items ≡ (member_of layout.anchor v).pages) v low apart (all v low high))
+      (cases_eq v vol)
+
+  pub one_volume_more : ((v : ℕ) → 1 ≤ v → v < vol → HasTablesOn layout old v) → HasTablesOn layout new vol → (v : ℕ) → 1 ≤ v → v < vol + 1 → HasTablesOn layout new v
+  one_volume_more before here v low below =
+      ⊎_elim (λ same. subst (λ (u : ℕ). HasTablesOn layout new u) (sym same) here)
+      (λ apart. still (λ marks. AreTablesOn layout v marks.items) v low apart (before v low (omega (arith, below, apart))))
+      (cases_eq v vol)
+
+pub tables_marked : (layout : Layout) (tables : TablePages) → HasMarksFor layout.anchor tables → ((vol : ℕ) → 1 ≤ vol → vol ≤ 8 → HasTablesOn layout tables vol) → AreTables layout tables
+tables_marked layout tables all each home first last within = by_marks (slice_get tables.volumes.items (home.vol - 1)) (all home.vol first last) (each home.vol first last)
   where
-    vol_is : home.vol - 1 + 1 ≡ home.vol
-    vol_is = omega (arith, first)
-
-    home_is : record { vol = home.vol - 1 + 1; page = home.page } ≡ home
-    home_is = λ i. record { vol = vol_is i; page = home.page }
-
-    by_marks : (o : Option (Vec Bool Global)) → IsSomeAnd o (AreMarksOf layout (home.vol - 1)) → (option_map_or (λ marks. get_or marks.items home.page false) o false ≡ true) ↔ IsTableHome layout home
-    by_marks None is = absurd is
-    by_marks (Some marks) is =
-        let size : length marks.items ≡ (member_of layout.anchor home.vol).pages = is.0 ∙ ap (λ v. (member_of layout.anchor v).pages) vol_is in
-        let on = is.1 home.page (subst (λ n. home.page < n) (sym size) within) in
-        (λ marked. subst (IsTableHome layout) home_is (on.0 marked), λ table. on.1 (subst (IsTableHome layout) (sym home_is) table))
+    by_marks : (o : Option (Vec Bool Global)) → IsSomeAnd o (λ marks. length marks.items ≡ (member_of layout.anchor home.vol).pages) → IsSomeAnd o (λ marks. AreTablesOn layout home.vol marks.items)
+        → (option_map_or (λ marks. get_or marks.items home.page false) o false ≡ true) ↔ IsTableHome layout home
+    by_marks None count on = absurd count
+    by_marks (Some marks) count on = on home.page (subst (λ (n : ℕ). home.page < n) (sym count) within)

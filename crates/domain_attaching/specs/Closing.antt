@@ -2,7 +2,7 @@
 use Rattle.std.specs.Prelude.{◌≡◌, ◌⊎◌, ℕ, ◌+◌, ◌*◌, ◌^◌, ◌<◌, ◌≤◌, Bool, List, Option, IfSome, IsSome, length, slice_range}
 use Rattle.domain_base.specs.declared.place.Home.{Home}
 use Rattle.page_store.specs.Pages.{Pages}
-use Rattle.volume_disk.specs.Disk.{Disk, IsSettled, MayLeave, Tells, raised_at, volume_pages}
+use Rattle.volume_disk.specs.Disk.{Disk, IsSettled, MayLeave, Tells, volume_pages}
 use Rattle.volume_disk.specs.Image.{Image, IsIn, Places, page_at}
 use Rattle.volume_disk.specs.Run.{Touches}
 use Rattle.disk_label.specs.declared.anchor.Anchor.{Anchor}
@@ -16,10 +16,9 @@ use Rattle.staged_pages.specs.Store.{before_of, pages_of}
 use Rattle.domain_memory.specs.Memory.{StandsFor}
 use Rattle.domain_memory.specs.Staged.{staged_in}
 use Rattle.domain_memory.specs.declared.memory.DomainMemory.{DomainMemory}
-use Rattle.domain_attaching.specs.Tables.{IsTableHome, is_table}
+use Rattle.domain_attaching.specs.Tables.{HasMarksFor, IsTableHome, is_table}
 use Rattle.domain_attaching.specs.declared.tables.TablePages.{TablePages}
-use Rattle.domain_attaching.specs.declared.closing_fault.CloseFault.{CloseFault}
-use Rattle.domain_attaching.specs.declared.closing_fault.CloseFault.TheVariants.{OutOfMemory, Read, Write}
+use Rattle.domain_attaching.specs.declared.closing_room.ClosingRoom.{ClosingRoom}
 
 -- the bytes of pages of members, behind labels and anchors and outside of the log
 abbrev pub IsOnLoggable : Anchor → Places
@@ -88,18 +87,12 @@ abbrev pub StayHome : Pages → Anchor → Disk → Disk → Type 0
 StayHome pages anchor old new = Tells old → (home : Home)
     → IsHome pages anchor old.now.contents home → IsHome pages anchor new.now.contents home
 
--- a call failed of the volume that is named, and the count of that has risen, and no other
-abbrev pub HasFailed : Disk → Disk → CloseFault → Type 0
-HasFailed old new (Read vol) = (new.read_faults ≡ raised_at old.read_faults vol)
-    × (new.write_faults ≡ old.write_faults)
-HasFailed old new (Write vol) = (new.read_faults ≡ old.read_faults)
-    × (new.write_faults ≡ raised_at old.write_faults vol)
-HasFailed old new OutOfMemory = ⊥
+-- ** The room for it
 
--- why pages were not brought home: that; or no memory could be had, and nothing was done
-abbrev pub HasCloseCause : Disk → Disk → CloseFault → Type 0
-HasCloseCause old new OutOfMemory = new ≡ old
-HasCloseCause old new fault = HasFailed old new fault
+-- a mark for each page of the volumes of an anchor, and the bytes of one call
+pub record HasRoomFor (anchor : Anchor) (room : ClosingRoom) : Type 0 where
+  pub marks : HasMarksFor anchor room.tables
+  pub buffer : length room.found.items ≡ 8192 * 64
 
 -- ** A domain that is closed
 

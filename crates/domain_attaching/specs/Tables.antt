@@ -1,8 +1,9 @@
 -- Which pages of a domain are those of tables.
-use Rattle.std.specs.Prelude.{◌≡◌, ◌⊎◌, ◌↔◌, ◌-◌, ◌<◌, ◌≤◌, ℕ, true, false, Bool, List, Some, Contains, length, map, slice_get, slice_index_or}
+use Rattle.std.specs.Prelude.{◌≡◌, ◌⊎◌, ◌↔◌, ◌-◌, ◌<◌, ◌≤◌, ℕ, true, false, Bool, List, Some, IsSomeAnd, Contains, length, map, slice_get, slice_index_or}
 use Rattle.std.specs.Option.{option_map_or}
 use Rattle.domain_base.specs.Limits.{max_volumes}
 use Rattle.domain_base.specs.declared.place.Home.{Home}
+use Rattle.disk_label.specs.declared.anchor.Anchor.{Anchor}
 use Rattle.log_ring.specs.Homes.{member_of}
 use Rattle.domain_layout.specs.Layout.{Layout}
 use Rattle.domain_attaching.specs.declared.tables.TablePages.{TablePages}
@@ -36,7 +37,20 @@ abbrev pub is_table : TablePages → Home → Bool
 is_table tables home = option_map_or (λ marks. slice_index_or marks.items home.page false)
     (slice_get tables.volumes.items (home.vol - 1)) false
 
--- of the pages of members those of tables are marked
+-- there is a mark for each page of a volume, as an anchor has it; and so of all volumes
+abbrev pub HasMarksOn : Anchor → TablePages → ℕ → Type 0
+HasMarksOn anchor tables vol = IsSomeAnd (slice_get tables.volumes.items (vol - 1))
+    (λ marks. length marks.items ≡ (member_of anchor vol).pages)
+
+abbrev pub HasMarksFor : Anchor → TablePages → Type 0
+HasMarksFor anchor tables =
+    (vol : ℕ) → 1 ≤ vol → vol ≤ max_volumes → HasMarksOn anchor tables vol
+
+-- those of tables are marked of a volume's; and so of the pages of members
+abbrev pub HasTablesOn : Layout → TablePages → ℕ → Type 0
+HasTablesOn layout tables vol = IsSomeAnd (slice_get tables.volumes.items (vol - 1))
+    (λ marks. AreTablesOn layout vol marks.items)
+
 abbrev pub AreTables : Layout → TablePages → Type 0
 AreTables layout tables = (home : Home) → 1 ≤ home.vol → home.vol ≤ max_volumes
     → home.page < (member_of layout.anchor home.vol).pages

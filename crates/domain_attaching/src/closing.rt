@@ -1,24 +1,23 @@
 //! Closing a domain.
 ghost use Rattle.std.specs.Prelude.{◌≡◌, ◌*◌, IfErr, IfOk, OnErr, OnOk, length};
-ghost use Rattle.disk_label.specs.Fault.{HasPassed};
 ghost use Rattle.log_ring.specs.Homes.{HasMembers};
 ghost use Rattle.staged_pages.specs.Store.{before_of, pages_of};
-ghost use Rattle.volume_disk.specs.Disk.{IsSettled as IsSynced, Tells};
-ghost use Rattle.volume_disk.specs.Run.{Touches};
+ghost use Rattle.volume_disk.specs.Disk.{IsSettled as IsSynced, Tells, raised_at};
+ghost use Rattle.volume_disk.specs.Run.{NamesWriteFault, Touches};
 ghost use Rattle.anchor_laws.specs.Domain.{layout_of};
 ghost use Rattle.domain_memory.specs.Staged.{IsSettled, staged_in};
 ghost use Rattle.domain_attaching.specs.Tables.{AreTables};
-ghost use Rattle.domain_attaching.specs.Closing.{AreHome, AreTheseHome, HasCloseCause, HasFailed, IsChosen, IsClosed, IsInOrder, IsInOrderSoFar, IsOnLoggable, IsOnThese, MeansKept, StayHome};
+ghost use Rattle.domain_attaching.specs.Closing.{AreHome, AreTheseHome, HasRoomFor, IsChosen, IsClosed, IsInOrder, IsInOrderSoFar, IsOnLoggable, IsOnThese, MeansKept, StayHome};
 
-use crate::closing_fault::CloseFault;
+use crate::closing_room::ClosingRoom;
 use crate::homeward::bring_pages_home;
 use crate::row::MOST_AT_ONCE;
-use crate::tables::{TablePages, table_pages};
+use crate::tables::TablePages;
+use domain_base::VolIx;
 use domain_base::limits::PAGE_BYTES;
 use domain_memory::DomainMemory;
 use domain_state::{Domain, Opening};
 use fileset_model::Entry;
-use std::alloc::Global;
 use volume_disk::{Rack, sync_volumes};
 
 /// Brings the pages in memory home that are, or are not, of tables, and syncs each volume.
@@ -28,7 +27,7 @@ fn bring_and_sync<R: Rack>(
     tables: &TablePages,
     of_tables: bool,
     found: &mut [u8],
-) -> Result<(), CloseFault>
+) -> Result<(), VolIx>
     requires members { HasMembers (R.disk rack.old).sizes memory.now.frame.anchor }
     requires buffer { length found.old ≡ PAGE_BYTES * MOST_AT_ONCE }
     ensures buffer { length found.new ≡ PAGE_BYTES * MOST_AT_ONCE }
@@ -40,17 +39,10 @@ fn bring_and_sync<R: Rack>(
         → AreTheseHome (IsChosen memory.now.frame.anchor tables.now of_tables)
         (pages_of memory.now.pages) memory.now.frame.anchor new.now.contents) }
     ensures synced { OnOk result (Tells (R.disk rack.old) → IsSynced (R.disk rack.new).now) }
-    ensures passed { OnOk result (HasPassed (R.disk rack.old) (R.disk rack.new)) }
-    ensures cause { IfErr result (HasFailed (R.disk rack.old) (R.disk rack.new)) }
+    ensures fault { NamesWriteFault (R.disk rack.old) (R.disk rack.new) result }
 {
-    match bring_pages_home(rack, memory, tables, of_tables, found) {
-        Ok(()) => {}
-        Err(fault) => return Err(fault),
-    }
-    match sync_volumes(rack) {
-        Ok(()) => Ok(()),
-        Err(vol) => Err(CloseFault::Write { vol }),
-    }
+    bring_pages_home(rack, memory, tables, of_tables, found)?;
+    sync_volumes(rack)
 }
 
 /// Brings the pages in memory home: those of data, and once these are there to stay, those of
@@ -60,7 +52,7 @@ fn bring_in_order<R: Rack>(
     memory: &DomainMemory,
     tables: &TablePages,
     found: &mut [u8],
-) -> Result<(), CloseFault>
+) -> Result<(), VolIx>
     requires members { HasMembers (R.disk rack.old).sizes memory.now.frame.anchor }
     requires buffer { length found.old ≡ PAGE_BYTES * MOST_AT_ONCE }
     requires tables { AreTables (layout_of (staged_in memory.now)) tables.now }
@@ -72,18 +64,16 @@ fn bring_in_order<R: Rack>(
     ensures home { OnOk result (Tells (R.disk rack.old) → AreHome (pages_of memory.now.pages)
         memory.now.frame.anchor (R.disk rack.new).now.contents) }
     ensures synced { OnOk result (Tells (R.disk rack.old) → IsSynced (R.disk rack.new).now) }
-    ensures passed { OnOk result (HasPassed (R.disk rack.old) (R.disk rack.new)) }
-    ensures cause { IfErr result (HasFailed (R.disk rack.old) (R.disk rack.new)) }
+    ensures fault { NamesWriteFault (R.disk rack.old) (R.disk rack.new) result }
 {
-    match bring_and_sync(rack, memory, tables, false, found) {
-        Ok(()) => bring_and_sync(rack, memory, tables, true, found),
-        Err(fault) => Err(fault),
-    }
+    bring_and_sync(rack, memory, tables, false, found)?;
+    bring_and_sync(rack, memory, tables, true, found)
 }
 
-/// The same, with the memory that it takes.
-fn write_back<R: Rack>(alloc: Global, rack: &mut R, memory: &DomainMemory) -> Result<(), CloseFault>
+/// The same, in the room that was taken for it.
+fn write_back<R: Rack>(rack: &mut R, memory: &DomainMemory, room: ClosingRoom) -> Result<(), VolIx>
     requires members { HasMembers (R.disk rack.old).sizes memory.now.frame.anchor }
+    requires room { HasRoomFor memory.now.frame.anchor room }
     ensures touches { Touches (R.disk rack.old) (R.disk rack.new)
         (IsOnLoggable memory.now.frame.anchor) }
     ensures order { OnOk result (IsInOrder (R.disk rack.old) (R.disk rack.new) memory.now) }
@@ -92,15 +82,13 @@ fn write_back<R: Rack>(alloc: Global, rack: &mut R, memory: &DomainMemory) -> Re
     ensures home { OnOk result (Tells (R.disk rack.old) → AreHome (pages_of memory.now.pages)
         memory.now.frame.anchor (R.disk rack.new).now.contents) }
     ensures synced { OnOk result (Tells (R.disk rack.old) → IsSynced (R.disk rack.new).now) }
-    ensures passed { OnOk result (HasPassed (R.disk rack.old) (R.disk rack.new)) }
-    ensures cause { IfErr result (HasCloseCause (R.disk rack.old) (R.disk rack.new)) }
+    ensures fault { NamesWriteFault (R.disk rack.old) (R.disk rack.new) result }
 {
-    let Ok(tables) = table_pages(alloc, memory) else {
-        return Err(CloseFault::OutOfMemory);
-    };
-    let Ok(mut found) = vec![in alloc; 0; PAGE_BYTES * MOST_AT_ONCE as usize] else {
-        return Err(CloseFault::OutOfMemory);
-    };
+    let ClosingRoom {
+        mut tables,
+        mut found,
+    } = room;
+    tables.mark(memory);
     bring_in_order(rack, memory, &tables, &mut found)
 }
 
@@ -119,12 +107,14 @@ pub struct Closed<R: Rack> {
 /// tag directories, and that of the fileset table. The log has no group, before and after, so the
 /// volumes mean then what the domain stood for.
 ///
-/// `Read` and `Write` come where a call failed of the volume that they name; then some of the pages
-/// may have been written, and what the volumes mean is not told. At `OutOfMemory` no call was made.
+/// It takes no memory but the room, which is of the domain's frame. A page that cannot be read is
+/// written. The error is the first volume of which a write or a sync failed; then some of the pages
+/// may have been written, and what the volumes mean is not told.
 pub fn close<R: Rack, O: Opening>(
-    alloc: Global,
     domain: Domain<R, O>,
-) -> Result<Closed<R>, (Closed<R>, CloseFault)>
+    room: ClosingRoom,
+) -> Result<Closed<R>, (Closed<R>, VolIx)>
+    requires room { HasRoomFor domain.memory.frame.anchor room }
     requires settled { ∥ IsSettled domain.memory ∥₁ }
     ensures closed { IfOk result (λ now. Tells (R.disk domain.history.rack)
         → ∥ IsClosed (R.disk now.rack) domain.memory ∥₁) }
@@ -134,21 +124,21 @@ pub fn close<R: Rack, O: Opening>(
         domain.memory) }
     ensures order_at_fault { IfErr result (λ back. IsInOrderSoFar (R.disk domain.history.rack)
         (R.disk back.0.rack) domain.memory) }
-    ensures passed { IfOk result (λ now. HasPassed (R.disk domain.history.rack)
-        (R.disk now.rack)) }
+    ensures passed { IfOk result (λ now. (R.disk now.rack).write_faults
+        ≡ (R.disk domain.history.rack).write_faults) }
     ensures touches { IfOk result (λ now. Touches (R.disk domain.history.rack) (R.disk now.rack)
         (IsOnLoggable domain.memory.frame.anchor)) }
     ensures touches_at_fault { IfErr result (λ back. Touches (R.disk domain.history.rack)
         (R.disk back.0.rack) (IsOnLoggable domain.memory.frame.anchor)) }
-    ensures cause { IfErr result (λ back. HasCloseCause (R.disk domain.history.rack)
-        (R.disk back.0.rack) back.1) }
+    ensures cause { IfErr result (λ back. (R.disk back.0.rack).write_faults
+        ≡ raised_at (R.disk domain.history.rack).write_faults back.1) }
     ensures history { IfOk result (λ now. now.history ≡ domain.history.entries) }
     ensures history_at_fault { IfErr result (λ back. back.0.history ≡ domain.history.entries) }
 {
     let (memory, history) = domain.apart();
     let (mut rack, history) = history.into_parts();
-    match write_back(alloc, &mut rack, &memory) {
+    match write_back(&mut rack, &memory, room) {
         Ok(()) => Ok(Closed { rack, history }),
-        Err(fault) => Err((Closed { rack, history }, fault)),
+        Err(vol) => Err((Closed { rack, history }, vol)),
     }
 }

@@ -1,13 +1,11 @@
 //! The pages of a domain in memory, brought home.
-ghost use Rattle.std.specs.Prelude.{◌≡◌, ◌↔◌, ◌+◌, ◌*◌, ◌<◌, ◌≤◌, IfErr, IsTrue, OnOk, length};
-ghost use Rattle.disk_label.specs.Fault.{HasPassed};
+ghost use Rattle.std.specs.Prelude.{◌≡◌, ◌↔◌, ◌+◌, ◌*◌, ◌<◌, ◌≤◌, IsTrue, OnOk, length};
 ghost use Rattle.log_ring.specs.Homes.{HasMembers, IsLoggable, member_of};
 ghost use Rattle.staged_pages.specs.Store.{pages_of};
 ghost use Rattle.volume_disk.specs.Disk.{Tells};
-ghost use Rattle.volume_disk.specs.Run.{Touches};
-ghost use Rattle.domain_attaching.specs.Closing.{AreBetween, AreTheseHome, HasFailed, IsChosen, IsChosenOn, IsOnThese, IsToBring, StayHome};
+ghost use Rattle.volume_disk.specs.Run.{NamesWriteFault, Touches};
+ghost use Rattle.domain_attaching.specs.Closing.{AreBetween, AreTheseHome, IsChosen, IsChosenOn, IsOnThese, IsToBring, StayHome};
 
-use crate::closing_fault::CloseFault;
 use crate::row::{MOST_AT_ONCE, bring_row};
 use crate::tables::TablePages;
 use disk_label::ANCHORS_PAGE;
@@ -82,7 +80,7 @@ fn bring_home_on<R: Rack>(
     of_tables: bool,
     vol: VolIx,
     found: &mut [u8],
-) -> Result<(), CloseFault>
+) -> Result<(), VolIx>
     requires members { HasMembers (R.disk rack.old).sizes memory.now.frame.anchor }
     requires buffer { length found.old ≡ PAGE_BYTES * MOST_AT_ONCE }
     ensures buffer { length found.new ≡ PAGE_BYTES * MOST_AT_ONCE }
@@ -93,8 +91,7 @@ fn bring_home_on<R: Rack>(
     ensures home { let new = R.disk rack.new in OnOk result (Tells (R.disk rack.old)
         → AreTheseHome (IsChosenOn vol memory.now.frame.anchor tables.now of_tables)
         (pages_of memory.now.pages) memory.now.frame.anchor new.now.contents) }
-    ensures passed { OnOk result (HasPassed (R.disk rack.old) (R.disk rack.new)) }
-    ensures cause { IfErr result (HasFailed (R.disk rack.old) (R.disk rack.new)) }
+    ensures fault { NamesWriteFault (R.disk rack.old) (R.disk rack.new) result }
 {
     let mut page = 0;
     while page < memory.frame.member(vol).pages {
@@ -115,7 +112,7 @@ pub(crate) fn bring_pages_home<R: Rack>(
     tables: &TablePages,
     of_tables: bool,
     found: &mut [u8],
-) -> Result<(), CloseFault>
+) -> Result<(), VolIx>
     requires members { HasMembers (R.disk rack.old).sizes memory.now.frame.anchor }
     requires buffer { length found.old ≡ PAGE_BYTES * MOST_AT_ONCE }
     ensures buffer { length found.new ≡ PAGE_BYTES * MOST_AT_ONCE }
@@ -126,8 +123,7 @@ pub(crate) fn bring_pages_home<R: Rack>(
     ensures home { let new = R.disk rack.new in OnOk result (Tells (R.disk rack.old)
         → AreTheseHome (IsChosen memory.now.frame.anchor tables.now of_tables)
         (pages_of memory.now.pages) memory.now.frame.anchor new.now.contents) }
-    ensures passed { OnOk result (HasPassed (R.disk rack.old) (R.disk rack.new)) }
-    ensures cause { IfErr result (HasFailed (R.disk rack.old) (R.disk rack.new)) }
+    ensures fault { NamesWriteFault (R.disk rack.old) (R.disk rack.new) result }
 {
     for number in 1..MAX_VOLUMES + 1 {
         let Some(vol) = VolIx::new(number) else {

@@ -5,7 +5,7 @@
 mod attaching;
 mod bringing;
 mod closing;
-mod closing_fault;
+mod closing_room;
 mod fault;
 mod homeward;
 mod row;
@@ -16,5 +16,5 @@ pub use attached_domain::Unfit;
 pub use attaching::attach;
 pub use bringing::{BroughtMemory, bring_memory};
 pub use closing::{Closed, close};
-pub use closing_fault::CloseFault;
+pub use closing_room::ClosingRoom;
 pub use fault::AttachFault;

@@ -1,13 +1,11 @@
 //! Pages in memory that stand in a row on a volume, brought home.
-ghost use Rattle.std.specs.Prelude.{◌≡◌, ◌+◌, ◌*◌, ◌^◌, ◌<◌, ◌≤◌, ℕ, IfErr, IsSome, OnOk, Some, length};
-ghost use Rattle.disk_label.specs.Fault.{HasPassed};
+ghost use Rattle.std.specs.Prelude.{◌≡◌, ◌+◌, ◌*◌, ◌^◌, ◌<◌, ◌≤◌, ℕ, IsSome, OnOk, Some, length};
 ghost use Rattle.staged_pages.specs.Store.{pages_of};
 ghost use Rattle.volume_disk.specs.Disk.{Tells};
 ghost use Rattle.volume_disk.specs.Image.{bytes_at};
-ghost use Rattle.volume_disk.specs.Run.{Touches};
-ghost use Rattle.domain_attaching.specs.Closing.{AreBetween, AreOnRack, HasFailed, IsOnRow, StandsHome, page_in};
+ghost use Rattle.volume_disk.specs.Run.{NamesWriteFault, Touches};
+ghost use Rattle.domain_attaching.specs.Closing.{AreBetween, AreOnRack, IsOnRow, StandsHome, page_in};
 
-use crate::closing_fault::CloseFault;
 use domain_base::limits::{BLOCKS_PER_PAGE, PAGE_BYTES};
 use domain_base::{Home, VolIx};
 use page_store::MetaPages;
@@ -67,7 +65,7 @@ fn write_changed<R: Rack>(
     first: u32,
     count: u32,
     found: &mut [u8],
-) -> Result<(), CloseFault>
+) -> Result<(), VolIx>
     requires there { AreBetween vol first (first + count)
         (λ home. IsSome (pages_of pages.now home)) }
     requires buffer { length found.old ≡ PAGE_BYTES * count }
@@ -77,26 +75,71 @@ fn write_changed<R: Rack>(
     ensures touches { Touches (R.disk rack.old) (R.disk rack.new) (IsOnRow vol first count) }
     ensures there { OnOk result (Tells (R.disk rack.old) → AreBetween vol first (first + count)
         (StandsHome (pages_of pages.now) (R.disk rack.new).now.contents)) }
-    ensures passed { OnOk result (HasPassed (R.disk rack.old) (R.disk rack.new)) }
-    ensures cause { IfErr result (HasFailed (R.disk rack.old) (R.disk rack.new)) }
+    ensures fault { NamesWriteFault (R.disk rack.old) (R.disk rack.new) result }
 {
     let mut at = 0;
     while at < count {
         let end = lay_changed(pages, vol, first, at, count, found);
         if at < end {
             let bytes = &found[at as usize * PAGE_BYTES..end as usize * PAGE_BYTES];
-            match write_blocks(rack, vol, BLOCKS_PER_PAGE * (first + at), bytes) {
-                Ok(()) => {}
-                Err(vol) => return Err(CloseFault::Write { vol }),
-            }
+            write_blocks(rack, vol, BLOCKS_PER_PAGE * (first + at), bytes)?;
         }
         at = end + 1;
     }
     Ok(())
 }
 
+/// Lays the pages in memory that stand in a row from one of a volume on over whatever there is.
+fn lay_all(pages: &StagedPages, vol: VolIx, first: u32, count: u32, found: &mut [u8])
+    requires there { AreBetween vol first (first + count)
+        (λ home. IsSome (pages_of pages.now home)) }
+    requires buffer { length found.old ≡ PAGE_BYTES * count }
+    requires fits { first + count < 2 ^ 32 }
+    ensures laid { (k : ℕ) → k < count
+        → pages_of pages.now (record { vol = vol; page = first + k })
+        ≡ Some (page_in found.new k) }
+    ensures buffer { length found.new ≡ length found.old }
+{
+    for k in 0..count {
+        let home = Home {
+            vol,
+            page: first + k,
+        };
+        let Some(page) = pages.get(home) else {
+            unreachable!()
+        };
+        let at = k as usize * PAGE_BYTES;
+        let part = &mut found[at..at + PAGE_BYTES];
+        part.copy_from_slice(page.bytes());
+    }
+}
+
+/// Writes the pages in memory that stand in a row from one of a volume on, whatever stands there, by
+/// one call.
+fn write_all<R: Rack>(
+    rack: &mut R,
+    pages: &StagedPages,
+    vol: VolIx,
+    first: u32,
+    count: u32,
+    found: &mut [u8],
+) -> Result<(), VolIx>
+    requires there { AreBetween vol first (first + count)
+        (λ home. IsSome (pages_of pages.now home)) }
+    requires some { 0 < count }
+    requires buffer { length found.old ≡ PAGE_BYTES * count }
+    requires on { AreOnRack (R.disk rack.old).sizes vol first count }
+    ensures touches { Touches (R.disk rack.old) (R.disk rack.new) (IsOnRow vol first count) }
+    ensures there { OnOk result (Tells (R.disk rack.old) → AreBetween vol first (first + count)
+        (StandsHome (pages_of pages.now) (R.disk rack.new).now.contents)) }
+    ensures fault { NamesWriteFault (R.disk rack.old) (R.disk rack.new) result }
+{
+    lay_all(pages, vol, first, count, found);
+    write_blocks(rack, vol, BLOCKS_PER_PAGE * first, found)
+}
+
 /// Brings pages in memory home that stand in a row on a volume: they are read by one call, and those
-/// that differ are written.
+/// that differ are written; all of them are where the read fails.
 pub(crate) fn bring_row<R: Rack>(
     rack: &mut R,
     pages: &StagedPages,
@@ -104,7 +147,7 @@ pub(crate) fn bring_row<R: Rack>(
     first: u32,
     count: u32,
     found: &mut [u8],
-) -> Result<(), CloseFault>
+) -> Result<(), VolIx>
     requires there { AreBetween vol first (first + count)
         (λ home. IsSome (pages_of pages.now home)) }
     requires on { AreOnRack (R.disk rack.old).sizes vol first count }
@@ -115,13 +158,11 @@ pub(crate) fn bring_row<R: Rack>(
     ensures touches { Touches (R.disk rack.old) (R.disk rack.new) (IsOnRow vol first count) }
     ensures there { OnOk result (Tells (R.disk rack.old) → AreBetween vol first (first + count)
         (StandsHome (pages_of pages.now) (R.disk rack.new).now.contents)) }
-    ensures passed { OnOk result (HasPassed (R.disk rack.old) (R.disk rack.new)) }
-    ensures cause { IfErr result (HasFailed (R.disk rack.old) (R.disk rack.new)) }
+    ensures fault { NamesWriteFault (R.disk rack.old) (R.disk rack.new) result }
 {
     let part = &mut found[..count as usize * PAGE_BYTES];
     match read_blocks(rack, vol, BLOCKS_PER_PAGE * first, part) {
-        Ok(()) => {}
-        Err(vol) => return Err(CloseFault::Read { vol }),
+        Ok(()) => write_changed(rack, pages, vol, first, count, part),
+        Err(_) => write_all(rack, pages, vol, first, count, part),
     }
-    write_changed(rack, pages, vol, first, count, part)
 }

@@ -1,13 +1,14 @@
 //! Which pages of a domain are those of tables.
-ghost use Rattle.std.specs.Prelude.{◌≡◌, ◌<◌, ℕ, Contains, IfOk, Some, length};
+ghost use Rattle.std.specs.Prelude.{◌≡◌, ◌≢◌, ◌-◌, ◌<◌, ◌≤◌, ℕ, Contains, IfOk, Some, length, slice_get};
 ghost use Rattle.anchor_laws.specs.Domain.{layout_of};
 ghost use Rattle.domain_memory.specs.Staged.{staged_in};
 ghost use Rattle.log_ring.specs.Homes.{member_of};
-ghost use Rattle.domain_attaching.specs.Tables.{AreTables, AreTablesOn, HasTagPage, IsTableHome, Marks, is_table};
+ghost use Rattle.domain_attaching.specs.Tables.{AreTables, HasMarksFor, HasMarksOn, HasTablesOn, HasTagPage, IsTableHome, Marks, is_table};
 
 use domain_base::limits::MAX_VOLUMES;
 use domain_base::{Home, OutOfMemory, VolIx};
 use domain_memory::DomainMemory;
+use page_ways::DomainFrame;
 use std::alloc::Global;
 
 /// Of each volume which of its pages are those of tables.
@@ -17,6 +18,46 @@ pub(crate) struct TablePages {
 }
 
 impl TablePages {
+    /// A mark for each page of the volumes of a frame.
+    pub(crate) fn room(alloc: Global, frame: &DomainFrame) -> Result<TablePages, OutOfMemory>
+        ensures { IfOk result (HasMarksFor frame.now.anchor) }
+    {
+        let mut volumes = Vec::new(alloc);
+        for number in 1..MAX_VOLUMES + 1 {
+            let Some(vol) = VolIx::new(number) else {
+                unreachable!()
+            };
+            volumes.push(room_on(alloc, frame, vol)?)?;
+        }
+        Ok(TablePages { volumes })
+    }
+
+    /// Marks the pages of all tables of a domain, and no others.
+    pub(crate) fn mark(&mut self, memory: &DomainMemory)
+        requires { HasMarksFor memory.now.frame.anchor self.old }
+        ensures { AreTables (layout_of (staged_in memory.now)) self.new }
+    {
+        for number in 1..MAX_VOLUMES + 1 {
+            let Some(vol) = VolIx::new(number) else {
+                unreachable!()
+            };
+            self.mark_on(memory, vol);
+        }
+    }
+
+    /// Marks a volume's pages of all tables, and no others of it.
+    fn mark_on(&mut self, memory: &DomainMemory, vol: VolIx)
+        requires { HasMarksOn memory.now.frame.anchor self.old vol }
+        ensures here { HasMarksOn memory.now.frame.anchor self.new vol }
+        ensures tables { HasTablesOn (layout_of (staged_in memory.now)) self.new vol }
+        ensures others { (k : ℕ) → k ≢ vol - 1
+            → slice_get self.new.volumes.items k ≡ slice_get self.old.volumes.items k }
+    {
+        let marks = &mut self.volumes[vol.index()];
+        marks.fill(false);
+        mark_tables(memory, vol, marks);
+    }
+
     /// Whether a page is one of a table.
     pub(crate) fn has(&self, home: &Home) -> bool
         ensures { result ≡ is_table self.now home.now }
@@ -102,29 +143,10 @@ fn mark_tables(memory: &DomainMemory, vol: VolIx, marks: &mut [bool])
     mark_table(memory, vol, marks);
 }
 
-/// Which pages of a volume are those of tables.
-#[tactic(auto, using(crate::proofs::TablesMarked::from_none))]
-fn tables_on(alloc: Global, memory: &DomainMemory, vol: VolIx) -> Result<Vec<bool>, OutOfMemory>
-    ensures count { IfOk result (λ marks. length marks.items
-        ≡ (member_of memory.now.frame.anchor vol).pages) }
-    ensures tables { IfOk result (λ marks. AreTablesOn (layout_of (staged_in memory.now)) vol
-        marks.items) }
+/// A mark for each page of a volume.
+fn room_on(alloc: Global, frame: &DomainFrame, vol: VolIx) -> Result<Vec<bool>, OutOfMemory>
+    ensures { IfOk result (λ marks. length marks.items ≡ (member_of frame.now.anchor vol).pages) }
 {
-    let mut marks = vec![in alloc; false; memory.frame.member(vol).pages as usize]?;
-    mark_tables(memory, vol, &mut marks);
+    let marks = vec![in alloc; false; frame.member(vol).pages as usize]?;
     Ok(marks)
-}
-
-/// Which pages of a domain are those of tables.
-pub(crate) fn table_pages(alloc: Global, memory: &DomainMemory) -> Result<TablePages, OutOfMemory>
-    ensures { IfOk result (AreTables (layout_of (staged_in memory.now))) }
-{
-    let mut volumes = Vec::new(alloc);
-    for number in 1..MAX_VOLUMES + 1 {
-        let Some(vol) = VolIx::new(number) else {
-            unreachable!()
-        };
-        volumes.push(tables_on(alloc, memory, vol)?)?;
-    }
-    Ok(TablePages { volumes })
 }

@@ -1,11 +1,11 @@
 -- A run over a domain that was opened, and its closing.
-use Rattle.std.proofs.Common.{◌≡◌, ◌∙◌, ℕ, ◌≤◌, List, All, Option, None, ⊎_elim, arith, inl, inr, refl, sym, subst}
+use Rattle.std.proofs.Common.{◌≡◌, ◌∙◌, ℕ, ◌≤◌, List, All, Option, None, ap, arith, refl, sym, subst}
 use Rattle.std.proofs.Math.Logic.{∥∥₁_map}
 use Rattle.domain_base.specs.declared.version.Version.{Version}
 use Rattle.page_store.specs.Pages.{Pages}
-use Rattle.volume_disk.specs.Disk.{Disk, Tells}
+use Rattle.volume_disk.specs.Disk.{Disk, Tells, raised_at}
 use Rattle.volume_disk.specs.Run.{Touches}
-use Rattle.volume_disk.proofs.Laws.{HasRisen-before, HasRisen-read, HasRisen-write}
+use Rattle.volume_disk.proofs.Laws.{HasRisen-before, HasRisen-write}
 use Rattle.fileset_model.specs.Filesets.{FilesetMap}
 use Rattle.fileset_model.specs.declared.command.Command.{Command}
 use Rattle.fileset_model.specs.declared.entry.Entry.{Entry}
@@ -25,14 +25,13 @@ use Rattle.domain_state.proofs.NewStart.{is_start}
 use Rattle.layout_laws.specs.NewDomain.{IsNew}
 use Rattle.domain_making.specs.Making.{IsOnFirst, new_frame, pages_in_use}
 use Rattle.domain_attaching.specs.Attaching.{IsReadFrom}
-use Rattle.domain_attaching.specs.Closing.{HasCloseCause, MeansKept}
-use Rattle.domain_attaching.specs.declared.closing_fault.CloseFault.{CloseFault}
-use Rattle.domain_attaching.specs.declared.closing_fault.CloseFault.TheVariants.{OutOfMemory, Read, Write}
+use Rattle.domain_attaching.specs.Closing.{HasRoomFor, MeansKept}
+use Rattle.domain_attaching.specs.declared.closing_room.ClosingRoom.{ClosingRoom}
+use Rattle.domain_attaching.proofs.AtClose.{room_of_other}
 use Rattle.domain_attaching.proofs.OneMeaning.{reads_so}
 use Rattle.run_parts.specs.declared.status.Status.{Status}
 use Rattle.run_parts.specs.declared.status.Status.TheVariants as status
-use Rattle.domain_runs.specs.Runs.{AreStampedWithin, ClosesAs, HasFailed, LeadsFrom, LeadsFromNew, NoneFailed, RunsFrom}
-use Rattle.domain_runs.specs.Statuses.{status_of_close}
+use Rattle.domain_runs.specs.Runs.{AreStampedWithin, ClosesAs, LeadsFrom, LeadsFromNew, RunsFrom, WriteFailed}
 
 -- ---- where a history leads
 
@@ -102,31 +101,22 @@ stamped_since old mid new entries low are k d there =
     let from = is.0 in
     (omega (arith, from, low), is.1)
 
--- ---- faults
+-- ---- closing
 
--- a call failed as the domain was closed
-failed_closing : (old new : Disk) (fault : CloseFault) → HasCloseCause old new fault → ClosesAs old new (status_of_close fault)
-failed_closing old new (Read vol) cause = inl (HasRisen-read old new vol cause.0)
-failed_closing old new (Write vol) cause = inr (HasRisen-write old new vol cause.1)
-failed_closing old new OutOfMemory cause = tt
+-- the room that was taken at the opening is that of the domain as it goes on
+pub room_still : (pages : Pages) (frame : Frame) (sizes : List ℕ) (memory : DomainMemory) (entries : List Entry) (job : Option Command) (room : ClosingRoom)
+    → ∥ GoesOn pages frame sizes memory entries job ∥₁ → HasRoomFor frame.anchor room → HasRoomFor memory.frame.anchor room
+room_still pages frame sizes memory entries job room goes = room_of_other frame.anchor memory.frame.anchor room (∥∥₁_map goes (λ on. ap (λ f. f.anchor) on.same))
 
-pub closes_with : (old new : Disk) (fault : CloseFault) (end : Status) → end ≡ status_of_close fault → HasCloseCause old new fault → ClosesAs old new end
-closes_with old new fault end is cause = subst (λ (e : Status). ClosesAs old new e) (sym is) (failed_closing old new fault cause)
+-- a write or a sync failed, and so it did since an earlier time
+pub failed_closing : (old new : Disk) (vol number : ℕ) → number ≡ vol → new.write_faults ≡ raised_at old.write_faults vol → WriteFailed old new number
+failed_closing old new vol number same is = subst (WriteFailed old new) (sym same) (HasRisen-write old new vol is)
 
--- so it did since an earlier time
-failed_since : (old mid new : Disk) (vol : ℕ) → Touches old mid Anywhere → HasFailed mid new vol → HasFailed old new vol
-failed_since old mid new vol touches = ⊎_elim
-    (λ read. inl (HasRisen-before (old.read_faults vol) (mid.read_faults vol) (new.read_faults vol) (touches.read_faults vol) read))
-    (λ wrote. inr (HasRisen-before (old.write_faults vol) (mid.write_faults vol) (new.write_faults vol) (touches.write_faults vol) wrote))
-
-pub closes_since : (old mid new : Disk) (end : Status) → Touches old mid Anywhere → NoneFailed old mid → ClosesAs mid new end → ClosesAs old new end
-closes_since old mid new status.Ok touches passed closes = (closes.0 ∙ passed.0, closes.1 ∙ passed.1)
-closes_since old mid new (status.VolumeFault vol) touches passed closes = failed_since old mid new vol touches closes
-closes_since old mid new status.OutOfMemory touches passed closes = tt
+pub closes_since : (old mid new : Disk) (end : Status) → Touches old mid Anywhere → mid.write_faults ≡ old.write_faults → ClosesAs mid new end → ClosesAs old new end
+closes_since old mid new status.Ok touches passed closes = closes ∙ passed
+closes_since old mid new (status.VolumeFault vol) touches passed closes = HasRisen-before (old.write_faults vol) (mid.write_faults vol) (new.write_faults vol) (touches.write_faults vol) closes
 closes_since old mid new other touches passed closes = closes
 
 -- a domain that was not closed has not ended well
-pub closes_not : (fault : CloseFault) (end : Status) → end ≡ status_of_close fault → end ≡ status.Ok → ⊥
-closes_not (Read vol) end is ok = let bad : status.VolumeFault vol ≡ status.Ok = sym is ∙ ok in cc
-closes_not (Write vol) end is ok = let bad : status.VolumeFault vol ≡ status.Ok = sym is ∙ ok in cc
-closes_not OutOfMemory end is ok = let bad : status.OutOfMemory ≡ status.Ok = sym is ∙ ok in cc
+pub fault_not_ok : (vol : ℕ) → status.VolumeFault vol ≡ status.Ok → ⊥
+fault_not_ok vol is = cc

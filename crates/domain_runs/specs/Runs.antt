@@ -81,9 +81,13 @@ AreStampedWithin old new entries = All (λ e. (old.calls ≤ e.stamp) × (e.stam
 
 -- ** Why a run does not begin, or its domain is not closed
 
--- no read has failed, and no write or sync
-abbrev pub NoneFailed : Disk → Disk → Type 0
-NoneFailed old new = (new.read_faults ≡ old.read_faults) × (new.write_faults ≡ old.write_faults)
+-- no write or sync has failed
+abbrev pub WritesPassed : Disk → Disk → Type 0
+WritesPassed old new = new.write_faults ≡ old.write_faults
+
+-- one of the volume has failed
+abbrev pub WriteFailed : Disk → Disk → ℕ → Type 0
+WriteFailed old new vol = HasRisen (old.write_faults vol) (new.write_faults vol)
 
 -- a read of the volume has failed, or a write or a sync
 abbrev pub HasFailed : Disk → Disk → ℕ → Type 0
@@ -122,9 +126,8 @@ MakesNone old new (status.VolumeFault vol) = HasFailed old new vol
 MakesNone old new status.OutOfMemory = Unit {0}
 MakesNone old new other = ⊥
 
--- a domain was closed, and no call has failed; or it was not: a call failed, or want of memory
+-- a domain was closed, and no write or sync has failed; or it was not, for one of the volume failed
 abbrev pub ClosesAs : Disk → Disk → Status → Type 0
-ClosesAs old new status.Ok = NoneFailed old new
-ClosesAs old new (status.VolumeFault vol) = HasFailed old new vol
-ClosesAs old new status.OutOfMemory = Unit {0}
+ClosesAs old new status.Ok = WritesPassed old new
+ClosesAs old new (status.VolumeFault vol) = WriteFailed old new vol
 ClosesAs old new other = ⊥

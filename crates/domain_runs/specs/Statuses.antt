@@ -8,8 +8,6 @@ use Rattle.domain_making.specs.declared.fault.MakeFault.{MakeFault}
 use Rattle.domain_making.specs.declared.fault.MakeFault.TheVariants as making
 use Rattle.domain_attaching.specs.declared.fault.AttachFault.{AttachFault}
 use Rattle.domain_attaching.specs.declared.fault.AttachFault.TheVariants as attaching
-use Rattle.domain_attaching.specs.declared.closing_fault.CloseFault.{CloseFault}
-use Rattle.domain_attaching.specs.declared.closing_fault.CloseFault.TheVariants as closing
 use Rattle.run_parts.specs.declared.status.Status.{Status}
 use Rattle.run_parts.specs.declared.status.Status.TheVariants.{NotADomain, OutOfMemory, Unfit as IsUnfit, VolumeFault, VolumeSmall}
 use Rattle.run_parts.specs.declared.status.Unattached.TheVariants as why
@@ -39,8 +37,3 @@ abbrev pub status_of_make : MakeFault → Status
 status_of_make (making.VolumeSmall pages) = VolumeSmall pages
 status_of_make (making.Fault vol) = VolumeFault vol
 status_of_make making.OutOfMemory = OutOfMemory
-
-abbrev pub status_of_close : CloseFault → Status
-status_of_close (closing.Read vol) = VolumeFault vol
-status_of_close (closing.Write vol) = VolumeFault vol
-status_of_close closing.OutOfMemory = OutOfMemory

@@ -7,6 +7,7 @@ ghost use Rattle.page_ways.specs.Frame.{frame_in};
 ghost use Rattle.staged_pages.specs.Store.{before_of};
 ghost use Rattle.domain_base.specs.Limits.{min_first_volume_pages};
 ghost use Rattle.domain_making.specs.Making.{HasNoOtherAnchor};
+ghost use Rattle.domain_attaching.specs.Closing.{HasRoomFor};
 ghost use Rattle.client_turns.specs.Staged.{IsSettled};
 ghost use Rattle.client_turns.specs.Ending.{IsServed};
 ghost use Rattle.client_turns.specs.Quiet.{TellNoFault};
@@ -14,9 +15,9 @@ ghost use Rattle.script_text.specs.Turns.{turn_of, turns_of};
 ghost use Rattle.domain_runs.specs.Runs.{AreStampedWithin, BeginsNot, ClosesAs, LeadsFrom, LeadsFromNew, MakesNone, RunsFrom};
 ghost use Rattle.run_parts.specs.declared.status.Status.TheVariants as status;
 
-use crate::statuses::{status_of_attaching, status_of_closing, status_of_making};
+use crate::statuses::{status_of_attaching, status_of_making};
 use client_turns::{Gate, answer_sections};
-use domain_attaching::{Closed, attach, close};
+use domain_attaching::{Closed, ClosingRoom, attach, close};
 use domain_base::{Version, VolIx};
 use domain_state::{Attached, Domain, Opening, make};
 use fileset_model::{Entry, Told};
@@ -47,8 +48,9 @@ fn count_commands(sections: &[Section]) -> Option<usize>
     Some(count)
 }
 
-/// Closes a domain in which commands were answered.
-fn end_run<R: Rack, O: Opening>(alloc: Global, domain: Domain<R, O>) -> Ran<R>
+/// Closes a domain in which commands were answered, in the room that was taken for that.
+fn end_run<R: Rack, O: Opening>(domain: Domain<R, O>, room: ClosingRoom) -> Ran<R>
+    requires room { HasRoomFor O.frame.anchor room }
     requires settled { IsSettled domain.memory }
     requires begun { ⟦<Domain<R, O> as Told>⟧.begun domain ≡ None }
     ensures history { result.history.items ≡ ⟦<Domain<R, O> as Told>⟧.history domain }
@@ -57,28 +59,30 @@ fn end_run<R: Rack, O: Opening>(alloc: Global, domain: Domain<R, O>) -> Ran<R>
     ensures touches { Touches (R.disk domain.history.rack) (R.disk result.rack) Anywhere }
     ensures ends { ClosesAs (R.disk domain.history.rack) (R.disk result.rack) result.end }
 {
-    match close(alloc, domain) {
+    match close(domain, room) {
         Ok(Closed { rack, history }) => Ran {
             rack,
             history,
             end: Status::Ok,
         },
-        Err((Closed { rack, history }, fault)) => Ran {
+        Err((Closed { rack, history }, vol)) => Ran {
             rack,
             history,
-            end: status_of_closing(&fault),
+            end: Status::VolumeFault { vol: vol.number() },
         },
     }
 }
 
 /// Answers the commands of sections in a domain whose history has begun with room for all of them,
-/// and closes it.
+/// and closes it in the room that was taken for that.
 fn run_begun<R: Rack, O: Opening, G: Gate>(
     alloc: Global,
     domain: Domain<R, O>,
+    closing: ClosingRoom,
     sections: Vec<Section>,
     gate: &G,
 ) -> Ran<R>
+    requires closing { HasRoomFor O.frame.anchor closing }
     requires rests { ⟦<Domain<R, O> as Told>⟧.rests domain }
     requires room { sum_by (λ section. length section.commands) sections.items
         ≤ ⟦<Domain<R, O> as Told>⟧.room domain }
@@ -99,37 +103,42 @@ fn run_begun<R: Rack, O: Opening, G: Gate>(
         unreachable!();
     };
     let domain = answer_sections(domain, alloc, sections, first, gate);
-    end_run(alloc, domain)
+    end_run(domain, closing)
 }
 
-/// Begins the history of a domain that was attached or made, with room for so many entries; where
-/// that is not to be had its rack comes back.
+/// Begins the history of a domain that was attached or made, with room for so many entries, and takes
+/// the room in which it is closed; where one of these is not to be had its rack comes back.
 fn begin_run<R: Rack, O: Opening>(
     alloc: Global,
     attached: Attached<R>,
     count: usize,
-) -> Result<Domain<R, O>, R>
+) -> Result<(Domain<R, O>, ClosingRoom), R>
     requires pages { O.pages ≡ before_of attached.memory.pages }
     requires frame { O.frame ≡ frame_in attached.memory.frame }
     requires sizes { O.sizes ≡ (R.disk attached.rack).sizes }
-    ensures rests { IfOk result (λ domain. ⟦<Domain<R, O> as Told>⟧.rests domain) }
-    ensures room { IfOk result (λ domain. count ≤ ⟦<Domain<R, O> as Told>⟧.room domain) }
-    ensures settled { IfOk result (λ domain. IsSettled domain.memory) }
-    ensures first { IfOk result (λ domain. ⟦<Domain<R, O> as Told>⟧.history domain ≡ []) }
-    ensures begun { IfOk result (λ domain. ⟦<Domain<R, O> as Told>⟧.begun domain ≡ None) }
-    ensures rack { IfOk result (λ domain. domain.history.rack ≡ attached.rack) }
+    ensures closing { IfOk result (λ begun. HasRoomFor O.frame.anchor begun.1) }
+    ensures rests { IfOk result (λ begun. ⟦<Domain<R, O> as Told>⟧.rests begun.0) }
+    ensures room { IfOk result (λ begun. count ≤ ⟦<Domain<R, O> as Told>⟧.room begun.0) }
+    ensures settled { IfOk result (λ begun. IsSettled begun.0.memory) }
+    ensures first { IfOk result (λ begun. ⟦<Domain<R, O> as Told>⟧.history begun.0 ≡ []) }
+    ensures begun { IfOk result (λ begun. ⟦<Domain<R, O> as Told>⟧.begun begun.0 ≡ None) }
+    ensures rack { IfOk result (λ begun. begun.0.history.rack ≡ attached.rack) }
     ensures back { IfErr result (λ rack. rack ≡ attached.rack) }
 {
     let mut domain: Domain<R, O> = Domain::begin(alloc, attached);
     domain.discard();
+    let Ok(closing) = ClosingRoom::take(alloc, &domain.memory().frame) else {
+        return Err(domain.into_rack());
+    };
     match domain.reserve_history(count) {
-        Ok(()) => Ok(domain),
+        Ok(()) => Ok((domain, closing)),
         Err(_) => Err(domain.into_rack()),
     }
 }
 
 /// Answers the commands of sections over a domain that was attached or made, and closes it. Room
-/// for all of them is taken before the first; where that is not to be had the rack comes back.
+/// for all of them and for closing is taken before the first; where that is not to be had the rack
+/// comes back.
 fn run_attached<R: Rack, O: Opening, G: Gate>(
     alloc: Global,
     attached: Attached<R>,
@@ -156,7 +165,7 @@ fn run_attached<R: Rack, O: Opening, G: Gate>(
         return Err(attached.into_rack());
     };
     match begin_run::<R, O>(alloc, attached, count) {
-        Ok(domain) => Ok(run_begun(alloc, domain, sections, gate)),
+        Ok((domain, closing)) => Ok(run_begun(alloc, domain, closing, sections, gate)),
         Err(rack) => Err(rack),
     }
 }
@@ -165,8 +174,9 @@ fn run_attached<R: Rack, O: Opening, G: Gate>(
 /// section after another, and closes it. Each has a served command alone.
 ///
 /// Where the domain is not attached, the status tells why: `NotADomain`, `Unfit`, `VolumeFault` or
-/// `OutOfMemory`, which comes also where there is no room for the history. No command was answered
-/// then. `VolumeFault` and `OutOfMemory` of closing come behind the history.
+/// `OutOfMemory`, which comes also where there is no room for the history or for closing. No command
+/// was answered then. Behind the history comes `VolumeFault` alone, where a write or a sync failed as
+/// the domain was closed; a page that cannot be read then is written.
 pub fn run_on<R: Rack, G: Gate>(
     alloc: Global,
     rack: R,
@@ -199,7 +209,7 @@ pub fn run_on<R: Rack, G: Gate>(
 ///
 /// Where no domain is made, the status tells why: `VolumeSmall` exactly where the volume has fewer
 /// than 160 pages, `VolumeFault`, or `OutOfMemory`, which comes also where there is no room for the
-/// history.
+/// history or for closing.
 pub fn run_new<R: Rack, G: Gate>(
     alloc: Global,
     rack: R,

@@ -1,9 +1,9 @@
 //! The statuses of runs over a domain.
 ghost use Rattle.std.specs.Prelude.{◌≡◌};
-ghost use Rattle.domain_runs.specs.Statuses.{status_of_attach, status_of_close, status_of_make, status_of_settle, status_of_unfit};
+ghost use Rattle.domain_runs.specs.Statuses.{status_of_attach, status_of_make, status_of_settle, status_of_unfit};
 
 use disk_label::SlotFault;
-use domain_attaching::{AttachFault, CloseFault, Unfit};
+use domain_attaching::{AttachFault, Unfit};
 use domain_making::MakeFault;
 use log_settling::SettleFault;
 use run_parts::{Status, Unattached};
@@ -67,16 +67,5 @@ pub(crate) fn status_of_making(fault: &MakeFault) -> Status
         MakeFault::VolumeSmall { pages } => Status::VolumeSmall { pages: *pages },
         MakeFault::Fault { vol } => Status::VolumeFault { vol: vol.number() },
         MakeFault::OutOfMemory => Status::OutOfMemory,
-    }
-}
-
-/// Why a domain was not closed.
-pub(crate) fn status_of_closing(fault: &CloseFault) -> Status
-    ensures { result ≡ status_of_close fault.now }
-{
-    match fault {
-        CloseFault::Read { vol } => Status::VolumeFault { vol: vol.number() },
-        CloseFault::Write { vol } => Status::VolumeFault { vol: vol.number() },
-        CloseFault::OutOfMemory => Status::OutOfMemory,
     }
 }

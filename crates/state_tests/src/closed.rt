@@ -4,7 +4,7 @@ ghost use Rattle.page_ways.specs.Frame.{frame_in};
 ghost use Rattle.staged_pages.specs.Store.{before_of};
 
 use crate::telling::{Row, all_told, history_of, lines_of, wanted};
-use domain_attaching::{attach, close};
+use domain_attaching::{ClosingRoom, attach, close};
 use domain_base::limits::FILESET_SLOTS;
 use domain_base::{FilesetNo, Version};
 use domain_state::{Attached, Domain, Opening, make};
@@ -33,9 +33,10 @@ fn closed<R: Rack + Drop, O: Opening>(
     if found.as_slice() != wanted(alloc, rows)?.as_slice() {
         return Err(Fail::from("each reply"));
     }
-    match close(alloc, domain) {
+    let room = ClosingRoom::take(alloc, &domain.memory().frame)?;
+    match close(domain, room) {
         Ok(closed) => Ok(closed.rack),
-        Err((_closed, fault)) => Err(Fail::from(fault)),
+        Err(_) => Err(Fail::from("closing")),
     }
 }
 

@@ -1,7 +1,7 @@
 use Rattle.std.proofs.Common.{List, inl, ap, subst, sym}
 use Rattle.fileset_model.specs.declared.entry.Entry.{Entry}
 use Rattle.domain_runs.specs.Quiet.{TellNoFault}
-use Rattle.advfs_run.proofs.Endings.{ended_read, ended_run, follows, refused_run, unbegun_ends, unbegun_read, unbegun_run, unread_begun}
+use Rattle.advfs_run.proofs.Endings.{ended_lost, ended_read, ended_run, follows, refused_run, unbegun_ends, unbegun_read, unbegun_run, unread_begun}
 use Rattle.advfs_run.proofs.running.run_script.Goals as goal
 
 pub returns-in-Ok-answer-clause-read : goal.returns-in-Ok-answer-clause-read
@@ -35,3 +35,13 @@ returns-in-Err-answer-clause-ends g c =
 
 pub returns-in-Ok-answer-clause-quiet : goal.returns-in-Ok-answer-clause-quiet
 returns-in-Ok-answer-clause-quiet g c = subst (λ (l : List Entry). TellNoFault l) (sym c.print_ran.ensures.history) c.in-Ok-answer.ensures.quiet
+
+pub returns-in-Ok-answer-clause-lost : goal.returns-in-Ok-answer-clause-lost
+returns-in-Ok-answer-clause-lost g c =
+    rw (c.print_ran.ensures.rack) (λ vol is some. ended_lost _ _ c.print_ran.ensures.status (g.R.Rack.disk c.args.rack) (g.R.Rack.disk c.in-Ok-answer.ran.rack) c.in-Ok-answer.ensures.ends vol is)
+
+pub returns-in-Err-answer-clause-lost : goal.returns-in-Err-answer-clause-lost
+returns-in-Err-answer-clause-lost g c = λ vol is some. absurd (some c.unanswered-in-Err-answer.ensures.history)
+
+pub returns-in-Err-clause-lost : goal.returns-in-Err-clause-lost
+returns-in-Err-clause-lost g c = λ vol is some. absurd (some c.unanswered.ensures.history)

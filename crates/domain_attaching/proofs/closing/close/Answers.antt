@@ -1,7 +1,8 @@
-use Rattle.std.proofs.Common.{◌∙◌, sym, ap, subst}
-use Rattle.volume_disk.specs.Disk.{Disk}
-use Rattle.disk_label.specs.Fault.{HasPassed}
+use Rattle.std.proofs.Common.{◌≡◌, ◌∙◌, sym, ap, subst}
+use Rattle.volume_disk.specs.Disk.{Disk, raised_at}
 use Rattle.log_ring.specs.Homes.{HasMembers}
+use Rattle.domain_memory.specs.declared.memory.DomainMemory.{DomainMemory}
+use Rattle.domain_attaching.specs.Closing.{HasRoomFor}
 use Rattle.domain_attaching.proofs.AtClose.{asks_members, closed_then, means_then}
 use Rattle.domain_attaching.proofs.InOrder.{order_there, so_far_there}
 use Rattle.domain_attaching.proofs.closing.close.Goals as goal
@@ -9,6 +10,7 @@ use Rattle.domain_attaching.proofs.closing.close.Goals as goal
 pub write_back-requires : goal.write_back-requires
 write_back-requires g c = record {
   members = subst (λ (d : Disk). HasMembers d.sizes c.apart-memory.result.0.frame.anchor) (sym (ap g.R.Rack.disk c.into_parts-rack.ensures.rack)) (asks_members (g.R.Rack.disk c.apart-memory.result.1.rack) c.apart-memory.result.0.frame.anchor c.apart-memory.ensures.rest);
+  room = subst (λ (m : DomainMemory). HasRoomFor m.frame.anchor c.args.room) (sym c.apart-memory.ensures.memory) c.requires.room;
 }
 
 pub returns-in-Ok-clause-closed : goal.returns-in-Ok-clause-closed
@@ -36,4 +38,9 @@ returns-clause-order_at_fault g c =
 pub returns-in-Ok-clause-passed : goal.returns-in-Ok-clause-passed
 returns-in-Ok-clause-passed g c =
     let disk = g.R.Rack.disk in
-    subst (λ (d : Disk). HasPassed d (disk c.write_back.new.rack)) (ap disk (c.into_parts-rack.ensures.rack ∙ ap (λ h. h.rack) c.apart-memory.ensures.history)) c.in-Ok.ensures.passed
+    subst (λ (d : Disk). (disk c.write_back.new.rack).write_faults ≡ d.write_faults) (ap disk (c.into_parts-rack.ensures.rack ∙ ap (λ h. h.rack) c.apart-memory.ensures.history)) c.in-Ok.ensures.fault
+
+pub returns-clause-cause : goal.returns-clause-cause
+returns-clause-cause g c =
+    let disk = g.R.Rack.disk in
+    subst (λ (d : Disk). (disk c.write_back.new.rack).write_faults ≡ raised_at d.write_faults c.in-Err.vol) (ap disk (c.into_parts-rack.ensures.rack ∙ ap (λ h. h.rack) c.apart-memory.ensures.history)) c.in-Err.ensures.fault

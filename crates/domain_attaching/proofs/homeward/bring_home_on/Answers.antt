@@ -4,7 +4,7 @@ use Rattle.domain_base.specs.declared.place.Home.{Home}
 use Rattle.disk_label.specs.declared.anchor.Member.{Member}
 use Rattle.staged_pages.specs.Store.{pages_of}
 use Rattle.domain_attaching.specs.Closing.{IsChosen, IsOnThese, StandsHome}
-use Rattle.domain_attaching.proofs.HomeKept.{all_home_on, members_still, passed_then, stay_then}
+use Rattle.domain_attaching.proofs.HomeKept.{all_home_on, members_still, stay_then}
 use Rattle.domain_attaching.proofs.Rows.{by_count, by_end, homes_more, next_page, row_on_rack, row_on_these, stay_row}
 use Rattle.domain_attaching.proofs.homeward.bring_home_on.Goals as goal
 use Rattle.domain_attaching.proofs.homeward.bring_home_on.Goals.{else-page-end, then-page-end+in_ok-bring_row}
@@ -30,7 +30,7 @@ loop-page-init g c =
     record {
       touches = touches-none old (IsOnThese (IsChosen c.args.memory.now.frame.anchor c.args.tables.now c.args.of_tables));
       buffer = c.requires.buffer;
-      passed = (refl, refl);
+      passed = refl;
       stays = λ told home was. was;
       there = λ told home is. let below = is.1 in absurd (omega (arith, below));
     }
@@ -59,7 +59,7 @@ loop-page-preserved g c =
           (record {
             touches = touches-then old mid new (IsOnThese These) so_far.touches (row_on_these mid new These vol first (end - first) (by_count vol first end These row.from (λ page low high. (row.row page low high).0)) touched);
             buffer = w.bring_row.ensures.buffer;
-            passed = passed_then old mid new so_far.passed w.in_ok-bring_row.ensures.passed;
+            passed = w.in_ok-bring_row.ensures.fault ∙ so_far.passed;
             stays = stay_then pages anchor old mid new (IsOnThese These) so_far.touches so_far.stays stays;
             there = λ told.
                 let told_mid = so_far.touches.told ∙ told in

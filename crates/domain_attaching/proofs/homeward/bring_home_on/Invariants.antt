@@ -2,7 +2,6 @@ use Rattle.std.proofs.Common.{◌≡◌, ◌-◌, ◌*◌, ◌<◌, length}
 use Rattle.log_ring.specs.Homes.{member_of}
 use Rattle.volume_disk.specs.Disk.{Tells}
 use Rattle.volume_disk.specs.Run.{Touches}
-use Rattle.disk_label.specs.Fault.{HasPassed}
 use Rattle.staged_pages.specs.Store.{pages_of}
 use Rattle.domain_attaching.specs.Closing.{AreTheseHome, IsChosen, IsOnThese, StayHome}
 use Rattle.domain_attaching.proofs.homeward.bring_home_on.Given as goal
@@ -14,7 +13,7 @@ invariant-loop-page g l =
     record {
       touches : Touches (disk l.fn.rack) (disk l.rack) (IsOnThese (IsChosen anchor l.tables l.of_tables));
       buffer : length l.found ≡ 8192 * 64;
-      passed : HasPassed (disk l.fn.rack) (disk l.rack);
+      passed : (disk l.rack).write_faults ≡ (disk l.fn.rack).write_faults;
       stays : StayHome (pages_of l.memory.pages) anchor (disk l.fn.rack) (disk l.rack);
       there : Tells (disk l.fn.rack) → AreTheseHome (λ home. (home.vol ≡ l.vol) × (home.page < l.page) × IsChosen anchor l.tables l.of_tables home) (pages_of l.memory.pages) anchor (disk l.rack).now.contents;
     }

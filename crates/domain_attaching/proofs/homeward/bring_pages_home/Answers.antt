@@ -3,7 +3,7 @@ use Rattle.domain_base.specs.declared.place.Home.{Home}
 use Rattle.volume_disk.proofs.Laws.{touches-none, touches-then}
 use Rattle.staged_pages.specs.Store.{pages_of}
 use Rattle.domain_attaching.specs.Closing.{AreTheseHome, IsChosen, IsOnThese}
-use Rattle.domain_attaching.proofs.HomeKept.{members_still, one_volume_more, passed_then, stay_then}
+use Rattle.domain_attaching.proofs.HomeKept.{members_still, one_volume_more, stay_then}
 use Rattle.domain_attaching.proofs.homeward.bring_pages_home.Goals as goal
 
 pub bring_home_on-requires-clause-members : goal.bring_home_on-requires-clause-members
@@ -16,7 +16,7 @@ loop-number-init g c =
     record {
       touches = touches-none old (IsOnThese (IsChosen c.args.memory.now.frame.anchor c.args.tables.now c.args.of_tables));
       buffer = c.requires.buffer;
-      passed = (refl, refl);
+      passed = refl;
       stays = λ told home was. was;
       there = λ told home is loggable. let below = is.0 in let first = loggable.first_volume in absurd (omega (arith, below, first));
     }
@@ -33,7 +33,7 @@ loop-number-preserved g c =
     record {
       touches = touches-then old mid new (IsOnThese These) so_far.touches c.bring_home_on.ensures.touches;
       buffer = c.bring_home_on.ensures.buffer;
-      passed = passed_then old mid new so_far.passed c.in_ok-bring_home_on.ensures.passed;
+      passed = c.in_ok-bring_home_on.ensures.fault ∙ so_far.passed;
       stays = stay_then pages anchor old mid new (IsOnThese These) so_far.touches so_far.stays c.in_ok-bring_home_on.ensures.stays;
       there = λ told.
           let told_mid = so_far.touches.told ∙ told in

@@ -9,14 +9,14 @@ use Rattle.domain_bringing.proofs.PagesRead.{read_in}
 use Rattle.domain_attaching.specs.Closing.{IsOnRow}
 use Rattle.domain_attaching.proofs.Rows.{all_of_row, home_more, part_of_row, passed_over, read_more}
 use Rattle.domain_attaching.proofs.row.write_changed.Goals as goal
-use Rattle.domain_attaching.proofs.row.write_changed.Goals.{else-at-end, then-at-end+in-Ok}
+use Rattle.domain_attaching.proofs.row.write_changed.Goals.{else-at-end, then-at-end+in_ok-write_blocks}
 
 pub loop-at-init : goal.loop-at-init
 loop-at-init g c =
     let old = g.R.Rack.disk c.args.rack.now in
     record {
       touches = touches-none old (IsOnRow c.args.vol c.args.first c.args.count);
-      passed = (refl, refl);
+      passed = refl;
       size = c.requires.buffer;
       home = λ told k less. absurd (omega (arith, less));
       read = λ told k low inside. read_in old.now.contents c.args.vol c.args.first c.args.count k (8192 * k) (8192 * k + 8192) c.args.found.now (c.requires.read told) inside refl refl;
@@ -38,7 +38,7 @@ loop-at-preserved g c =
     let mid = g.R.Rack.disk c.loop-at.rack in
     let size : length laid ≡ 8192 * count = is.buffer ∙ so.size in
     elim c.if-at-end.branch [
-      | then-at-end+in-Ok w ↦
+      | then-at-end+in_ok-write_blocks w ↦
           let new = g.R.Rack.disk w.write_blocks.new.rack in
           let bytes : List ℕ = slice_range laid (at * 8192) (end * 8192) in
           let fits : end * 8192 ≤ length laid = omega (arith, size, is.most) in
@@ -48,13 +48,13 @@ loop-at-preserved g c =
           rw (w.rack-is)
           (record {
             touches = touches-then old mid new (IsOnRow vol first count) so.touches (touches-wider mid new (IsIn vol (512 * (16 * (first + at))) (length bytes)) (IsOnRow vol first count) (part_of_row vol first count at end (length bytes) long is.from is.most) touched);
-            passed = (w.write_blocks.ensures.writes.read_faults ∙ so.passed.0, w.in-Ok.ensures.fault ∙ so.passed.1);
+            passed = w.in_ok-write_blocks.ensures.fault ∙ so.passed;
             size = size;
             home = λ told.
                 let told_mid = so.touches.told ∙ told in
                 home_more pages vol first count at end found laid mid.now.contents new.now.contents is.from size is.most is.laid is.rest (so.home told) (so.read told)
                 (outside told_mid)
-                (λ k low less. written_in new.now.contents vol first at end k (8192 * k) (8192 * k + 8192) (at * 8192) (end * 8192) laid bytes refl refl refl fits (w.in-Ok.ensures.written told_mid).written low less refl refl);
+                (λ k low less. written_in new.now.contents vol first at end k (8192 * k) (8192 * k + 8192) (at * 8192) (end * 8192) laid bytes refl refl refl fits (w.in_ok-write_blocks.ensures.written told_mid).written low less refl refl);
             read = λ told.
                 let told_mid = so.touches.told ∙ told in
                 read_more pages vol first count at end found laid mid.now.contents new.now.contents is.rest (so.read told) is.from (outside told_mid);
@@ -72,8 +72,8 @@ loop-at-preserved g c =
           })
     ]
 
-pub returns-in-Err-clause-touches : goal.returns-in-Err-clause-touches
-returns-in-Err-clause-touches g c =
+pub returns-in_err-write_blocks-clause-touches : goal.returns-in_err-write_blocks-clause-touches
+returns-in_err-write_blocks-clause-touches g c =
     let vol = c.args.vol in
     let first = c.args.first in
     let count = c.args.count in

@@ -1,5 +1,4 @@
 use Rattle.std.proofs.Common.{◌-◌, ◌≡◌, ◌+◌, ◌*◌, ◌<◌, ◌≤◌, ℕ, length}
-use Rattle.disk_label.specs.Fault.{HasPassed}
 use Rattle.staged_pages.specs.Store.{pages_of}
 use Rattle.volume_disk.specs.Disk.{Tells}
 use Rattle.volume_disk.specs.Image.{page_at}
@@ -12,7 +11,7 @@ invariant-loop-at g l =
     let disk = g.R.Rack.disk in
     record {
       touches : Touches (disk l.fn.rack) (disk l.rack) (IsOnRow l.vol l.first l.count);
-      passed : HasPassed (disk l.fn.rack) (disk l.rack);
+      passed : (disk l.rack).write_faults ≡ (disk l.fn.rack).write_faults;
       size : length l.found ≡ 8192 * l.count;
       home : Tells (disk l.fn.rack) → (k : ℕ) → k < l.at → k < l.count → StandsHome (pages_of l.pages) (disk l.rack).now.contents (record { vol = l.vol; page = l.first + k });
       read : Tells (disk l.fn.rack) → (k : ℕ) → l.at ≤ k → k < l.count → page_in l.found k ≡ page_at (disk l.rack).now.contents l.vol (l.first + k);

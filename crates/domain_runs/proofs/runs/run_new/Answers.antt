@@ -24,4 +24,4 @@ returns-in-Ok-run_attached-clause-ends g c =
     let disk = g.R.Rack.disk in
     let old = disk c.args.rack in
     let made = disk c.in-Ok.made.rack in
-    closes_since old made (disk c.in-Ok-run_attached.ran.rack) c.in-Ok-run_attached.ran.end (anywhere old made IsOnFirst c.in-Ok.ensures.touches) c.in-Ok.ensures.passed c.in-Ok-run_attached.ensures.ends
+    closes_since old made (disk c.in-Ok-run_attached.ran.rack) c.in-Ok-run_attached.ran.end (anywhere old made IsOnFirst c.in-Ok.ensures.touches) c.in-Ok.ensures.passed.1 c.in-Ok-run_attached.ensures.ends

@@ -34,4 +34,4 @@ returns-in-Err-run_attached-clause-none g c =
 pub returns-in-Ok-run_attached-clause-ends : goal.returns-in-Ok-run_attached-clause-ends
 returns-in-Ok-run_attached-clause-ends g c =
     let disk = g.R.Rack.disk in
-    closes_since (disk c.args.rack) (disk c.in-Ok.attached.rack) (disk c.in-Ok-run_attached.ran.rack) c.in-Ok-run_attached.ran.end c.in-Ok.ensures.touches c.in-Ok.ensures.passed c.in-Ok-run_attached.ensures.ends
+    closes_since (disk c.args.rack) (disk c.in-Ok.attached.rack) (disk c.in-Ok-run_attached.ran.rack) c.in-Ok-run_attached.ran.end c.in-Ok.ensures.touches c.in-Ok.ensures.passed.1 c.in-Ok-run_attached.ensures.ends

@@ -1,0 +1,11 @@
+use Rattle.std.proofs.Common.{◌≡◌, ◌+◌, ◌*◌, ◌<◌, ◌≤◌, ℕ, Some, length}
+use Rattle.staged_pages.specs.Store.{pages_of}
+use Rattle.domain_attaching.specs.Closing.{page_in}
+use Rattle.domain_attaching.proofs.row.lay_all.Given as goal
+
+abbrev pub invariant-loop-k : goal.invariant-loop-k
+invariant-loop-k l = record {
+  high : l.k ≤ l.count;
+  size : length l.found ≡ 8192 * l.count;
+  laid : (j : ℕ) → j < l.k → pages_of l.pages (record { vol = l.vol; page = l.first + j }) ≡ Some (page_in l.found j);
+}
