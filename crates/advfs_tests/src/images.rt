@@ -6,6 +6,7 @@ ghost use Rattle.volume_disk.specs.Disk.{AreBlocks};
 use crate::outcome::{told, words_of};
 use advfs_run::{Ended, Form, MemorySink, MemorySource, NoGate, form_asked, run};
 use domain_base::VolIx;
+use domain_base::limits::PAGE_BYTES;
 use memory_disk::MemoryRack;
 use std::alloc::{AllocError, Global};
 use std::test::Fail;
@@ -13,28 +14,38 @@ use volume_disk::Rack;
 
 /// A rack of one volume.
 #[derive(Drop)]
-struct Image {
+pub(crate) struct Image {
     rack: MemoryRack,
     ghost one: { length (memory_disk rack).sizes ≡ 1 },
 }
 
 /// One with so many pages of zeros, of which these calls fail.
-fn zero_image(alloc: Global, pages: u32, fails: &[u64]) -> Result<Image, AllocError> {
+pub(crate) fn zero_image(alloc: Global, pages: u32, fails: &[u64]) -> Result<Image, AllocError> {
     let rack = MemoryRack::new(alloc, &[pages], fails, false)?;
     Ok(Image { rack })
 }
 
 /// What is asked of a program, and the script that it is given.
-type Call = (&'static [&'static str], &'static str);
+pub(crate) type Call = (&'static [&'static str], &'static str);
 
 /// The outcome of a call, and the image after it. No script is tried over it.
-fn run_on(alloc: Global, image: Image, call: Call) -> Result<(Image, Vec<u8>), Fail> {
-    let words = words_of(alloc, call.0)?;
+pub(crate) fn run_on(alloc: Global, image: Image, call: Call) -> Result<(Image, Vec<u8>), Fail> {
+    run_script(alloc, image, call.0, call.1)
+}
+
+/// The same of words and a script.
+pub(crate) fn run_script(
+    alloc: Global,
+    image: Image,
+    words: &[&str],
+    script: &str,
+) -> Result<(Image, Vec<u8>), Fail> {
+    let words = words_of(alloc, words)?;
     if let Ok(Form::Try { .. }) = form_asked(&words) {
         return Ok((image, Vec::new(alloc)));
     }
     let Image { rack, .. } = image;
-    let script = Vec::from_slice(alloc, call.1.as_bytes())?;
+    let script = Vec::from_slice(alloc, script.as_bytes())?;
     let mut source = MemorySource::new(script, Vec::new(alloc));
     let mut sink = MemorySink::new(alloc, Vec::new(alloc));
     let ended = run(alloc, &words, &mut source, rack, &mut sink, &NoGate);
@@ -68,8 +79,19 @@ fn harmed(image: Image, page: u32) -> Image {
     Image { rack }
 }
 
+/// The image with these bytes in a block, if it has that, and if they are 512.
+pub(crate) fn with_block(image: Image, block: u32, bytes: &[u8]) -> Image {
+    let Image { mut rack, .. } = image;
+    if let Some(vol) = VolIx::new(1) {
+        if bytes.len() == 512 && is_there(&rack, vol, block) {
+            let _ = rack.write(vol, block, bytes);
+        }
+    }
+    Image { rack }
+}
+
 /// The image with one byte turned over of the first ones of a page.
-fn flipped(image: Image, page: u32, at: u8) -> Image {
+pub(crate) fn flipped(image: Image, page: u32, at: u8) -> Image {
     let Image { mut rack, .. } = image;
     let mut bytes = [0; 512];
     let block = page.saturating_mul(16);
@@ -83,13 +105,13 @@ fn flipped(image: Image, page: u32, at: u8) -> Image {
 }
 
 /// A domain of version 4 is made, of version 3, verified, and a script is run over it.
-const MAKE: Call = (&["mkfdmn", "a"], "");
+pub(crate) const MAKE: Call = (&["mkfdmn", "a"], "");
 
 const MAKE_THREE: Call = (&["mkfdmn", "-3", "a"], "");
 
-const VERIFY: Call = (&["verify", "a"], "");
+pub(crate) const VERIFY: Call = (&["verify", "a"], "");
 
-const RUN: Call = (&["run", "s", "a"], "client 1\nmkfset home\n");
+pub(crate) const RUN: Call = (&["run", "s", "a"], "client 1\nmkfset home\n");
 
 const RUN_BAD: Call = (&["run", "s", "a"], "client 1\nmkfset home\nfrob x\n");
 
@@ -99,34 +121,40 @@ fn harmed_image(alloc: Global, page: u32) -> Result<Image, Fail> {
     Ok(harmed(image, page))
 }
 
-/// All that an image of 160 pages holds.
-fn bytes_of(alloc: Global, image: Image) -> Result<Vec<u8>, Fail> {
+/// Adds what a block of an image holds, if the image has it.
+fn read_block(image: Image, block: u32, all: &mut Vec<u8>) -> Result<Image, Fail> {
     let Image { mut rack, .. } = image;
-    let mut all = Vec::new(alloc);
-    let Some(vol) = VolIx::new(1) else {
-        return Ok(all);
-    };
     let mut bytes = [0; 512];
-    for block in 0..2_560 {
+    if let Some(vol) = VolIx::new(1) {
         if is_there(&rack, vol, block) && rack.read(vol, block, &mut bytes).is_ok() {
             all.extend_from_slice(&bytes)?;
         }
     }
-    Ok(all)
+    Ok(Image { rack })
 }
 
-/// How a call ends, and whether it leaves an image of 160 pages byte for byte as another one that
-/// is the same before it.
-fn outcome_on(
+/// All that an image of so many pages holds.
+pub(crate) fn bytes_of(alloc: Global, image: Image, pages: u32) -> Result<(Image, Vec<u8>), Fail> {
+    let mut image = image;
+    let mut all = Vec::new(alloc);
+    for block in 0..pages.saturating_mul(16) {
+        image = read_block(image, block, &mut all)?;
+    }
+    Ok((image, all))
+}
+
+/// How a call ends, and whether it leaves an image of so many pages byte for byte as it was.
+pub(crate) fn outcome_on(
     alloc: Global,
     image: Image,
-    same: Image,
+    pages: u32,
     call: Call,
 ) -> Result<(Vec<u8>, bool), Fail> {
-    let before = bytes_of(alloc, same)?;
+    let (image, before) = bytes_of(alloc, image, pages)?;
     let (image, outcome) = run_on(alloc, image, call)?;
-    let after = bytes_of(alloc, image)?;
-    let is_left = before.len() == 1_310_720 && before.as_slice() == after.as_slice();
+    let (_, after) = bytes_of(alloc, image, pages)?;
+    let is_left = before.chunks(PAGE_BYTES).len() == pages as usize
+        && before.as_slice() == after.as_slice();
     Ok((outcome, is_left))
 }
 
@@ -176,8 +204,7 @@ fn a_page_that_is_harmed_is_named_by_its_code(rt: HostRuntime) -> Result<(), Fai
 fn nothing_is_run_on_a_harmed_image_nor_written(rt: HostRuntime) -> Result<(), Fail> {
     let alloc = rt.alloc();
     for (page, _) in HARMED.iter() {
-        let same = harmed_image(alloc, *page)?;
-        let (outcome, is_left) = outcome_on(alloc, harmed_image(alloc, *page)?, same, RUN)?;
+        let (outcome, is_left) = outcome_on(alloc, harmed_image(alloc, *page)?, 160, RUN)?;
         let want = format!(in alloc; "NotADomain 1 {page} 6\n")?;
         assert_eq!(rt; outcome.as_slice(), want.as_bytes());
         assert!(rt; is_left, "not a byte is changed");
@@ -242,8 +269,7 @@ fn a_byte_that_is_turned_over_is_named_by_its_code(rt: HostRuntime) -> Result<()
 fn nothing_is_run_where_a_byte_is_turned_over(rt: HostRuntime) -> Result<(), Fail> {
     let alloc = rt.alloc();
     for (page, at, _, place) in FLIPPED.iter() {
-        let same = flipped_image(alloc, *page, *at)?;
-        let (outcome, is_left) = outcome_on(alloc, flipped_image(alloc, *page, *at)?, same, RUN)?;
+        let (outcome, is_left) = outcome_on(alloc, flipped_image(alloc, *page, *at)?, 160, RUN)?;
         let want = format!(in alloc; "NotADomain 1 {place} 6\n")?;
         assert_eq!(rt; outcome.as_slice(), want.as_bytes());
         assert!(rt; is_left, "not a byte is changed");
@@ -265,8 +291,7 @@ fn a_byte_in_the_log_that_opens_no_gate_is_no_fault(rt: HostRuntime) -> Result<(
 #[test]
 fn nothing_is_run_on_zeros_nor_written(rt: HostRuntime) -> Result<(), Fail> {
     let alloc = rt.alloc();
-    let same = zero_image(alloc, 160, &[])?;
-    let (outcome, is_left) = outcome_on(alloc, zero_image(alloc, 160, &[])?, same, RUN)?;
+    let (outcome, is_left) = outcome_on(alloc, zero_image(alloc, 160, &[])?, 160, RUN)?;
     assert!(rt; outcome.starts_with(b"NotADomain 1 "), "it is no domain");
     assert!(rt; is_left, "not a byte is changed");
     Ok(())
@@ -276,8 +301,7 @@ fn nothing_is_run_on_zeros_nor_written(rt: HostRuntime) -> Result<(), Fail> {
 fn a_bad_script_leaves_an_image_as_it_was(rt: HostRuntime) -> Result<(), Fail> {
     let alloc = rt.alloc();
     let (image, _) = run_on(alloc, zero_image(alloc, 160, &[])?, MAKE)?;
-    let (same, _) = run_on(alloc, zero_image(alloc, 160, &[])?, MAKE)?;
-    let (outcome, is_left) = outcome_on(alloc, image, same, RUN_BAD)?;
+    let (outcome, is_left) = outcome_on(alloc, image, 160, RUN_BAD)?;
     assert_eq!(rt; outcome.as_slice(), b"BadScript 3 3 5\n".as_slice());
     assert!(rt; is_left, "not a byte is changed");
     Ok(())

@@ -2,6 +2,10 @@
 #![tactic(auto)]
 
 #[cfg(test)]
+mod bad_images;
+#[cfg(test)]
+mod changed;
+#[cfg(test)]
 mod errors;
 #[cfg(test)]
 mod gates;
@@ -10,7 +14,11 @@ mod help;
 #[cfg(test)]
 mod images;
 #[cfg(test)]
+mod model;
+#[cfg(test)]
 mod outcome;
+#[cfg(test)]
+mod random;
 #[cfg(test)]
 mod room;
 #[cfg(test)]

@@ -1,11 +1,12 @@
 //! Scripts over new domains, told by the lines that their histories have to have.
+use crate::model::is_answered_there;
 use crate::outcome::{ended, told};
 use advfs_run::{MemorySink, MemorySource, NoGate};
 use std::alloc::{AllocError, Global};
 use std::test::Fail;
 
 /// The script of the first client that gives the commands of these lines.
-fn script_of(alloc: Global, history: &str) -> Result<Vec<u8>, AllocError> {
+pub(crate) fn script_of(alloc: Global, history: &str) -> Result<Vec<u8>, AllocError> {
     let mut script = Vec::from_slice(alloc, b"client 1\n")?;
     for line in history.lines() {
         if let Some((front, _)) = line.split_once(" -> ") {
@@ -19,7 +20,11 @@ fn script_of(alloc: Global, history: &str) -> Result<Vec<u8>, AllocError> {
 }
 
 /// How the run of a script ends, over a new domain on a volume of so many pages.
-fn outcome_of(alloc: Global, pages: &str, script: Vec<u8>) -> Result<Vec<u8>, AllocError> {
+pub(crate) fn outcome_of(
+    alloc: Global,
+    pages: &str,
+    script: Vec<u8>,
+) -> Result<Vec<u8>, AllocError> {
     let mut source = MemorySource::new(script, Vec::new(alloc));
     let mut sink = MemorySink::new(alloc, Vec::new(alloc));
     let ended = ended(alloc, &["try", pages], &mut source, &mut sink, &NoGate)?;
@@ -96,6 +101,10 @@ fn commands_are_answered_as_their_rows_say(rt: HostRuntime) -> Result<(), Fail> 
             is_printed(rt.alloc(), "512", history)?,
             "the row is printed"
         );
+        assert!(rt;
+            is_answered_there(rt.alloc(), history)?,
+            "the plain program gives it"
+        );
     }
     Ok(())
 }
@@ -124,7 +133,7 @@ fn bad_scripts_are_named_by_their_first_bad_line(rt: HostRuntime) -> Result<(), 
 }
 
 /// The front of names of 60 bytes, which end with a number from 100 to 299.
-const FRONT: &str = "nnnnnnnnnnnnnnnnnnnnnnnnnnnnnnnnnnnnnnnnnnnnnnnnnnnnnnnnn";
+pub(crate) const FRONT: &str = "nnnnnnnnnnnnnnnnnnnnnnnnnnnnnnnnnnnnnnnnnnnnnnnnnnnnnnnnn";
 
 /// Adds the line of a command on the file whose name has a number.
 fn push_line(
@@ -183,5 +192,7 @@ fn a_directory_of_200_files_is_listed_in_order(rt: HostRuntime) -> Result<(), Fa
     let history = directory_history(rt.alloc())?;
     let is_same = is_printed(rt.alloc(), "512", history.as_str())?;
     assert!(rt; is_same, "the lines are printed");
+    let is_same = is_answered_there(rt.alloc(), history.as_str())?;
+    assert!(rt; is_same, "the plain program gives them");
     Ok(())
 }

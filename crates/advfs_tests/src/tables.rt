@@ -1,18 +1,30 @@
 //! Tables of commands over new domains, each with its reply: scripts that are run, and the lines
 //! that have to be printed.
+use crate::model::is_answered_there;
 use crate::rows::is_printed;
 use std::alloc::{AllocError, Global};
 use std::test::Fail;
 
-/// Whether the commands of a table, run over a new domain of so many pages, have just its replies.
-pub(crate) fn is_answered(alloc: Global, pages: &str, table: &str) -> Result<bool, AllocError> {
+/// The lines of a table as those of the first client.
+fn history_of(alloc: Global, table: &str) -> Result<String, AllocError> {
     let mut history = String::new(alloc);
     for line in table.lines() {
         history.push_str("c1 ")?;
         history.push_str(line)?;
         history.push_str("\n")?;
     }
-    is_printed(alloc, pages, history.as_str())
+    Ok(history)
+}
+
+/// Whether the commands of a table, run over a new domain of so many pages, have just its replies.
+pub(crate) fn is_answered(alloc: Global, pages: &str, table: &str) -> Result<bool, AllocError> {
+    is_printed(alloc, pages, history_of(alloc, table)?.as_str())
+}
+
+/// Whether they have them over a new domain of 512 pages, and over filesets without volumes.
+fn is_answered_by_both(alloc: Global, table: &str) -> Result<bool, Fail> {
+    let is_the_models = is_answered_there(alloc, history_of(alloc, table)?.as_str())?;
+    Ok(is_the_models && is_answered(alloc, "512", table)?)
 }
 
 /// Files and directories that are made, linked, listed and told of, and filesets that are shown.
@@ -293,7 +305,7 @@ showfile home:/b -> ok 0+1@1:138 1+1@1:140
 fn names_are_made_linked_moved_and_taken_away(rt: HostRuntime) -> Result<(), Fail> {
     for table in [NAMES, MOVES, SHARES] {
         assert!(rt;
-            is_answered(rt.alloc(), "512", table)?,
+            is_answered_by_both(rt.alloc(), table)?,
             "the table is answered"
         );
     }
@@ -304,7 +316,7 @@ fn names_are_made_linked_moved_and_taken_away(rt: HostRuntime) -> Result<(), Fai
 fn files_are_read_where_they_were_written(rt: HostRuntime) -> Result<(), Fail> {
     for table in [WRITES, PAGES] {
         assert!(rt;
-            is_answered(rt.alloc(), "512", table)?,
+            is_answered_by_both(rt.alloc(), table)?,
             "the table is answered"
         );
     }
@@ -315,7 +327,7 @@ fn files_are_read_where_they_were_written(rt: HostRuntime) -> Result<(), Fail> {
 fn quotas_refuse_files_and_pages(rt: HostRuntime) -> Result<(), Fail> {
     for table in [QUOTAS, BLOCKS] {
         assert!(rt;
-            is_answered(rt.alloc(), "512", table)?,
+            is_answered_by_both(rt.alloc(), table)?,
             "the table is answered"
         );
     }
