@@ -1,0 +1,61 @@
+#!/bin/sh
+# Tries the program where something outside of it goes wrong: an image or a script that is not there, an image that may
+# not be written, a folder in its place, the image named twice, standard output that takes nothing, and an image on a
+# device that is full. Each has to end with its number, and, but for the device, to leave the image as it was. What this
+# machine does not let try is said so. Wants a few MB in the folder that is named, or in the one for temporary files.
+top=$(cd "$(dirname "$0")/.." && pwd) || exit 1
+"$top/advfs" --version >&2 || exit 1
+folder=$(mktemp -d "${1:-${TMPDIR:-/tmp}}/advfs_edges.XXXXXX") || exit 1
+trap 'umount "$folder/small" 2>/dev/null; rm -rf "$folder"' EXIT
+image=$folder/image
+failed=0
+
+# says whether the words behind the first two end with the number, and whether the image is as it was
+ends() {
+    number=$1
+    name=$2
+    shift 2
+    "$@" >"$folder/out" 2>"$folder/told"
+    got=$?
+    if [ "$got" != "$number" ]; then
+        echo "$name: ends with $got, not with $number"
+        failed=1
+    elif ! cmp -s "$image" "$folder/same"; then
+        echo "$name: the image is not as it was"
+        failed=1
+    else
+        echo "$name: ok"
+    fi
+}
+
+to_full() { "$@" >/dev/full; }
+
+truncate -s 4M "$image"
+"$top/advfs" mkfdmn "$image" || exit 1
+cp "$image" "$folder/same"
+printf 'client 1\nmkfset home\n' >"$folder/script"
+printf 'client 1\nshowfsets\n' >"$folder/looks"
+
+ends 12 "no image" "$top/advfs" run "$folder/script" "$folder/none"
+ends 12 "no script" "$top/advfs" run "$folder/none" "$image"
+ends 12 "a folder for an image" "$top/advfs" run "$folder/script" "$folder"
+ends 2 "the image named twice" "$top/advfs" run "$folder/script" "$image" "$image"
+ends 8 "standard output is full" to_full "$top/advfs" run "$folder/looks" "$image"
+
+if [ "$(id -u)" = 0 ]; then
+    echo "an image that may not be written: not tried, since root may write all"
+else
+    chmod a-w "$image"
+    ends 12 "an image that may not be written" "$top/advfs" run "$folder/script" "$image"
+    ends 0 "it may be verified" "$top/advfs" verify "$image"
+    chmod u+w "$image"
+fi
+
+mkdir "$folder/small"
+if mount -t tmpfs -o size=256k none "$folder/small" 2>/dev/null; then
+    truncate -s 4M "$folder/small/image"
+    ends 7 "a full device" "$top/advfs" mkfdmn "$folder/small/image"
+else
+    echo "a full device: not tried, since nothing may be mounted here"
+fi
+exit $failed
