@@ -85,9 +85,9 @@ NotBegun (Try pages) old new status = MakesNone old new status
 NotBegun Run old new status = BeginsNot old new status
 NotBegun other old new status = ⊥
 
--- the causes of the statuses: at Ok no write or sync of the rack has failed; of `run` those for which
--- a domain is not attached, of `try` those for which none is made, and for both that a call failed of
--- a volume
+-- the causes of the statuses: at Ok no write or sync of the rack has failed; of `run` those for
+-- which a domain is not attached, of `try` those for which none is made, and for both that a call
+-- failed of a volume
 abbrev pub EndsFor : Result Form ℕ → Disk → Disk → Status → Type 0
 EndsFor (Ok (Try pages)) old new ended.Ok =
     IsLargeFor (Try pages) old × WritesPassed old new

@@ -416,9 +416,10 @@ fn run_with_fault(alloc: Global, call: u64) -> Result<(Image, Vec<u8>), Fail> {
     run_on(alloc, image, RUN)
 }
 
-/// Each call of a run fails once. It ends well all the same at four of them, with the fileset there:
-/// as the domain is closed the bitmap is read, the root, the cells, and by one call the fileset table
-/// with the tags behind it. Each other one is a write or a sync, or a read of attaching.
+/// Each call of a run fails once. It ends well all the same at four of them, with the fileset
+/// there: as the domain is closed the bitmap is read, the root, the cells, and by one call the
+/// fileset table with the tags behind it. Each other one is a write or a sync, or a read of
+/// attaching.
 #[test]
 fn a_page_that_cannot_be_read_is_written_at_closing(rt: HostRuntime) -> Result<(), Fail> {
     let alloc = rt.alloc();

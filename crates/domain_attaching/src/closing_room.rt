@@ -9,8 +9,8 @@ use domain_base::limits::PAGE_BYTES;
 use page_ways::DomainFrame;
 use std::alloc::Global;
 
-/// The memory that closing a domain takes: a mark for each page of its volumes, and the bytes of one
-/// call. It is taken before the first command, so that none is wanted behind the last.
+/// The memory that closing a domain takes: a mark for each page of its volumes, and the bytes of
+/// one call. It is taken before the first command, so that none is wanted behind the last.
 #[derive(Drop)]
 pub struct ClosingRoom {
     pub(crate) tables: TablePages,

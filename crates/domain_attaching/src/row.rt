@@ -114,8 +114,8 @@ fn lay_all(pages: &StagedPages, vol: VolIx, first: u32, count: u32, found: &mut 
     }
 }
 
-/// Writes the pages in memory that stand in a row from one of a volume on, whatever stands there, by
-/// one call.
+/// Writes the pages in memory that stand in a row from one of a volume on, whatever stands there,
+/// by one call.
 fn write_all<R: Rack>(
     rack: &mut R,
     pages: &StagedPages,

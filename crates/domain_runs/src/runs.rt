@@ -106,8 +106,8 @@ fn run_begun<R: Rack, O: Opening, G: Gate>(
     end_run(domain, closing)
 }
 
-/// Begins the history of a domain that was attached or made, with room for so many entries, and takes
-/// the room in which it is closed; where one of these is not to be had its rack comes back.
+/// Begins the history of a domain that was attached or made, with room for so many entries, and
+/// takes the room in which it is closed; where one of these is not to be had its rack comes back.
 fn begin_run<R: Rack, O: Opening>(
     alloc: Global,
     attached: Attached<R>,
@@ -174,9 +174,9 @@ fn run_attached<R: Rack, O: Opening, G: Gate>(
 /// section after another, and closes it. Each has a served command alone.
 ///
 /// Where the domain is not attached, the status tells why: `NotADomain`, `Unfit`, `VolumeFault` or
-/// `OutOfMemory`, which comes also where there is no room for the history or for closing. No command
-/// was answered then. Behind the history comes `VolumeFault` alone, where a write or a sync failed as
-/// the domain was closed; a page that cannot be read then is written.
+/// `OutOfMemory`, which comes also where there is no room for the history or for closing. No
+/// command was answered then. Behind the history comes `VolumeFault` alone, where a write or a sync
+/// failed as the domain was closed; a page that cannot be read then is written.
 pub fn run_on<R: Rack, G: Gate>(
     alloc: Global,
     rack: R,

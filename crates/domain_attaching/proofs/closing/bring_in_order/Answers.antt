@@ -53,4 +53,8 @@ pub returns-in_err-bring_and_sync-clause-touches : goal.returns-in_err-bring_and
 returns-in_err-bring_and_sync-clause-touches g c = chosen_loggable (g.R.Rack.disk c.args.rack.now) (g.R.Rack.disk c.bring_and_sync.new.rack) c.args.memory.now.frame.anchor c.args.tables.now false c.bring_and_sync.ensures.touches
 
 pub returns-in_err-bring_and_sync-clause-order_at_fault : goal.returns-in_err-bring_and_sync-clause-order_at_fault
-returns-in_err-bring_and_sync-clause-order_at_fault g c = so_far c.args.memory.now c.args.tables.now c.requires.tables (g.R.Rack.disk c.args.rack.now) (g.R.Rack.disk c.bring_and_sync.new.rack) c.bring_and_sync.ensures.touches
+returns-in_err-bring_and_sync-clause-order_at_fault g c =
+    let old = g.R.Rack.disk c.args.rack.now in
+    let new = g.R.Rack.disk c.bring_and_sync.new.rack in
+    let memory = c.args.memory.now in
+    if_err c.from_residual.result (IsInOrderSoFar old new memory) (so_far memory c.args.tables.now c.requires.tables old new c.bring_and_sync.ensures.touches)
