@@ -16,10 +16,9 @@ use Rattle.filesets_reading.specs.declared.tables.DomainTables.{DomainTables}
 use Rattle.filesets_reading.proofs.Ways.{within_of}
 use Rattle.fileset_shapes.specs.Shapes.{IsDomain}
 use Rattle.attached_domain.specs.Causes.{HasCause, HasClone, HasSign, IsCause}
-use Rattle.attached_domain.specs.Signs.{SlotSays, TagSays}
+use Rattle.attached_domain.specs.Signs.{ItemSays, SlotSays}
 use Rattle.attached_domain.specs.declared.signs.Sign.{Sign}
 use Rattle.attached_domain.specs.declared.unfit.Unfit.{Unfit}
-use Rattle.attached_domain.proofs.Looked.{slot_below}
 
 -- the first slots are all of them
 clone_below : (table : Table) → IsTable table → (number : ℕ) → of_clone (slice_get table.slots number) ≡ true → number < 32
@@ -53,12 +52,10 @@ module _ (pages : Pages) (frame : Frame) (tables : DomainTables) (domain : IsDom
   pub clone_read : (number : ℕ) → of_clone (slice_get tables.filesets.slots number) ≡ true → HasClone layout_read
   clone_read number is = (number, subst (λ (t : Table). of_clone (slice_get t.slots number) ≡ true) (sym domain.tables_are.table) is)
 
-  pub sign_read : (sign : Sign) → SlotSays pages sign tables.tags.items → HasSign pages sign layout_read
-  sign_read sign says =
-      let item = slot_below pages layout_read domain.tables_are.laid says.number says.below in
-      record {
-        number = says.number;
-        item = item.0;
-        there = item.1;
-        tag = subst (TagSays pages sign) (sym (domain.tables_are.tags says.number says.places says.there)) says.tag;
-      }
+  pub sign_read : (sign : Sign) → SlotSays pages sign tables → HasSign pages sign layout_read
+  sign_read sign (number, below, is) = record {
+    number = number;
+    item = is.item;
+    there = subst (λ (t : Table). slice_get t.slots number ≡ Some is.item) (sym domain.tables_are.table) is.is;
+    says = subst (ItemSays pages sign is.item) (sym (domain.tables_are.tags number is.places is.there)) is.says;
+  }

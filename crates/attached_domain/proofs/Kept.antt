@@ -1,6 +1,6 @@
--- Directories that are not to be cut keep all pages.
+-- Directories that are not to be cut keep all pages, and those that keep all are not to be cut.
 use Rattle.std.proofs.Common.{◌≡◌, ◌∙◌, ℕ, Bool, true, false, cond, nat_eq, List, [], ◌∷◌, Option, Some, None, refl, sym, ap, subst}
-use Rattle.std.proofs.lemmas.Bool.{eqb-true}
+use Rattle.std.proofs.lemmas.Bool.{eq-eqb, eqb-true}
 use Rattle.std.specs.Option.{option_and_then, option_map, option_map_or}
 use Rattle.std.specs.Prelude.{◌&&◌, not}
 use Rattle.domain_base.specs.Limits.{file_pages}
@@ -67,3 +67,37 @@ keeps_all pages at (first ∷ rest) seen links there directory uncut = by_remove
     by_removed : (b : Bool) → cond b None (option_and_then (kept_by (first ∷ rest)) (attributes_of (first ∷ rest))) ≡ Some seen → keep_of (first ∷ rest) ≡ Some file_pages
     by_removed true seen_there = none_some seen seen_there
     by_removed false seen_there = by_record (record_of 1 first.cell.records) refl seen_there said
+
+-- a directory that keeps all pages says no cut
+uncut_record : (cells : List PlacedCell) → is_removed cells ≡ false → ((seen : SeenFile) → seen_in cells ≡ Some seen → seen.is.kind ≡ Directory → keep_of cells ≡ Some file_pages)
+    → (r : Record) → first_record 1 cells ≡ Some r → says_cut r ≡ false
+uncut_record cells live keeps (written.Attributes kind uid gid flags size keep links birth unsynced) at = by_test (nat_eq kind 2) refl
+  where
+    is : Attributes
+    is = record { kind = cond (nat_eq kind 2) Directory File; uid = uid; gid = gid; is_logged = nat_eq flags 1; size = size; links = links }
+
+    seen : SeenFile
+    seen = record { is = is; homes = λ page. home_at (places_before keep (places_of cells) page) }
+
+    kept_so : keep_of cells ≡ Some keep
+    kept_so = ap (option_and_then keep_in) at
+
+    sees : seen_in cells ≡ Some seen
+    sees =
+        (λ i. cond (live i) None (option_and_then (kept_by cells) (option_and_then attributes_in (at i))))
+        ∙ ap (option_map (λ n. record { is = is; homes = λ page. home_at (places_before n (places_of cells) page) })) kept_so
+
+    by_test : (b : Bool) → nat_eq kind 2 ≡ b → (nat_eq kind 2 && not (nat_eq keep file_pages)) ≡ false
+    by_test true directory =
+        let all : nat_eq keep file_pages ≡ true = eq-eqb keep file_pages (some_same keep file_pages (sym kept_so ∙ keeps seen sees (ap (λ b. cond b Directory File) directory))) in
+        (λ i. directory i && not (all i))
+    by_test false other = ap (λ b. b && not (nat_eq keep file_pages)) other
+uncut_record cells live keeps r at = refl
+
+pub uncut : (first : PlacedCell) (rest : List PlacedCell) → is_removed (first ∷ rest) ≡ false
+    → ((seen : SeenFile) → seen_in (first ∷ rest) ≡ Some seen → seen.is.kind ≡ Directory → keep_of (first ∷ rest) ≡ Some file_pages) → say_cut first.cell.records ≡ false
+uncut first rest live keeps = by_record (record_of 1 first.cell.records) refl
+  where
+    by_record : (o : Option Record) → record_of 1 first.cell.records ≡ o → option_map_or says_cut o false ≡ false
+    by_record None at = refl
+    by_record (Some r) at = uncut_record (first ∷ rest) live keeps r at

@@ -1,5 +1,7 @@
 pub mod Looked
 pub mod Fitting
+pub mod NoCause
+pub mod NewFits
 pub mod TheirBooks
 pub mod Kept
 pub mod MayAttach

@@ -1,6 +1,7 @@
 -- Tags, and slots, that are looked at one after another.
-use Rattle.std.proofs.Common.{◌≡◌, ℕ, ◌+◌, ◌<◌, List, [], length, Option, Some, None, IsSome, IsSomeAnd, slice_get, refl, sym, subst, arith, ⊎_elim}
+use Rattle.std.proofs.Common.{◌≡◌, ◌∙◌, ◌↔◌, ℕ, ◌+◌, ◌<◌, Bool, true, false, IsTrue, List, [], length, Option, Some, None, IsSome, IsSomeAnd, slice_get, refl, sym, subst, arith, ⊎_elim}
 use Rattle.std.proofs.lemmas.Bool.{cases_lt}
+use mathlib.Core.Bool.{false≢true}
 use Rattle.std.proofs.lemmas.Option.{slice_get_cases}
 use Rattle.domain_base.specs.declared.place.Home.{Home}
 use Rattle.domain_base.specs.declared.place.Tag.{Tag}
@@ -12,13 +13,13 @@ use Rattle.fileset_table.specs.Table.{IsTable}
 use Rattle.fileset_table.specs.declared.slot.SlotItem.{SlotItem}
 use Rattle.domain_layout.specs.Layout.{AreTagPlaces, IsLayout, Layout, first_tag_of}
 use Rattle.domain_layout.specs.Reached.{Frame}
-use Rattle.layout_laws.proofs.OnePage.{one_of}
+use Rattle.layout_laws.proofs.OnePage.{one_of, some_same}
 use Rattle.filesets_reading.specs.Tables.{AreTablesOf}
 use Rattle.filesets_reading.specs.declared.tables.DomainTables.{DomainTables}
 use Rattle.filesets_reading.proofs.Ways.{within_of}
 use Rattle.fileset_shapes.specs.Tags.{IsUsed, ListsOnce}
 use Rattle.row_paths.proofs.AllLed.{at_contains}
-use Rattle.attached_domain.specs.Signs.{LeadsSo, SlotSays, TagSays}
+use Rattle.attached_domain.specs.Signs.{IsSaidIn, ItemSays, LeadsSo, SlotSays, TagSays, asks}
 use Rattle.attached_domain.specs.declared.signs.Sign.{Sign}
 
 -- what holds of the numbers below one, and of that one, holds of those below the next
@@ -43,12 +44,23 @@ none_leads pages sign places tags lists none found =
 
 -- ---- the slots
 
--- no tag of the directory at a place of a list does
-abbrev pub SaysNone : Pages → Sign → List (List TagPlace) → ℕ → Type 0
-SaysNone pages sign tags k = (places : List TagPlace) → slice_get tags k ≡ Some places → ¬ TagSays pages sign places
+-- what is said of an item and of a directory is said in the slot in which they are
+module _ (pages : Pages) (sign : Sign) (tables : DomainTables) (number : ℕ) (item : SlotItem) (places : List TagPlace) (is : slice_get tables.filesets.slots number ≡ Some item) (there : slice_get tables.tags.items number ≡ Some places) where
+  said : ItemSays pages sign item places → IsSaidIn pages sign tables number
+  said says = record { item = item; is = is; places = places; there = there; says = says }
 
-pub no_slot_says : (pages : Pages) (sign : Sign) (tags : List (List TagPlace)) → ((k : ℕ) → k < 32 → SaysNone pages sign tags k) → ¬ SlotSays pages sign tags
-no_slot_says pages sign tags none found = none found.number found.below found.places found.there found.tag
+  says_there : IsSaidIn pages sign tables number → ItemSays pages sign item places
+  says_there s =
+      subst (λ i. ItemSays pages sign i places) (some_same s.item item (sym s.is ∙ is)) (subst (ItemSays pages sign s.item) (some_same s.places places (sym s.there ∙ there)) s.says)
+
+  pub said_of : asks sign item ≡ true → (says : Bool) → (IsTrue says ↔ TagSays pages sign places) → (IsTrue says ↔ IsSaidIn pages sign tables number)
+  said_of asked says is_said = ((λ so. said (asked, is_said.0 so)), (λ s. is_said.1 (says_there s).1))
+
+  pub not_said : asks sign item ≡ false → ¬ IsSaidIn pages sign tables number
+  not_said unasked s = false≢true (sym unasked ∙ (says_there s).0)
+
+pub no_slot_says : (pages : Pages) (sign : Sign) (tables : DomainTables) → ((k : ℕ) → k < 32 → ¬ IsSaidIn pages sign tables k) → ¬ SlotSays pages sign tables
+no_slot_says pages sign tables none (number, below, is) = none number below is
 
 -- a list of no pages is a directory
 pub no_pages : (pages : Pages) → IsDirectory pages []

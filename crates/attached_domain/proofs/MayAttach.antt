@@ -14,6 +14,7 @@ use Rattle.tag_dirs.specs.Directory.{IsDirectoryAt, cell_of}
 use Rattle.tag_dirs.specs.declared.dir.TagPlace.{TagPlace}
 use Rattle.tag_dirs.proofs.Reading.{same_directory}
 use Rattle.bitfile_core.specs.Files.{keep_of}
+use Rattle.fileset_table.specs.Table.{Table}
 use Rattle.fileset_table.specs.declared.slot.FilesetEntry.{FilesetEntry}
 use Rattle.fileset_table.specs.declared.slot.SlotItem.{SlotItem}
 use Rattle.fileset_table.specs.declared.slot.SlotItem.TheVariants as slot
@@ -26,7 +27,7 @@ use Rattle.domain_layout.specs.DirectoryRules.{Has, IsInItem, IsInOriginal}
 use Rattle.domain_layout.specs.Layout.{AreTagPlaces, IsLayout, Layout, first_tag_of}
 use Rattle.domain_layout.specs.Reached.{Frame, IsWithin}
 use Rattle.domain_layout.specs.Seen.{SeenFile}
-use Rattle.layout_laws.proofs.OnePage.{one_of}
+use Rattle.layout_laws.proofs.OnePage.{one_of, some_same}
 use Rattle.filesets_reading.specs.Tables.{AreTablesOf}
 use Rattle.filesets_reading.specs.declared.tables.DomainTables.{DomainTables}
 use Rattle.fileset_shapes.specs.Files.{IsWhole}
@@ -36,7 +37,7 @@ use Rattle.attached_list.specs.Attached.{TagsStay}
 use Rattle.attached_memory.specs.Read.{MayBeAttached}
 use Rattle.attached_domain.specs.Causes.{MayBeRead}
 use Rattle.attached_domain.specs.Fits.{Fits}
-use Rattle.attached_domain.specs.Signs.{SlotSays, say}
+use Rattle.attached_domain.specs.Signs.{SlotSays, asks, say}
 use Rattle.attached_domain.specs.declared.signs.Sign.{Sign}
 use Rattle.attached_domain.specs.declared.signs.Sign.TheVariants.{Cut, Removed}
 use Rattle.attached_domain.proofs.Kept.{keeps_all}
@@ -75,43 +76,54 @@ module _ (pages : Pages) (frame : Frame) (may : MayBeRead pages frame) (tables :
   abbrev pub domain_read : IsDomain pages frame tables
   domain_read = record { tables_are = are; no_fault = may.no_fault; all = may.all }
 
+  -- a sign is looked for in what is in a slot
+  abbrev IsAsked : Sign → ℕ → Type 0
+  IsAsked sign number = (item : SlotItem) → slice_get are.layout.table.slots number ≡ Some item → asks sign item ≡ true
+
   module _ (fits : Fits pages layout_so tables) where
     -- the directory of a slot of the table is one of those that were read
-    says_there : (sign : Sign) (number : ℕ) (item : SlotItem) → number < length are.layout.table.slots → slice_get are.layout.table.slots number ≡ Some item
-        → (tag : Tag) (at : CellAt) (cell : Cell) → cell_of pages (layout_so.tags number) tag ≡ Some at → StandsAt pages at cell → say sign cell.records ≡ true → SlotSays pages sign tables.tags.items
-    says_there sign number item within there tag at cell leads stands says =
+    says_there : (sign : Sign) (number : ℕ) → IsAsked sign number → (item : SlotItem) → number < length are.layout.table.slots → slice_get are.layout.table.slots number ≡ Some item
+        → (tag : Tag) (at : CellAt) (cell : Cell) → cell_of pages (layout_so.tags number) tag ≡ Some at → StandsAt pages at cell → say sign cell.records ≡ true → SlotSays pages sign tables
+    says_there sign number asked item within there tag at cell leads stands says =
         let whole = (good_table pages are.layout are.laid).whole in
         let below : number < 32 = omega (arith, within, whole) in
         ⊎_elim (λ places.
-        let same : layout_so.tags number ≡ places.0 = ap (λ o. tags_if o (are.layout.tags number)) there ∙ are.tags number places.0 places.2 in
-        record {
-          number = number;
-          below = below;
-          places = places.0;
-          there = places.2;
-          tag = (tag, record { at = at; leads = subst (λ (ps : List TagPlace). cell_of pages ps tag ≡ Some at) same leads; says = record { cell = cell; stands = stands; says = says } });
-        })
+        let same : layout_so.tags number ≡ places.0 = ap (λ o. tags_if o (are.layout.tags number)) there ∙ are.tags number places.0 places.2 in (
+          number,
+          below,
+          record {
+            item = item;
+            is = subst (λ (t : Table). slice_get t.slots number ≡ Some item) are.table there;
+            places = places.0;
+            there = places.2;
+            says = (
+              asked item there,
+              tag,
+              record { at = at; leads = subst (λ (ps : List TagPlace). cell_of pages ps tag ≡ Some at) same leads; says = record { cell = cell; stands = stands; says = says } },
+            );
+          },
+        ))
         (λ none. absurd (let all = are.all in omega (arith, none.0, all, below)))
         (slice_get_cases tables.tags.items number).1
 
     -- so where a tag of the layout leads to a cell that says so, one of those does
-    slot_says : (sign : Sign) (number : ℕ) (tag : Tag) (at : CellAt) (cell : Cell) → cell_of pages (layout_so.tags number) tag ≡ Some at → StandsAt pages at cell → say sign cell.records ≡ true
-        → SlotSays pages sign tables.tags.items
-    slot_says sign number tag at cell leads stands says =
-        ⊎_elim (λ item. says_there sign number item.0 item.1 item.2 tag at cell leads stands says)
+    slot_says : (sign : Sign) (number : ℕ) → IsAsked sign number → (tag : Tag) (at : CellAt) (cell : Cell) → cell_of pages (layout_so.tags number) tag ≡ Some at → StandsAt pages at cell
+        → say sign cell.records ≡ true → SlotSays pages sign tables
+    slot_says sign number asked tag at cell leads stands says =
+        ⊎_elim (λ item. says_there sign number asked item.0 item.1 item.2 tag at cell leads stands says)
         (λ none. none_some at (sym (ap (λ (ps : List TagPlace). cell_of pages ps tag) (none_so are.layout number none.1)) ∙ leads))
         (slice_get_cases are.layout.table.slots number).1
 
-    says_not : (sign : Sign) → (SlotSays pages sign tables.tags.items → ⊥) → (number : ℕ) (tag : Tag) (at : CellAt) (cell : Cell)
+    says_not : (sign : Sign) → (SlotSays pages sign tables → ⊥) → (number : ℕ) → IsAsked sign number → (tag : Tag) (at : CellAt) (cell : Cell)
         → cell_of pages (layout_so.tags number) tag ≡ Some at → StandsAt pages at cell → say sign cell.records ≡ false
-    says_not sign none number tag at cell leads stands = by_test (say sign cell.records) refl
+    says_not sign none number asked tag at cell leads stands = by_test (say sign cell.records) refl
       where
         by_test : (b : Bool) → say sign cell.records ≡ b → b ≡ false
-        by_test true is = absurd (none (slot_says sign number tag at cell leads stands is))
+        by_test true is = absurd (none (slot_says sign number asked tag at cell leads stands is))
         by_test false is = refl
 
     stay : TagsStay pages layout_so.tags
-    stay = λ number tag at cell leads stands. says_not Removed fits.stay number tag at cell leads stands
+    stay = λ number tag at cell leads stands. says_not Removed fits.stay number (λ item there. refl) tag at cell leads stands
 
     -- ---- directories
 
@@ -122,7 +134,7 @@ module _ (pages : Pages) (frame : Frame) (may : MayBeRead pages frame) (tables :
         let own : IsDirectoryAt pages entry.first_tag (are.layout.tags number) = are.laid.tags number (slot.Original entry) there in
         let same : is.there.places ≡ layout_so.tags number = same_directory pages entry.first_tag is.there.places (are.layout.tags number) is.there.directory own ∙ sym (ap (λ o. tags_if o (are.layout.tags number)) there) in
         keeps_all pages leads.value cells seen leads.is is.is directory
-        (λ cell stands. says_not Cut fits.keep number tag leads.value cell (subst (λ (ps : List TagPlace). cell_of pages ps tag ≡ Some leads.value) same leads.there) stands)
+        (λ cell stands. says_not Cut fits.keep number (λ item is. ap (asks Cut) (some_same item (slot.Original entry) (sym is ∙ there))) tag leads.value cell (subst (λ (ps : List TagPlace). cell_of pages ps tag ≡ Some leads.value) same leads.there) stands)
 
     keep_at : (number : ℕ) (tag : Tag) (cells : List PlacedCell) (seen : SeenFile) → Has pages are.layout.table number tag cells seen → seen.is.kind ≡ Directory → keep_of cells ≡ Some file_pages
     keep_at number tag cells seen has directory = by_item has.item has.there has.is

@@ -17,7 +17,7 @@ use Rattle.filesets_reading.specs.Good.{IsNamed}
 use Rattle.fileset_shapes.specs.Found.{HasAllPages}
 use Rattle.attached_list.specs.Attached.{HaveQuotasToGo}
 use Rattle.attached_list.specs.Sources.{HasSource}
-use Rattle.attached_domain.specs.Signs.{TagSays}
+use Rattle.attached_domain.specs.Signs.{ItemSays}
 use Rattle.attached_domain.specs.declared.signs.Sign.{Sign}
 use Rattle.attached_domain.specs.declared.signs.Sign.TheVariants.{Cut, Removed}
 use Rattle.attached_domain.specs.declared.unfit.Unfit.{Unfit}
@@ -41,30 +41,30 @@ pub record MayBeRead (pages : Pages) (frame : Frame) : Type 0 where
 abbrev pub HasClone : Layout → Type 0
 HasClone layout = (number : ℕ) × (of_clone (slice_get layout.table.slots number) ≡ true)
 
--- a tag of what is in a slot leads to a cell that says so
+-- a sign is looked for in what is in a slot, and a tag of that leads to a cell that says so
 pub record HasSign (pages : Pages) (sign : Sign) (layout : Layout) : Type 0 where
   pub number : ℕ
   pub item : SlotItem
   pub there : slice_get layout.table.slots number ≡ Some item
-  pub tag : TagSays pages sign (layout.tags number)
+  pub says : ItemSays pages sign item (layout.tags number)
 
--- why a domain that is laid out so is not attached
+-- why a domain that is laid out so is not attached; want of memory is no cause in its pages
 abbrev pub IsCause : Pages → Layout → Unfit → Type 0
 IsCause pages layout Cloned = HasClone layout
 IsCause pages layout ReadThrough = (at : CellAt) × HasSource pages layout at
 IsCause pages layout WrongQuotas = ¬ HaveQuotasToGo pages (frame_of layout) layout.table
 IsCause pages layout RemovedFile = HasSign pages Removed layout
 IsCause pages layout CutDirectory = HasSign pages Cut layout
-IsCause pages layout OutOfMemory = Unit {0}
+IsCause pages layout OutOfMemory = ⊥
 
--- the pages are laid out so that there is that cause; where no memory could be had, nothing is told
--- of them
+-- the pages are laid out so that there is that cause
 pub record HasCause (pages : Pages) (frame : Frame) (unfit : Unfit) : Type 0 where
   pub layout : Layout
   pub framed : frame_of layout ≡ frame
   pub laid : IsLayout pages layout
   pub cause : IsCause pages layout unfit
 
+-- so it is where a domain is not attached; for want of memory nothing is told of its pages
 abbrev pub IsUnfit : Pages → Frame → Unfit → Type 0
 IsUnfit pages frame OutOfMemory = Unit {0}
 IsUnfit pages frame unfit = HasCause pages frame unfit

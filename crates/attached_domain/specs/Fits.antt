@@ -14,5 +14,5 @@ pub record Fits (pages : Pages) (layout : Layout) (tables : DomainTables) : Type
   pub no_clone : (number : ℕ) → of_clone (slice_get layout.table.slots number) ≡ false
   pub sources : HaveNoSource pages layout
   pub quotas : HaveQuotasToGo pages (frame_of layout) layout.table
-  pub stay : ¬ SlotSays pages Removed tables.tags.items
-  pub keep : ¬ SlotSays pages Cut tables.tags.items
+  pub stay : ¬ SlotSays pages Removed tables
+  pub keep : ¬ SlotSays pages Cut tables

@@ -3,3 +3,7 @@ pub mod Causes
 pub mod Fits
 pub mod Parts
 pub use Rattle.fileset_shapes.specs.Found
+pub use Rattle.attached_list.specs.Attached
+pub use Rattle.bitfile_core.specs.Files
+pub use Rattle.record_table.specs.Fields
+pub use Rattle.tag_dirs.specs.Directory

@@ -11,7 +11,10 @@ use Rattle.bmt_mcells.specs.Cell.{Cell, record_of}
 use Rattle.bmt_mcells.specs.Chain.{StandsAt}
 use Rattle.tag_dirs.specs.Directory.{cell_of}
 use Rattle.tag_dirs.specs.declared.dir.TagPlace.{TagPlace}
+use Rattle.fileset_table.specs.Table.{is_original}
+use Rattle.fileset_table.specs.declared.slot.SlotItem.{SlotItem}
 use Rattle.domain_layout.specs.CellRules.{say_removed}
+use Rattle.filesets_reading.specs.declared.tables.DomainTables.{DomainTables}
 use Rattle.attached_domain.specs.declared.signs.Sign.{Sign}
 use Rattle.attached_domain.specs.declared.signs.Sign.TheVariants.{Cut, Removed}
 
@@ -29,6 +32,12 @@ abbrev pub say : Sign → List Record → Bool
 say Removed records = say_removed records
 say Cut records = say_cut records
 
+-- it is looked for in what is in a slot: a file that is to be removed in each, and a directory that
+-- is to be cut in an original, since of what is being removed no set of files is made
+abbrev pub asks : Sign → SlotItem → Bool
+asks Removed item = true
+asks Cut item = is_original item
+
 -- a cell in use stands there, and says so
 pub record SaysAt (pages : Pages) (sign : Sign) (at : CellAt) : Type 0 where
   pub cell : Cell
@@ -45,10 +54,19 @@ pub record LeadsSo (pages : Pages) (sign : Sign) (places : List TagPlace) (tag :
 abbrev pub TagSays : Pages → Sign → List TagPlace → Type 0
 TagSays pages sign places = (tag : Tag) × LeadsSo pages sign places tag
 
--- some tag of a directory among these, which are those of the 32 slots
-pub record SlotSays (pages : Pages) (sign : Sign) (tags : List (List TagPlace)) : Type 0 where
-  pub number : ℕ
-  pub below : number < 32
+-- some tag of the directory of what is in a slot does, and it is looked for there
+abbrev pub ItemSays : Pages → Sign → SlotItem → List TagPlace → Type 0
+ItemSays pages sign item places = (asks sign item ≡ true) × TagSays pages sign places
+
+-- so it is of what is in the slot with a number, and in one of the 32 slots
+pub record IsSaidIn (pages : Pages) (sign : Sign) (tables : DomainTables) (number : ℕ)
+    : Type 0 where
+  pub item : SlotItem
+  pub is : slice_get tables.filesets.slots number ≡ Some item
   pub places : List TagPlace
-  pub there : slice_get tags number ≡ Some places
-  pub tag : TagSays pages sign places
+  pub there : slice_get tables.tags.items number ≡ Some places
+  pub says : ItemSays pages sign item places
+
+abbrev pub SlotSays : Pages → Sign → DomainTables → Type 0
+SlotSays pages sign tables =
+    (number : ℕ) × (number < 32) × IsSaidIn pages sign tables number

@@ -3,11 +3,12 @@ ghost use Rattle.std.specs.Prelude.{◌≡◌, ◌↔◌, IfOk, IsTrue};
 ghost use Rattle.bmt_mcells.specs.Cell.{Cell};
 ghost use Rattle.bmt_mcells.specs.Chain.{StandsAt};
 ghost use Rattle.domain_layout.specs.CellRules.{say_removed};
-ghost use Rattle.attached_domain.specs.Signs.{SaysAt, say_cut};
+ghost use Rattle.attached_domain.specs.Signs.{SaysAt, asks, say_cut};
 
 use bmt_mcells::{find_record, read_used};
 use domain_base::limits::FILE_PAGES;
 use domain_base::{CellAt, OutOfMemory};
+use fileset_table::SlotItem;
 use page_store::MetaPages;
 use record_table::{Leftover, Record};
 use std::alloc::Global;
@@ -19,6 +20,17 @@ pub(crate) enum Sign {
     Removed,
     /// It is a directory that is to be cut.
     Cut,
+}
+
+/// Whether a sign is looked for in what is in a slot: a file that is to be removed in each, and a
+/// directory that is to be cut in an original, whose set of files has it.
+pub(crate) fn is_asked(sign: Sign, item: &SlotItem) -> bool
+    ensures { result ≡ asks sign item.now }
+{
+    match sign {
+        Sign::Removed => true,
+        Sign::Cut => matches!(item, SlotItem::Original { .. }),
+    }
 }
 
 /// Whether the cell that stands at a place says that all of its file is to be removed.

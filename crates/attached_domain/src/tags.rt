@@ -3,10 +3,10 @@ ghost use Rattle.std.specs.Prelude.{◌↔◌, IfOk, IsTrue};
 ghost use Rattle.tag_dirs.specs.Directory.{IsDirectory};
 ghost use Rattle.page_ways.specs.Frame.{frame_in};
 ghost use Rattle.filesets_reading.specs.Tables.{AreTablesOf};
-ghost use Rattle.attached_domain.specs.Signs.{LeadsSo, SlotSays, TagSays};
+ghost use Rattle.attached_domain.specs.Signs.{IsSaidIn, LeadsSo, SlotSays, TagSays};
 
-use crate::signs::{Sign, says};
-use domain_base::{OutOfMemory, Tag};
+use crate::signs::{Sign, is_asked, says};
+use domain_base::{FilesetNo, OutOfMemory, Tag};
 use fileset_shapes::used_tags;
 use filesets_reading::DomainTables;
 use page_store::MetaPages;
@@ -50,7 +50,27 @@ fn some_tag_says<M: MetaPages>(
     Ok(false)
 }
 
-/// Whether a tag of what is in some slot leads to a cell that says so.
+/// Whether it is looked for in what is in a slot, and some tag of that leads to a cell that says
+/// so.
+fn slot_says<M: MetaPages>(
+    alloc: Global,
+    pages: &M,
+    frame: &DomainFrame,
+    sign: Sign,
+    tables: &DomainTables,
+    number: FilesetNo,
+) -> Result<bool, OutOfMemory>
+    requires { AreTablesOf (M.pages pages.now) (frame_in frame.now) tables.now }
+    ensures { IfOk result (λ says. IsTrue says
+        ↔ IsSaidIn (M.pages pages.now) sign tables.now number) }
+{
+    if !is_asked(sign, tables.filesets.slot(number)) {
+        return Ok(false);
+    }
+    some_tag_says(alloc, pages, sign, &tables.tags[number.number() as usize])
+}
+
+/// Whether it is so of some slot.
 pub(crate) fn some_slot_says<M: MetaPages>(
     alloc: Global,
     pages: &M,
@@ -60,11 +80,13 @@ pub(crate) fn some_slot_says<M: MetaPages>(
 ) -> Result<bool, OutOfMemory>
     requires { AreTablesOf (M.pages pages.now) (frame_in frame.now) tables.now }
     ensures { IfOk result (λ found. IsTrue found
-        ↔ SlotSays (M.pages pages.now) sign tables.now.tags.items) }
+        ↔ SlotSays (M.pages pages.now) sign tables.now) }
 {
-    for number in 0..32_usize {
-        if some_tag_says(alloc, pages, sign, &tables.tags[number])? {
-            return Ok(true);
+    for number in 0..32_u32 {
+        if let Some(number) = FilesetNo::new(number) {
+            if slot_says(alloc, pages, frame, sign, tables, number)? {
+                return Ok(true);
+            }
         }
     }
     Ok(false)

@@ -18,7 +18,8 @@ pub enum Unfit {
     WrongQuotas,
     /// A tag leads to a file of which all is to be removed.
     RemovedFile,
-    /// A tag leads to a directory that is to be cut: it keeps fewer pages than a file can have.
+    /// A tag of an original leads to a directory that is to be cut: it keeps fewer pages than a file
+    /// can have.
     CutDirectory,
     /// No memory could be had.
     OutOfMemory,

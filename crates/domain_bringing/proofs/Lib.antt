@@ -11,3 +11,4 @@ pub mod Means
 pub mod Recovered
 pub mod InARow
 pub use Rattle.metadata_loading.proofs.PagesRead
+pub use Rattle.metadata_loading.proofs.SameFaults

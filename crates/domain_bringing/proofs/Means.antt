@@ -95,13 +95,13 @@ abbrev pub AreThoseOf : Pages → Frame → List Group → Image → Type 0
 AreThoseOf pages frame groups image = (home : Home) → IsLoggable frame.anchor home → IsSome (pages home) → pages home ≡ redone groups image home
 
 module _ (pages : Pages) (groups : List Group) (image : Image) (layout : Layout) (laid : IsLayout pages layout) (good : IsGoodFrame (frame_of layout)) (has : HasDomainPages pages (frame_of layout)) (same : AreThoseOf pages (frame_of layout) groups image) where
-  ahead : AgreeWhereRulesLook pages (redone groups image) (frame_of layout)
+  pub ahead : AgreeWhereRulesLook pages (redone groups image) (frame_of layout)
   ahead home looks = same home (looks_loggable pages layout laid good has.no_fault home looks) (has.looked home looks)
 
   both : AreSides pages (redone groups image) layout
   both = sides pages (redone groups image) layout ahead (none_of_tables pages (frame_of layout) has.no_fault) laid
 
-  behind : AgreeWhereRulesLook (redone groups image) pages (frame_of layout)
+  pub behind : AgreeWhereRulesLook (redone groups image) pages (frame_of layout)
   behind home looks = sym (ahead home (looked_too (redone groups image) pages layout (flipped pages (redone groups image) layout both) home looks))
 
   pub no_fault_there : HasNoFault (redone groups image) (frame_of layout)

@@ -3,3 +3,8 @@ pub mod WholeDomain
 pub use Rattle.no_fault_laws.proofs.NoTable
 pub use Rattle.no_fault_laws.proofs.Originals
 pub use Rattle.no_fault_laws.proofs.Shown
+pub use Rattle.no_fault_laws.proofs.InChains
+pub use Rattle.no_fault_laws.proofs.Named
+pub use Rattle.no_fault_laws.proofs.NoCells
+pub use Rattle.no_fault_laws.proofs.OnTables
+pub use Rattle.no_fault_laws.proofs.Tags

@@ -1,6 +1,6 @@
 use Rattle.std.proofs.Common.{ℕ, ◌<◌}
-use Rattle.attached_domain.proofs.Looked.{SaysNone}
+use Rattle.attached_domain.specs.Signs.{IsSaidIn}
 use Rattle.attached_domain.proofs.tags.some_slot_says.Given as goal
 
 abbrev pub invariant-loop-number : goal.invariant-loop-number
-invariant-loop-number g l = (k : ℕ) → k < l.number → SaysNone (g.M.MetaPages.pages l.pages) l.sign l.tables.tags.items k
+invariant-loop-number g l = (k : ℕ) → k < l.number → ¬ IsSaidIn (g.M.MetaPages.pages l.pages) l.sign l.tables k
