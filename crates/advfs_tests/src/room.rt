@@ -152,3 +152,38 @@ fn a_full_domain_has_room_again_once_its_fileset_is_removed(rt: HostRuntime) -> 
     );
     Ok(())
 }
+
+/// Adds rows that make and remove a fileset with limits: those of ten users and of ten groups want
+/// more than one cell, and those of the fileset stand beside them.
+fn push_limited(alloc: Global, table: &mut String) -> Result<(), AllocError> {
+    table.push_str("mkfset home -> ok\nsetquota home fileset 0 9 0 -> ok\n")?;
+    for number in 1..=10 {
+        let rows = format!(in alloc;
+            "setquota home user {number} 3 64 -> ok\nsetquota home group {number} 5 0 -> ok\n"
+        )?;
+        table.push_str(rows.as_str())?;
+    }
+    table.push_str("create home:/a 10 2 -> ok\n")?;
+    table.push_str("showquota home user 10 -> ok files 1 3 blocks 0 64\nrmfset home -> ok\n")
+}
+
+/// There are 32 slots, and forty filesets with limits come and go, one after the other. Behind each
+/// command some of what is left of one is given up, so that behind a few more as many pages are
+/// free as in a domain of 512 that was just made.
+#[test]
+fn slots_of_filesets_that_had_limits_come_free(rt: HostRuntime) -> Result<(), Fail> {
+    let alloc = rt.alloc();
+    let mut table = String::from_str(alloc, "showfdmn -> ok 1:512:133:379:L\n")?;
+    for _ in 0..40 {
+        push_limited(alloc, &mut table)?;
+    }
+    for _ in 0..20 {
+        table.push_str("rmfset home -> E1 no-fileset\n")?;
+    }
+    table.push_str("showfsets -> ok\nshowfdmn -> ok 1:512:133:379:L\n")?;
+    assert!(rt;
+        is_answered(alloc, "512", table.as_str())?,
+        "the table is answered"
+    );
+    Ok(())
+}
