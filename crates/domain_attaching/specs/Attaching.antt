@@ -7,7 +7,7 @@ use Rattle.volume_disk.specs.Image.{Image}
 use Rattle.log_recovery.specs.Outcome.{IsSound}
 use Rattle.log_recovery.specs.declared.redone.Redone.{Redone}
 use Rattle.fileset_model.specs.Filesets.{FilesetMap}
-use Rattle.domain_layout.specs.Read.{ReadsFrom}
+use Rattle.domain_layout.specs.Read.{Means, ReadsFrom}
 use Rattle.domain_layout.specs.Reached.{Frame}
 use Rattle.staged_pages.specs.Store.{before_of}
 use Rattle.page_ways.specs.Frame.{frame_in}
@@ -15,10 +15,11 @@ use Rattle.domain_memory.specs.Memory.{StandsFor}
 use Rattle.domain_memory.specs.Staged.{IsSettled, MayGoBack}
 use Rattle.domain_memory.specs.declared.memory.DomainMemory.{DomainMemory}
 use Rattle.domain_bringing.specs.Brought.{IsBroughtFrom, IsWholeDomain}
+use Rattle.domain_bringing.specs.Fault.{IsNoDomain}
 use Rattle.domain_bringing.specs.declared.bringing.Brought.{Brought}
 use Rattle.domain_bringing.specs.declared.fault.BringFault.{BringFault}
 use Rattle.domain_bringing.specs.declared.fault.BringFault.TheVariants as bringing
-use Rattle.attached_domain.specs.Causes.{IsUnfit}
+use Rattle.attached_domain.specs.Causes.{HasCause as HasUnfitCause}
 use Rattle.attached_domain.specs.declared.unfit.Unfit.{Unfit}
 use Rattle.attached_domain.specs.declared.unfit.Unfit.TheVariants as fitting
 use Rattle.domain_attaching.specs.declared.bringing.BroughtMemory.{BroughtMemory}
@@ -63,7 +64,14 @@ pub record IsUnfitDomain (sizes : List ℕ) (image : Image) (why : Unfit) : Type
   pub whole : IsWholeDomain pages frame
   pub anchor : frame.anchor ≡ found.anchor
   pub same : IsBroughtFrom sizes image pages found
-  pub unfit : IsUnfit pages frame why
+  pub unfit : HasUnfitCause pages frame why
+
+-- an image may be attached as these filesets: it means them, at none of its places is it seen first
+-- that there is no domain, and it has no cause why it is not attached
+pub record IsAttachable (sizes : List ℕ) (image : Image) (all : FilesetMap) : Type 0 where
+  pub means : Means sizes image all
+  pub is_domain : (vol at : ℕ) → ¬ IsNoDomain sizes image vol at
+  pub fits : (why : Unfit) → ¬ IsUnfitDomain sizes image why
 
 -- ** What it is
 
