@@ -80,7 +80,7 @@ pub runs_from : (old attached new : Disk) (memory : DomainMemory) (sizes : List 
 runs_from old attached new memory sizes entries closed touches same stands from means leads = record {
   pages = before_of memory.pages;
   frame = frame_in memory.frame;
-  opened = λ told. let is = from told in (is.found, is.anchor, is.same);
+  opened = λ told. let is = from told in (is.found, is.anchor, is.same, is.whole);
   meant = λ told all meant home at. reads_so (kept_in memory) all home (means told all meant).stands at (λ place. refl);
   some = ∥∥₁_map stands (λ of_some. has_start memory old.sizes of_some.0 of_some.1);
   leads = subst (λ (l : List ℕ). ∥ LeadsFrom (before_of memory.pages) (frame_in memory.frame) l entries new (Tells old × closed) ∥₁) (same ∙ touches.sizes)
