@@ -115,10 +115,23 @@ pub(crate) const RUN: Call = (&["run", "s", "a"], "client 1\nmkfset home\n");
 
 const RUN_BAD: Call = (&["run", "s", "a"], "client 1\nmkfset home\nfrob x\n");
 
-/// A domain that was made, with four zeros where a page begins.
-fn harmed_image(alloc: Global, page: u32) -> Result<Image, Fail> {
+/// A fileset with a file in a directory: its tag page comes behind the fileset table, and then the
+/// page of the root.
+const LIVE: Call = (
+    &["run", "s", "a"],
+    "client 1\nmkfset home\nmkdir home:/d 10 20\ncreate home:/d/a 10 20\nwrite home:/d/a 0 61\n",
+);
+
+/// A domain with a file.
+fn live_image(alloc: Global) -> Result<Image, Fail> {
     let (image, _) = run_on(alloc, zero_image(alloc, 160, &[])?, MAKE)?;
-    Ok(harmed(image, page))
+    let (image, _) = run_on(alloc, image, LIVE)?;
+    Ok(image)
+}
+
+/// A domain with a file, and four zeros where a page begins.
+fn harmed_image(alloc: Global, page: u32) -> Result<Image, Fail> {
+    Ok(harmed(live_image(alloc)?, page))
 }
 
 /// Adds what a block of an image holds, if the image has it.
@@ -212,18 +225,9 @@ fn nothing_is_run_on_a_harmed_image_nor_written(rt: HostRuntime) -> Result<(), F
     Ok(())
 }
 
-/// A fileset with a file in a directory: its tag page comes behind the fileset table, and then the
-/// page of the root.
-const LIVE: Call = (
-    &["run", "s", "a"],
-    "client 1\nmkfset home\nmkdir home:/d 10 20\ncreate home:/d/a 10 20\nwrite home:/d/a 0 61\n",
-);
-
 /// A domain with a file, and one byte turned over of a page.
 fn flipped_image(alloc: Global, page: u32, at: u8) -> Result<Image, Fail> {
-    let (image, _) = run_on(alloc, zero_image(alloc, 160, &[])?, MAKE)?;
-    let (image, _) = run_on(alloc, image, LIVE)?;
-    Ok(flipped(image, page, at))
+    Ok(flipped(live_image(alloc)?, page, at))
 }
 
 /// Bytes that are turned over, each with a fault that is found, and the page that a run names,

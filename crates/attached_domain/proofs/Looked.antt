@@ -1,5 +1,5 @@
 -- Tags, and slots, that are looked at one after another.
-use Rattle.std.proofs.Common.{◌≡◌, ◌∙◌, ◌↔◌, ℕ, ◌+◌, ◌<◌, Bool, true, false, IsTrue, List, [], length, Option, Some, None, IsSome, IsSomeAnd, slice_get, refl, sym, subst, arith, ⊎_elim}
+use Rattle.std.proofs.Common.{◌≡◌, ◌∙◌, ◌↔◌, ℕ, ◌+◌, ◌<◌, Bool, true, false, IsTrue, List, [], length, Option, Some, None, IsSome, IsSomeAnd, slice_get, refl, sym, ap, subst, arith, ⊎_elim}
 use Rattle.std.proofs.lemmas.Bool.{cases_lt}
 use mathlib.Core.Bool.{false≢true}
 use Rattle.std.proofs.lemmas.Option.{slice_get_cases}
@@ -56,8 +56,8 @@ module _ (pages : Pages) (sign : Sign) (tables : DomainTables) (number : ℕ) (i
   pub said_of : asks sign item ≡ true → (says : Bool) → (IsTrue says ↔ TagSays pages sign places) → (IsTrue says ↔ IsSaidIn pages sign tables number)
   said_of asked says is_said = ((λ so. said (asked, is_said.0 so)), (λ s. is_said.1 (says_there s).1))
 
-  pub not_said : asks sign item ≡ false → ¬ IsSaidIn pages sign tables number
-  not_said unasked s = false≢true (sym unasked ∙ (says_there s).0)
+pub not_said : (pages : Pages) (sign : Sign) (tables : DomainTables) (number : ℕ) (item : SlotItem) → slice_get tables.filesets.slots number ≡ Some item → asks sign item ≡ false → ¬ IsSaidIn pages sign tables number
+not_said pages sign tables number item is unasked s = false≢true (sym unasked ∙ ap (asks sign) (sym (some_same s.item item (sym s.is ∙ is))) ∙ s.says.0)
 
 pub no_slot_says : (pages : Pages) (sign : Sign) (tables : DomainTables) → ((k : ℕ) → k < 32 → ¬ IsSaidIn pages sign tables k) → ¬ SlotSays pages sign tables
 no_slot_says pages sign tables none (number, below, is) = none number below is

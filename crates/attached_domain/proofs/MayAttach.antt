@@ -98,8 +98,7 @@ module _ (pages : Pages) (frame : Frame) (may : MayBeRead pages frame) (tables :
             there = places.2;
             says = (
               asked item there,
-              tag,
-              record { at = at; leads = subst (λ (ps : List TagPlace). cell_of pages ps tag ≡ Some at) same leads; says = record { cell = cell; stands = stands; says = says } },
+              (tag, record { at = at; leads = subst (λ (ps : List TagPlace). cell_of pages ps tag ≡ Some at) same leads; says = record { cell = cell; stands = stands; says = says } }),
             );
           },
         ))

@@ -11,6 +11,8 @@ use Rattle.anchor_laws.proofs.Beside.{alone_with, marked_with, parents_with, sou
 use Rattle.domain_memory.specs.Memory.{StandsFor, kept_in}
 use Rattle.domain_memory.specs.Staged.{IsSettled, MayGoBack}
 use Rattle.domain_memory.specs.declared.memory.DomainMemory.{DomainMemory}
+use Rattle.staged_pages.specs.Store.{before_of}
+use Rattle.domain_bringing.specs.Brought.{IsWholeDomain}
 use Rattle.domain_attaching.specs.Settling.{rested_anchor, with_anchor}
 
 -- both anchors are of one domain
@@ -61,3 +63,8 @@ stands_anew memory found is all stands = stands_with_anchor memory (rested_ancho
 -- by whatever name the anchor has
 pub stands_new : (memory : DomainMemory) (found : Redone) (anchor : Anchor) → anchor ≡ rested_anchor found → memory.frame.anchor ≡ found.anchor → (all : FilesetMap) → StandsFor memory all → StandsFor (with_anchor anchor memory) all
 stands_new memory found anchor is same all stands = subst (λ (a : Anchor). StandsFor (with_anchor a memory) all) (sym is) (stands_anew memory found same all stands)
+
+-- the pages that memory has break no rule of the domain with the anchor that was recovered
+pub whole_anew : (memory : DomainMemory) (found : Redone) → memory.frame.anchor ≡ found.anchor → IsWholeDomain (before_of memory.pages) (frame_in memory.frame)
+    → IsWholeDomain (before_of memory.pages) (record (frame_in memory.frame) { anchor = found.anchor })
+whole_anew memory found is whole = subst (λ (a : Anchor). IsWholeDomain (before_of memory.pages) (record (frame_in memory.frame) { anchor = a })) is whole

@@ -19,6 +19,7 @@ use Rattle.log_recovery.proofs.GoodAnchors.{keeps_good_anchor}
 use Rattle.fileset_model.specs.Filesets.{FilesetMap}
 use Rattle.page_ways.specs.Frame.{frame_in}
 use Rattle.staged_pages.specs.Store.{before_of, pages_of}
+use Rattle.domain_layout.specs.Owners.{frame_of}
 use Rattle.domain_layout.specs.Read.{Means}
 use Rattle.anchor_laws.specs.Domain.{DomainNow, layout_of}
 use Rattle.anchor_laws.proofs.OneMeaning.{reads_so}
@@ -26,7 +27,9 @@ use Rattle.sound_laws.proofs.WholeDomain.{sound_faultless}
 use Rattle.domain_memory.specs.Memory.{StandsFor, kept_in}
 use Rattle.domain_memory.specs.Staged.{IsSettled as IsSettledMemory}
 use Rattle.domain_memory.specs.declared.memory.DomainMemory.{DomainMemory}
-use Rattle.domain_bringing.proofs.Means.{AreThoseOf, those_mean}
+use Rattle.domain_bringing.specs.Brought.{HasDomainPages, IsGoodFrame}
+use Rattle.domain_bringing.specs.Looks.{AgreeWhereRulesLook}
+use Rattle.domain_bringing.proofs.Means.{AreThoseOf, behind, those_mean}
 use Rattle.domain_bringing.proofs.Ranges.{good_frame, in_range}
 use Rattle.domain_state.specs.Rest.{IsAtRest}
 use Rattle.domain_attaching.proofs.ItsPages.{all_there, looked_there}
@@ -66,10 +69,10 @@ closed old new memory told rest touches home synced kept =
 
 -- ---- what it means
 
-abbrev found_of : Anchor → Redone
+abbrev pub found_of : Anchor → Redone
 found_of anchor = record { anchor = anchor; images = []; next_group = anchor.group; next_place = anchor.start % 128 }
 
-recovered_none : (sizes : List ℕ) (image : Image) (anchor : Anchor) → HasGoodAnchor sizes image anchor → HasLog sizes anchor [] image → HasRecovered sizes image [] (found_of anchor)
+pub recovered_none : (sizes : List ℕ) (image : Image) (anchor : Anchor) → HasGoodAnchor sizes image anchor → HasLog sizes anchor [] image → HasRecovered sizes image [] (found_of anchor)
 recovered_none sizes image anchor good log = record {
   good = good;
   log = log;
@@ -85,22 +88,37 @@ those_home memory image home at loggable some = by_page (before_of memory.pages 
     by_page None none is = absurd (let e : IsSome {T = List ℕ} None = none in absurd (cc))
     by_page (Some page) some is = ap Some (sym is)
 
-pub means_kept : (disk : Disk) (memory : DomainMemory) → IsClosed disk memory → (all : FilesetMap) → StandsFor memory all → (image : Image) → MayLeave disk.now image → Means disk.sizes image all
-means_kept disk memory is all stands image left =
-    let d : DomainNow = kept_in memory in
-    let good = is.none.good image left in
-    let version = stands.stands.tables.laid.version in
-    let range = good_frame memory.frame.anchor memory.frame.version good.in_range.whole version (in_range disk.sizes image memory.frame.anchor memory.frame.version version good) in
-    let none = sound_faultless d all stands.stands stands.sound stands.parents stands.marked in
-    (those_mean disk.sizes image d.pages [] (found_of memory.frame.anchor) (frame_in memory.frame)
-    range
-    (record {
-      laid_out = record { layout = layout_of d; is = refl; laid = stands.stands.tables.laid };
-      no_fault = none;
-      looked = looked_there d all stands.stands range stands.marked none;
-      all = all_there d all stands.stands range stands.marked none (λ home. refl);
-    }) refl (recovered_none disk.sizes image memory.frame.anchor good (is.none.stands image left)) (those_home memory image (is.home image left)) all).1
-    (λ home at. reads_so d all home stands.stands at (λ place. refl))
+module _ (disk : Disk) (memory : DomainMemory) (is : IsClosed disk memory) (all : FilesetMap) (stands : StandsFor memory all) (image : Image) (left : MayLeave disk.now image) where
+  abbrev d : DomainNow
+  d = kept_in memory
+
+  good : HasGoodAnchor disk.sizes image memory.frame.anchor
+  good = is.none.good image left
+
+  range : IsGoodFrame (frame_in memory.frame)
+  range =
+      let version = stands.stands.tables.laid.version in
+      good_frame memory.frame.anchor memory.frame.version good.in_range.whole version (in_range disk.sizes image memory.frame.anchor memory.frame.version version good)
+
+  its_pages : HasDomainPages d.pages (frame_in memory.frame)
+  its_pages =
+      let none = sound_faultless d all stands.stands stands.sound stands.parents stands.marked in
+      record {
+        laid_out = record { layout = layout_of d; is = refl; laid = stands.stands.tables.laid };
+        no_fault = none;
+        looked = looked_there d all stands.stands range stands.marked none;
+        all = all_there d all stands.stands range stands.marked none (λ home. refl);
+      }
+
+  pub means_kept : Means disk.sizes image all
+  means_kept =
+      (those_mean disk.sizes image d.pages [] (found_of memory.frame.anchor) (frame_in memory.frame)
+      range its_pages refl (recovered_none disk.sizes image memory.frame.anchor good (is.none.stands image left)) (those_home memory image (is.home image left)) all).1
+      (λ home at. reads_so d all home stands.stands at (λ place. refl))
+
+  -- where the rules look at the image's pages, they are those in memory
+  pub image_agrees : AgreeWhereRulesLook (redone [] image) d.pages (frame_of (layout_of d))
+  image_agrees = behind d.pages [] image (layout_of d) stands.stands.tables.laid range its_pages (those_home memory image (is.home image left))
 
 -- ---- what is asked, where it is known that the rack is at rest
 

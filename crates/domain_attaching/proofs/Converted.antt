@@ -1,6 +1,9 @@
 -- Faults of bringing, and why a domain is unfit, as faults of attaching.
 use Rattle.std.proofs.Common.{◌≡◌, ℕ}
+use Rattle.page_store.specs.Pages.{Pages}
 use Rattle.volume_disk.specs.Disk.{Disk}
+use Rattle.domain_layout.specs.Reached.{Frame}
+use Rattle.attached_domain.specs.Causes.{HasCause as HasUnfitCause, IsUnfit}
 use Rattle.attached_domain.specs.declared.unfit.Unfit.{Unfit}
 use Rattle.attached_domain.specs.declared.unfit.Unfit.TheVariants as fitting
 use Rattle.domain_bringing.specs.Fault.{HasCause as HasCauseThere, IfNotADomain as IfNotADomainThere}
@@ -39,10 +42,11 @@ cause_of_unfit old new fitting.RemovedFile is = is
 cause_of_unfit old new fitting.CutDirectory is = is
 cause_of_unfit old new fitting.OutOfMemory is = is
 
-pub why_of_unfit : (why : Unfit) (P : Unfit → Type 0) → P why → IfNotFit (of_unfit why) P
-why_of_unfit fitting.Cloned P is = is
-why_of_unfit fitting.ReadThrough P is = is
-why_of_unfit fitting.WrongQuotas P is = is
-why_of_unfit fitting.RemovedFile P is = is
-why_of_unfit fitting.CutDirectory P is = is
-why_of_unfit fitting.OutOfMemory P is = tt
+-- want of memory is told as such, and all else has its cause in the pages
+pub why_of_unfit : (pages : Pages) (frame : Frame) (why : Unfit) (P : Unfit → Type 0) → IsUnfit pages frame why → (HasUnfitCause pages frame why → P why) → IfNotFit (of_unfit why) P
+why_of_unfit pages frame fitting.Cloned P has so = so has
+why_of_unfit pages frame fitting.ReadThrough P has so = so has
+why_of_unfit pages frame fitting.WrongQuotas P has so = so has
+why_of_unfit pages frame fitting.RemovedFile P has so = so has
+why_of_unfit pages frame fitting.CutDirectory P has so = so has
+why_of_unfit pages frame fitting.OutOfMemory P has so = tt

@@ -8,6 +8,9 @@ pub mod Marked
 pub mod TablesMarked
 pub mod ItsPages
 pub mod AtClose
+pub mod DomainFits
+pub mod NoUnfit
+pub mod Attachable
 pub mod MayRead
 pub mod Converted
 pub use Rattle.anchor_laws.proofs.OneMeaning

@@ -7,17 +7,19 @@ use Rattle.volume_disk.specs.Image.{Image}
 use Rattle.log_recovery.specs.Outcome.{IsSound}
 use Rattle.log_recovery.specs.declared.redone.Redone.{Redone}
 use Rattle.fileset_model.specs.Filesets.{FilesetMap}
-use Rattle.domain_layout.specs.Read.{ReadsFrom}
+use Rattle.domain_layout.specs.Read.{Means, ReadsFrom}
 use Rattle.domain_layout.specs.Reached.{Frame}
 use Rattle.staged_pages.specs.Store.{before_of}
+use Rattle.page_ways.specs.Frame.{frame_in}
 use Rattle.domain_memory.specs.Memory.{StandsFor}
 use Rattle.domain_memory.specs.Staged.{IsSettled, MayGoBack}
 use Rattle.domain_memory.specs.declared.memory.DomainMemory.{DomainMemory}
 use Rattle.domain_bringing.specs.Brought.{IsBroughtFrom, IsWholeDomain}
+use Rattle.domain_bringing.specs.Fault.{IsNoDomain}
 use Rattle.domain_bringing.specs.declared.bringing.Brought.{Brought}
 use Rattle.domain_bringing.specs.declared.fault.BringFault.{BringFault}
 use Rattle.domain_bringing.specs.declared.fault.BringFault.TheVariants as bringing
-use Rattle.attached_domain.specs.Causes.{IsUnfit}
+use Rattle.attached_domain.specs.Causes.{HasCause as HasUnfitCause}
 use Rattle.attached_domain.specs.declared.unfit.Unfit.{Unfit}
 use Rattle.attached_domain.specs.declared.unfit.Unfit.TheVariants as fitting
 use Rattle.domain_attaching.specs.declared.bringing.BroughtMemory.{BroughtMemory}
@@ -62,7 +64,14 @@ pub record IsUnfitDomain (sizes : List ℕ) (image : Image) (why : Unfit) : Type
   pub whole : IsWholeDomain pages frame
   pub anchor : frame.anchor ≡ found.anchor
   pub same : IsBroughtFrom sizes image pages found
-  pub unfit : IsUnfit pages frame why
+  pub unfit : HasUnfitCause pages frame why
+
+-- an image may be attached as these filesets: it means them, at none of its places is it seen first
+-- that there is no domain, and it has no cause why it is not attached
+pub record IsAttachable (sizes : List ℕ) (image : Image) (all : FilesetMap) : Type 0 where
+  pub means : Means sizes image all
+  pub is_domain : (vol at : ℕ) → ¬ IsNoDomain sizes image vol at
+  pub fits : (why : Unfit) → ¬ IsUnfitDomain sizes image why
 
 -- ** What it is
 
@@ -71,8 +80,8 @@ abbrev pub HaveFilesets : Brought → FilesetMap → Type 0
 HaveFilesets brought all = (home : Home) → brought.frame.anchor.table ≡ Some home
     → ReadsFrom (before_of brought.pages) home all
 
--- memory is that of a domain with some filesets; no change is laid over it, and one may be taken
--- back; the log that was recovered with it may be settled
+-- memory is that of a domain with some filesets, whose pages break no rule; no change is laid over
+-- it, and one may be taken back; the log that was recovered with it may be settled
 pub record IsBroughtMemory (sizes : List ℕ) (found : BroughtMemory) : Type 0 where
   pub all : FilesetMap
   pub stands : StandsFor found.memory all
@@ -80,10 +89,13 @@ pub record IsBroughtMemory (sizes : List ℕ) (found : BroughtMemory) : Type 0 w
   pub back : MayGoBack found.memory
   pub anchor : found.memory.frame.anchor ≡ found.redone.anchor
   pub sound : IsSound sizes found.redone
+  pub whole : IsWholeDomain (before_of found.memory.pages) (frame_in found.memory.frame)
 
--- the pages in memory are those of an image once its log is redone, and its anchor is the one with
--- which that log is at rest
+-- the pages in memory are those of an image once its log is redone, and break no rule of a domain
+-- with the anchor that was recovered; memory's anchor is the one with which that log is at rest
 pub record IsReadFrom (sizes : List ℕ) (image : Image) (memory : DomainMemory) : Type 0 where
   pub found : Redone
   pub anchor : memory.frame.anchor ≡ rested_anchor found
   pub same : IsBroughtFrom sizes image (before_of memory.pages) found
+  pub whole : IsWholeDomain (before_of memory.pages)
+      (record (frame_in memory.frame) { anchor = found.anchor })

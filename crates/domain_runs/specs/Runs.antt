@@ -17,7 +17,7 @@ use Rattle.history_model.specs.State.{State, new_domain}
 use Rattle.log_recovery.specs.declared.redone.Redone.{Redone}
 use Rattle.domain_layout.specs.Reached.{Frame}
 use Rattle.domain_layout.specs.Read.{Means, ReadsFrom}
-use Rattle.domain_attaching.specs.Brought.{IsBroughtFrom}
+use Rattle.domain_attaching.specs.Brought.{IsBroughtFrom, IsWholeDomain}
 use Rattle.domain_attaching.specs.Fault.{IsNoDomain}
 use Rattle.domain_attaching.specs.unfit.Unfit.{Unfit}
 use Rattle.domain_attaching.specs.unfit.Unfit.TheVariants as unfit
@@ -59,10 +59,12 @@ pub record LeadsFromNew (version : Version) (sizes : List ℕ) (entries : List E
   pub kept : closed → Keeps new all
   pub volumes : closed → KeepsVolumes new (new_domain version sizes)
 
--- pages with this anchor are those of an image once its log is redone and at rest
+-- pages with this anchor are those of an image once its log is redone and at rest, and break no
+-- rule of a domain with the anchor that was recovered
 abbrev pub AreOpenedFrom : List ℕ → Image → Pages → Frame → Type 0
 AreOpenedFrom sizes image pages frame = (found : Redone)
     × (frame.anchor ≡ rested_anchor found) × IsBroughtFrom sizes image pages found
+    × IsWholeDomain pages (record frame { anchor = found.anchor })
 
 -- the entries lead from what a rack had to what it has now: the pages at the start are those of its
 -- contents, and mean what these meant; whatever the rack tells, there is a state that they mean

@@ -87,8 +87,9 @@ fn told_otherwise(alloc: Global, version: Version, images: &[Attached]) -> Resul
     Ok(wrong)
 }
 
-/// Images of version 3 that are attached.
-static THREE: [Attached; 6] = [
+/// Images of version 3 that are attached; in the last one a directory of what is being removed is
+/// to be cut.
+static THREE: [Attached; 7] = [
     (Whole::Empty, "", "used 133\n"),
     (Whole::Files, "", "used 140\nslot 0: 1, 3 64, 2 48, 0 0\n"),
     (Whole::Indexed, "", "used 140\nslot 0: 1, 3 0, 0 0, 0 0\n"),
@@ -101,6 +102,11 @@ static THREE: [Attached; 6] = [
     (
         Whole::Removed,
         "",
+        "used 137\nto go\nslot 0: 1, 0 0, 0 0, 0 0\nslot 1: 1, 0 0, 0 0, 0 0\n",
+    ),
+    (
+        Whole::Removed,
+        "cell 3.5 1 2 1.1 - dir,8192,keep=1 short,0+1@200 trim parent,1.1",
         "used 137\nto go\nslot 0: 1, 0 0, 0 0, 0 0\nslot 1: 1, 0 0, 0 0, 0 0\n",
     ),
 ];
@@ -117,9 +123,9 @@ static FOUR: [Attached; 4] = [
     ),
 ];
 
-/// Images that are not: one that breaks a rule; a clone; quota
-/// cells that are none of what is being removed; a file that is to be removed, but has a tag; and a
-/// directory that is to be cut.
+/// Images that are not: one that breaks a rule; a clone; quota cells that are none of what is being
+/// removed; a file that is to be removed, but has a tag; and a directory of an original that is to
+/// be cut.
 static REFUSED: [Attached; 5] = [
     (
         Whole::Files,

@@ -13,7 +13,7 @@ use Rattle.domain_memory.specs.declared.memory.DomainMemory.{DomainMemory}
 use Rattle.domain_bringing.specs.Fault.{IsNoDomain}
 use Rattle.domain_attaching.specs.Attaching.{HasCause, IfNotADomain, IfNotFit, IsBroughtMemory, IsReadFrom, IsUnfitDomain}
 use Rattle.domain_attaching.specs.Settling.{HasNoGroups, IfRefused, IsNotSettled, StandHome, StaysReadSince, WritesNone, rested_anchor, with_anchor}
-use Rattle.domain_attaching.proofs.Anew.{stands_anew}
+use Rattle.domain_attaching.proofs.Anew.{stands_anew, whole_anew}
 use Rattle.domain_attaching.proofs.HomeKept.{passed_then}
 use Rattle.domain_attaching.proofs.Mapped.{err_too, ok_both, ok_too}
 use Rattle.domain_attaching.proofs.Rested.{home_since, recovered_synced, stand_home, still_since}
@@ -40,7 +40,12 @@ returns-in-Ok-clause-from g c =
     let old = g.R.Rack.disk c.args.rack in
     let found = c.in-Ok.found in
     ok_too c.attach_brought.result (λ attached. attached.memory ≡ with_anchor (rested_anchor found.redone) found.memory) (λ attached. Tells old → IsReadFrom old.sizes old.now.contents attached.memory)
-    (λ attached is told. subst (λ (m : DomainMemory). IsReadFrom old.sizes old.now.contents m) (sym is) (record { found = found.redone; anchor = refl; same = c.in-Ok.ensures.same told })) c.attach_brought.ensures.memory
+    (λ attached is told. subst (λ (m : DomainMemory). IsReadFrom old.sizes old.now.contents m) (sym is) (record {
+      found = found.redone;
+      anchor = refl;
+      same = c.in-Ok.ensures.same told;
+      whole = whole_anew found.memory found.redone c.in-Ok.ensures.memory.anchor c.in-Ok.ensures.memory.whole;
+    })) c.attach_brought.ensures.memory
 
 pub returns-in-Ok-clause-home : goal.returns-in-Ok-clause-home
 returns-in-Ok-clause-home g c =

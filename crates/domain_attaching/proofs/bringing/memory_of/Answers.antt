@@ -4,6 +4,7 @@ use Rattle.staged_pages.specs.Store.{before_of}
 use Rattle.page_ways.specs.Frame.{frame_in}
 use Rattle.domain_layout.specs.Reached.{Frame}
 use Rattle.attached_domain.specs.Causes.{MayBeRead}
+use Rattle.domain_bringing.specs.Brought.{IsWholeDomain}
 use Rattle.domain_attaching.proofs.MayRead.{may_be_read, table_home}
 use Rattle.domain_attaching.proofs.bringing.memory_of.Goals as goal
 
@@ -26,6 +27,8 @@ returns-clause-memory c sizes is =
       back = c.in_ok-memory.ensures.back;
       anchor = ap (λ (f : Frame). f.anchor) c.in_ok-memory.ensures.frame ∙ is.anchor;
       sound = is.sound;
+      whole = subst (IsWholeDomain (before_of c.in_ok-memory.memory.pages)) (sym c.in_ok-memory.ensures.frame)
+          (subst (λ (p : Pages). IsWholeDomain p (frame_in brought.frame)) (ap before_of (sym c.in_ok-memory.ensures.pages)) is.whole);
     }
 
 pub returns-clause-stands : goal.returns-clause-stands

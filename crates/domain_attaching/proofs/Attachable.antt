@@ -1,0 +1,40 @@
+-- What a domain that was closed, or was just made, leaves on its volumes is attachable.
+use Rattle.std.proofs.Common.{refl, sym, subst}
+use Rattle.std.specs.FinMap.{empty}
+use Rattle.volume_disk.specs.Disk.{Disk, MayLeave}
+use Rattle.volume_disk.specs.Image.{Image}
+use Rattle.disk_label.specs.declared.anchor.Anchor.{Anchor}
+use Rattle.log_ring.specs.Groups.{pages_in}
+use Rattle.fileset_model.specs.Filesets.{FilesetMap}
+use Rattle.attached_domain.proofs.NewFits.{new_fits}
+use Rattle.attached_domain.proofs.NoCause.{ReadsFit}
+use Rattle.anchor_laws.specs.Domain.{DomainNow}
+use Rattle.anchor_laws.specs.Standing.{StandsDomain}
+use Rattle.sound_laws.proofs.NoTable.{table_is}
+use Rattle.domain_memory.specs.Memory.{StandsFor, kept_in}
+use Rattle.domain_memory.specs.declared.memory.DomainMemory.{DomainMemory}
+use Rattle.domain_state.specs.Making.{IsEmptyDomain, IsMade}
+use Rattle.domain_attaching.specs.Attaching.{IsAttachable}
+use Rattle.domain_attaching.specs.Closing.{IsClosed}
+use Rattle.domain_attaching.proofs.AtClose.{image_agrees, means_kept}
+use Rattle.domain_attaching.proofs.DomainFits.{domain_fits}
+use Rattle.domain_attaching.proofs.NoUnfit.{FitsSo, attachable}
+
+-- nothing is in memory that stands for filesets for which its domain is not attached
+memory_fits : (memory : DomainMemory) (all : FilesetMap) → StandsFor memory all → FitsSo (kept_in memory).pages (kept_in memory).frame
+memory_fits memory all stands table says =
+    let d : DomainNow = kept_in memory in
+    let is = stands.sound in
+    let whole : StandsDomain d all = stands.stands in
+    let so : StandsDomain d all = record whole { files = is.files; indexes = is.indexes; tables = is.below.tables; chains = is.below.chains; owned = is.below.owned; rest = is.below.rest } in
+    subst (ReadsFit d.pages d.frame) (sym (table_is d so.tables table says)) (domain_fits d all so is.sound stands.alone)
+
+pub closed_attachable : (disk : Disk) (memory : DomainMemory) (all : FilesetMap) → IsClosed disk memory → StandsFor memory all → (image : Image) → MayLeave disk.now image → IsAttachable disk.sizes image all
+closed_attachable disk memory all is stands image left =
+    attachable disk.sizes image memory.frame.anchor memory.frame.version stands.stands.tables.laid.version (is.none.good image left) (is.none.stands image left) all (means_kept disk memory is all stands image left)
+    (kept_in memory).pages (image_agrees disk memory is all stands image left) (memory_fits memory all stands)
+
+pub made_attachable : (disk : Disk) (anchor : Anchor) → IsMade disk anchor → (image : Image) → MayLeave disk.now image → IsAttachable disk.sizes image empty
+made_attachable disk anchor made image left =
+    let is : IsEmptyDomain disk.sizes anchor image = made.images image left in
+    attachable disk.sizes image anchor is.version is.is_version is.good is.log empty is.means (pages_in image) (λ home looks. refl) (new_fits (pages_in image) (record { anchor = anchor; version = is.version }) is.fresh)
