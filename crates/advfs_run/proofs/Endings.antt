@@ -1,5 +1,5 @@
 -- How a run ends, by its parts.
-use Rattle.std.proofs.Common.{inl, inr, ◌≡◌, ◌∙◌, ◌⊎◌, ℕ, List, [], ◌++◌, Option, Some, None, Result, Ok, Err, All, sym, ap, subst, ⊎_elim, map}
+use Rattle.std.proofs.Common.{inl, inr, ◌≡◌, ◌∙◌, ◌⊎◌, ℕ, List, [], ◌++◌, Option, Some, None, Result, Ok, Err, sym, ap, subst, ⊎_elim, map}
 use Rattle.std.proofs.Math.Logic.{∥∥₁_map}
 use Rattle.std.proofs.lemmas.List.{append-nil}
 use Rattle.std.proofs.lemmas.List.Elements.{All-nil}
@@ -332,7 +332,12 @@ module _ (end s : Status) (prints : PrintsAs end s) where
 
   pub ended_run : (form : Form) (old new : Disk) (history : List Entry) → LeadsFor form old new history (end ≡ status.Ok) → RunsFor (Ok form) old new s history
   ended_run (a_form.Try pages) old new history leads =
-      inr (∥∥₁_map leads (λ is. record { all = is.all; leads = is.leads; kept = λ closed. is.kept (closed.0, ended_well closed.1) }))
+      inr (∥∥₁_map leads (λ is. record {
+        all = is.all;
+        leads = is.leads;
+        kept = λ closed. is.kept (closed.0, ended_well closed.1);
+        volumes = λ closed. is.volumes (closed.0, ended_well closed.1);
+      }))
   ended_run a_form.Run old new history leads =
       inr (record {
         pages = leads.pages;
@@ -340,7 +345,12 @@ module _ (end s : Status) (prints : PrintsAs end s) where
         opened = leads.opened;
         meant = leads.meant;
         some = leads.some;
-        leads = ∥∥₁_map leads.leads (λ is. record { all = is.all; leads = is.leads; kept = λ closed. is.kept (closed.0, ended_well closed.1) });
+        leads = ∥∥₁_map leads.leads (λ is. record {
+          all = is.all;
+          leads = is.leads;
+          kept = λ closed. is.kept (closed.0, ended_well closed.1);
+          volumes = λ closed. is.volumes (closed.0, ended_well closed.1);
+        });
       })
   ended_run (a_form.Make version) old new history leads = absurd leads
   ended_run a_form.Verify old new history leads = absurd leads

@@ -1,6 +1,4 @@
 //! Images that are no domain: cut short, of text, and with a harmed page of an index.
-ghost use Rattle.std.specs.Prelude.{◌≡◌, length};
-
 use crate::images::{
     Image, MAKE, RUN, VERIFY, bytes_of, flipped, outcome_on, run_on, run_script, with_block,
     zero_image,

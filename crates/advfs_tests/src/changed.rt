@@ -37,7 +37,7 @@ fn new_image(alloc: Global) -> Result<Image, Fail> {
     Ok(image)
 }
 
-/// A file of 65,536 pages, of which each second one of the first 600 is there: 300 extents.
+/// A file as long as 65,536 pages, of which each second one of the first 600 is there: 300 extents.
 fn large_file(alloc: Global) -> Result<String, Fail> {
     let mut lines = String::from_str(
         alloc,
@@ -50,7 +50,7 @@ fn large_file(alloc: Global) -> Result<String, Fail> {
     Ok(lines)
 }
 
-/// The page itself, that of the bitmap, and pages of cells: of the file's attributes, of the extent,
+/// The page itself, that of the bitmap, and pages of cells: of the file's attributes, of the extent
 /// and of a cell that is new.
 #[test]
 fn a_write_of_one_page_changes_few_pages_of_a_large_file(rt: HostRuntime) -> Result<(), Fail> {

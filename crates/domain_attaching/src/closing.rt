@@ -1,7 +1,7 @@
 //! Closing a domain.
 ghost use Rattle.std.specs.Prelude.{◌≡◌, ◌*◌, IfErr, IfOk, OnErr, OnOk, length};
 ghost use Rattle.log_ring.specs.Homes.{HasMembers};
-ghost use Rattle.staged_pages.specs.Store.{before_of, pages_of};
+ghost use Rattle.staged_pages.specs.Store.{pages_of};
 ghost use Rattle.volume_disk.specs.Disk.{IsSettled as IsSynced, Tells, raised_at};
 ghost use Rattle.volume_disk.specs.Run.{NamesWriteFault, Touches};
 ghost use Rattle.anchor_laws.specs.Domain.{layout_of};

@@ -1,11 +1,12 @@
 -- A run over a domain that was opened, and its closing.
 use Rattle.std.proofs.Common.{◌≡◌, ◌∙◌, ℕ, ◌≤◌, List, All, Option, None, ap, arith, refl, sym, subst}
 use Rattle.std.proofs.Math.Logic.{∥∥₁_map}
+use Rattle.domain_base.specs.Counts.{HasRisen}
 use Rattle.domain_base.specs.declared.version.Version.{Version}
 use Rattle.page_store.specs.Pages.{Pages}
 use Rattle.volume_disk.specs.Disk.{Disk, Tells, raised_at}
 use Rattle.volume_disk.specs.Run.{Touches}
-use Rattle.volume_disk.proofs.Laws.{HasRisen-before, HasRisen-write}
+use Rattle.volume_disk.proofs.Laws.{HasRisen-before, HasRisen-raised_at}
 use Rattle.fileset_model.specs.Filesets.{FilesetMap}
 use Rattle.fileset_model.specs.declared.command.Command.{Command}
 use Rattle.fileset_model.specs.declared.entry.Entry.{Entry}
@@ -31,7 +32,7 @@ use Rattle.domain_attaching.proofs.AtClose.{room_of_other}
 use Rattle.domain_attaching.proofs.OneMeaning.{reads_so}
 use Rattle.run_parts.specs.declared.status.Status.{Status}
 use Rattle.run_parts.specs.declared.status.Status.TheVariants as status
-use Rattle.domain_runs.specs.Runs.{AreStampedWithin, ClosesAs, LeadsFrom, LeadsFromNew, RunsFrom, WriteFailed}
+use Rattle.domain_runs.specs.Runs.{AreStampedWithin, ClosesAs, LeadsFrom, LeadsFromNew, RunsFrom}
 
 -- ---- where a history leads
 
@@ -66,7 +67,7 @@ runs_new version old made new memory entries closed touches fresh frame leads = 
   leads = on.leads (new_domain version old.sizes)
       (subst (λ (l : List ℕ). IsStartOf (before_of memory.pages) (frame_in memory.frame) l (new_domain version old.sizes)) (sym touches.sizes) starts);
   kept = λ both. on.kept (touches.told ∙ both.0, both.1);
-  volumes = λ both. ∥∥₁_map (on.volumes (touches.told ∙ both.0, both.1)) (λ none. (memory.frame.anchor, (starts.volumes, none)));
+  volumes = λ both. ∥∥₁_map (on.volumes (touches.told ∙ both.0, both.1)) (λ none. (memory.frame.anchor, starts.volumes, none));
 })
   where
     starts : IsStartOf (before_of memory.pages) (frame_in memory.frame) old.sizes (new_domain version old.sizes)
@@ -108,9 +109,10 @@ pub room_still : (pages : Pages) (frame : Frame) (sizes : List ℕ) (memory : Do
     → ∥ GoesOn pages frame sizes memory entries job ∥₁ → HasRoomFor frame.anchor room → HasRoomFor memory.frame.anchor room
 room_still pages frame sizes memory entries job room goes = room_of_other frame.anchor memory.frame.anchor room (∥∥₁_map goes (λ on. ap (λ f. f.anchor) on.same))
 
--- a write or a sync failed, and so it did since an earlier time
-pub failed_closing : (old new : Disk) (vol number : ℕ) → number ≡ vol → new.write_faults ≡ raised_at old.write_faults vol → WriteFailed old new number
-failed_closing old new vol number same is = subst (WriteFailed old new) (sym same) (HasRisen-write old new vol is)
+-- a write or a sync failed, whose count has risen; and so it did since an earlier time
+pub failed_closing : (before after : ℕ → ℕ) (vol number : ℕ) → number ≡ vol → after ≡ raised_at before vol → HasRisen (before number) (after number)
+failed_closing before after vol number same is =
+    subst (λ (v : ℕ). HasRisen (before v) (after v)) (sym same) (subst (λ (faults : ℕ → ℕ). HasRisen (before vol) (faults vol)) (sym is) (HasRisen-raised_at before vol))
 
 pub closes_since : (old mid new : Disk) (end : Status) → Touches old mid Anywhere → mid.write_faults ≡ old.write_faults → ClosesAs mid new end → ClosesAs old new end
 closes_since old mid new status.Ok touches passed closes = closes ∙ passed

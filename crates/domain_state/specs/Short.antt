@@ -4,11 +4,13 @@ use Rattle.fileset_model.specs.declared.reply.Refusal.TheVariants.{NoSpace}
 use Rattle.fileset_model.specs.declared.reply.Reply.{Reply}
 use Rattle.fileset_model.specs.declared.reply.Reply.TheVariants.{Refused}
 use Rattle.domain_memory.specs.Going.{NoneWaits, NothingGoes, free_in}
+use Rattle.domain_memory.specs.Staged.{IsSettled}
 use Rattle.domain_memory.specs.declared.memory.DomainMemory.{DomainMemory}
 
--- so many pages are free, which are fewer than are needed; no page waits, and nothing on the list may
--- be let go of, nor anything of what is being removed
+-- with no change laid over memory so many pages are free, which are fewer than are needed; no page
+-- waits, and nothing on the list may be let go of, nor anything of what is being removed
 pub record IsShort (memory : DomainMemory) (free need : ℕ) : Type 0 where
+  pub settled : IsSettled memory
   pub is_free : free ≡ free_in memory
   pub few : free < need
   pub none_waits : NoneWaits memory.space

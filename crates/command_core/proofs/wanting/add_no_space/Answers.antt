@@ -44,6 +44,7 @@ commit_unchanged-requires-clause-cause g c = λ free more is.
     let want = c.args.want in
     let same : (want.free ≡ free) × (want.need ≡ more) = (ap free_told is, ap need_told is) in
     subst (λ n. IsShort c.args.domain.memory n more) same.0 (subst (IsShort c.args.domain.memory want.free) same.1 (record {
+      settled = c.requires.settled;
       is_free = c.requires.free;
       few = c.requires.few;
       none_waits = c.requires.waits;
@@ -62,6 +63,7 @@ returns-clause-adds g c =
       stamp = c.calls-stamp.result;
       adds = c.commit_unchanged.ensures.history ∙ (λ i. it.history.entries.items ++ entry (free i) (c.requires.need i) ∷ []);
       short = subst (λ (m : DomainMemory). IsShort m (free_in m) (need c.args.command)) (sym same) (record {
+        settled = c.requires.settled;
         is_free = refl;
         few = subst (λ n. free_in it.memory < n) c.requires.need (subst (λ n. n < want.need) c.requires.free c.requires.few);
         none_waits = c.requires.waits;

@@ -1,4 +1,4 @@
-use Rattle.std.proofs.Common.{◌≡◌}
+use Rattle.std.proofs.Common.{◌≡◌, ℕ}
 use Rattle.std.proofs.Math.Logic.{∥∥₁_map}
 use Rattle.log_settling.proofs.Settled.{anywhere}
 use Rattle.run_parts.specs.declared.status.Status.TheVariants as status
@@ -32,4 +32,6 @@ pub returns-in-Err-clause-touches : goal.returns-in-Err-clause-touches
 returns-in-Err-clause-touches g c = anywhere (g.R.Rack.disk c.args.domain.history.rack) _ _ c.in-Err.ensures.touches_at_fault
 
 pub returns-in-Err-clause-ends : goal.returns-in-Err-clause-ends
-returns-in-Err-clause-ends g c = failed_closing (g.R.Rack.disk c.args.domain.history.rack) _ _ c.number.result c.number.ensures.value c.in-Err.ensures.cause
+returns-in-Err-clause-ends g c =
+    let before : ℕ → ℕ = (g.R.Rack.disk c.args.domain.history.rack).write_faults in
+    failed_closing before _ _ c.number.result c.number.ensures.value c.in-Err.ensures.cause

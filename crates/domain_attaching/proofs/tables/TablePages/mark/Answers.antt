@@ -1,4 +1,4 @@
-use Rattle.std.proofs.Common.{◌≡◌, ◌+◌, ◌<◌, ◌≤◌, ℕ, sym, subst, arith}
+use Rattle.std.proofs.Common.{◌≡◌, ◌+◌, ◌<◌, ◌≤◌, ℕ, subst, arith}
 use Rattle.anchor_laws.specs.Domain.{layout_of}
 use Rattle.domain_layout.specs.Layout.{Layout}
 use Rattle.domain_memory.specs.Staged.{staged_in}
