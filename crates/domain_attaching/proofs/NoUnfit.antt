@@ -1,5 +1,5 @@
 -- An image whose pages agree with some in which nothing is for which a domain is not attached is attachable.
-use Rattle.std.proofs.Common.{◌≡◌, ◌∙◌, ℕ, List, [], ◌∷◌, Contains, inl, inr, refl, sym, ap, subst, arith}
+use Rattle.std.proofs.Common.{◌≡◌, ◌∙◌, ℕ, List, [], Contains, inl, inr, refl, sym, ap, subst, arith}
 use Rattle.domain_base.specs.Version.{number_of}
 use Rattle.domain_base.specs.declared.version.Version.{Version}
 use Rattle.page_store.specs.Pages.{Pages}
