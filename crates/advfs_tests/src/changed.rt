@@ -1,5 +1,5 @@
 //! How many pages of an image a command changes, however large its file or directory is.
-use crate::images::{Image, MAKE, bytes_of, run_on, run_script, zero_image};
+use crate::images::{Image, MAKE, bytes_of, calls_of, run_on, run_script, zero_image};
 use crate::rows::FRONT;
 use domain_base::limits::PAGE_BYTES;
 use std::alloc::Global;
@@ -79,5 +79,38 @@ fn a_create_changes_few_pages_of_a_large_directory(rt: HostRuntime) -> Result<()
     let image = after_run(alloc, new_image(alloc)?, large_directory(alloc)?.as_str())?;
     let changed = count_changed(alloc, image, "create home:/d/new 10 20 -> ok\n")?;
     assert!(rt; 3 <= changed && changed <= 8, "few pages change");
+    Ok(())
+}
+
+/// A file of 200 pages that are there.
+fn whole_file(alloc: Global) -> Result<String, Fail> {
+    let mut lines = String::from_str(alloc, "mkfset home -> ok\ncreate home:/a 10 20 -> ok\n")?;
+    for page in 0..200_u32 {
+        let at = 8_192 * page;
+        lines.push_str(format!(in alloc; "write home:/a {at} 61 -> ok 1\n")?.as_str())?;
+    }
+    Ok(lines)
+}
+
+/// How many calls of the rack the run of these lines makes over a domain with that file.
+fn count_calls(alloc: Global, lines: &str) -> Result<u64, Fail> {
+    let image = after_run(alloc, new_image(alloc)?, whole_file(alloc)?.as_str())?;
+    let before = calls_of(&image);
+    let image = after_run(alloc, image, lines)?;
+    Ok(calls_of(&image).saturating_sub(before))
+}
+
+/// A domain that is closed has each page that changed written, and no other: one call more than
+/// where none changed, with two pages in a row two pages by one call.
+#[test]
+fn pages_that_did_not_change_are_not_written(rt: HostRuntime) -> Result<(), Fail> {
+    let alloc = rt.alloc();
+    let none = count_calls(alloc, "read home:/a 819200 1 -> ok 61\n")?;
+    let one = count_calls(alloc, "write home:/a 819200 62 -> ok 1\n")?;
+    let two = count_calls(alloc, "write home:/a 827391 62.62 -> ok 2\n")?;
+    assert_eq!(rt;
+        (one, two),
+        (none.saturating_add(1), none.saturating_add(1))
+    );
     Ok(())
 }

@@ -25,6 +25,11 @@ pub(crate) fn zero_image(alloc: Global, pages: u32, fails: &[u64]) -> Result<Ima
     Ok(Image { rack })
 }
 
+/// How many calls the rack has had.
+pub(crate) fn calls_of(image: &Image) -> u64 {
+    image.rack.calls()
+}
+
 /// What is asked of a program, and the script that it is given.
 pub(crate) type Call = (&'static [&'static str], &'static str);
 
