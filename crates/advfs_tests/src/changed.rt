@@ -107,7 +107,7 @@ fn pages_that_did_not_change_are_not_written(rt: HostRuntime) -> Result<(), Fail
     let alloc = rt.alloc();
     let none = count_calls(alloc, "read home:/a 819200 1 -> ok 61\n")?;
     let one = count_calls(alloc, "write home:/a 819200 62 -> ok 1\n")?;
-    let two = count_calls(alloc, "write home:/a 827391 62.62 -> ok 2\n")?;
+    let two = count_calls(alloc, "write home:/a 827391 62x2 -> ok 2\n")?;
     assert_eq!(rt;
         (one, two),
         (none.saturating_add(1), none.saturating_add(1))
