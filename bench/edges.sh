@@ -52,7 +52,7 @@ else
 fi
 
 mkdir "$folder/small"
-if mount -t tmpfs -o size=256k none "$folder/small" 2>/dev/null; then
+if mount -t tmpfs -o size=32k none "$folder/small" 2>/dev/null; then
     truncate -s 4M "$folder/small/image"
     ends 7 "a full device" "$top/advfs" mkfdmn "$folder/small/image"
 else
