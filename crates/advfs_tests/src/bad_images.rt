@@ -11,8 +11,10 @@ use std::test::Fail;
 /// An image of so many pages that begins with these bytes, as many as it has room for.
 fn image_with(alloc: Global, pages: u32, bytes: &[u8]) -> Result<Image, Fail> {
     let mut image = zero_image(alloc, pages, &[])?;
-    for (block, part) in bytes.chunks(512).enumerate() {
-        image = with_block(image, block as u32, part);
+    let mut block: u32 = 0;
+    for part in bytes.chunks(512) {
+        image = with_block(image, block, part);
+        block = block.saturating_add(1);
     }
     Ok(image)
 }
@@ -73,13 +75,14 @@ fn large_directory(alloc: Global) -> Result<String, Fail> {
 /// The first page of an image of 160 pages that begins as a page of an index does.
 fn index_page(alloc: Global, image: Image) -> Result<(Image, u32), Fail> {
     let (image, bytes) = bytes_of(alloc, image, 160)?;
-    match bytes
-        .chunks(PAGE_BYTES)
-        .position(|page| page.starts_with(b"DIRX"))
-    {
-        Some(page) => Ok((image, page as u32)),
-        None => Err(Fail::from("a page of an index is there")),
+    let mut number: u32 = 0;
+    for page in bytes.chunks(PAGE_BYTES) {
+        if page.starts_with(b"DIRX") {
+            return Ok((image, number));
+        }
+        number = number.saturating_add(1);
     }
+    Err(Fail::from("a page of an index is there"))
 }
 
 /// A domain with that directory, and the page of its index.

@@ -1,11 +1,31 @@
 //! Scripts over new domains and over filesets without volumes: what the plain program for these
 //! answers is printed.
 use crate::rows::{outcome_of, script_of};
-use fileset_model::{Actor, Entry, Filesets};
+use fileset_model::{Actor, Command, Entry, Filesets};
 use plain_filesets::apply;
 use script_text::{Section, history_line, read_script};
 use std::alloc::Global;
 use std::test::Fail;
+
+/// The line in a history of a client's command over filesets.
+fn answered(
+    alloc: Global,
+    filesets: &mut Filesets,
+    number: u8,
+    command: Command,
+) -> Result<Vec<u8>, Fail> {
+    let reply = apply(alloc, filesets, &command);
+    let entry = Entry {
+        actor: Actor::Client(number),
+        command,
+        reply,
+        stamp: 0,
+    };
+    match history_line(alloc, &entry) {
+        Ok(line) => Ok(line),
+        Err(_) => Err(Fail::from("memory is ample")),
+    }
+}
 
 /// The history of one client's commands over filesets of which there are none at first.
 fn section_history(alloc: Global, section: Section) -> Result<Vec<u8>, Fail> {
@@ -13,16 +33,7 @@ fn section_history(alloc: Global, section: Section) -> Result<Vec<u8>, Fail> {
     let mut filesets = Filesets::new(alloc);
     let mut history = Vec::new(alloc);
     for command in commands.into_vec() {
-        let reply = apply(alloc, &mut filesets, &command);
-        let entry = Entry {
-            actor: Actor::Client(number),
-            command,
-            reply,
-            stamp: 0,
-        };
-        let Ok(line) = history_line(alloc, &entry) else {
-            return Err(Fail::from("memory is ample"));
-        };
+        let line = answered(alloc, &mut filesets, number, command)?;
         history.extend_from_slice(line.as_slice())?;
     }
     Ok(history)
