@@ -29,6 +29,7 @@ use Rattle.domain_bringing.proofs.Means.{agree_by}
 use Rattle.domain_bringing.proofs.SameFaults.{sides}
 use Rattle.domain_attaching.specs.Attaching.{IsAttachable, IsUnfitDomain}
 use Rattle.domain_attaching.proofs.AtClose.{found_of, recovered_none}
+use Rattle.domain_attaching.proofs.Rested.{numbers_left}
 
 -- nothing is in pages for which a domain is not attached, by the table that they say
 abbrev pub FitsSo : Pages → Frame → Type 0
@@ -117,4 +118,4 @@ module _ (sizes : List ℕ) (image : Image) (anchor : Anchor) (version : Version
   not_no_domain all means vol at (inr (rows, has, begins)) = rows_not all means vol at rows has begins
 
   pub attachable : (all : FilesetMap) → Means sizes image all → (pages : Pages) → AgreeWhereRulesLook (redone [] image) pages frame → FitsSo pages frame → IsAttachable sizes image all
-  attachable all means pages agree fits = record { means = means; is_domain = not_no_domain all means; fits = no_unfit pages agree fits }
+  attachable all means pages agree fits = record { means = means; is_domain = not_no_domain all means; fits = no_unfit pages agree fits; numbers = numbers_left sizes image anchor log }

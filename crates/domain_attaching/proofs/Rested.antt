@@ -18,7 +18,7 @@ use Rattle.log_settling.specs.declared.fault.SettleFault.{SettleFault}
 use Rattle.log_settling.specs.declared.fault.SettleFault.TheVariants.{NoNumbers, Slot, Write}
 use Rattle.domain_bringing.specs.Brought.{IsBroughtFrom}
 use Rattle.domain_state.specs.Rest.{IsAtRest}
-use Rattle.domain_attaching.specs.Settling.{HasNoGroups, HasSettleCause, IsRecovered, LacksNumbers, StandHome, StaysReadSince, rested_anchor}
+use Rattle.domain_attaching.specs.Settling.{HasNoGroups, HasNoNumbers, HasSettleCause, IsRecovered, LacksNumbers, StandHome, StaysReadSince, rested_anchor}
 
 -- what was recovered is read as the pages once redone
 pub read_as : (sizes : List ℕ) (image : Image) (found : Redone) (is : IsRecovered sizes image found) → ReadsAs sizes (redone is.0 image) image
@@ -72,6 +72,10 @@ had_none sizes image anchor found log is =
     let next = is.1.next_group in
     let size : 0 ≡ length is.0 = ap length one in
     omega (arith, next, size)
+
+-- so numbers are left, or none is wanted
+pub numbers_left : (sizes : List ℕ) (image : Image) (anchor : Anchor) → HasLog sizes anchor [] image → ¬ HasNoNumbers sizes image
+numbers_left sizes image anchor log (found, is, some, _) = some (had_none sizes image anchor found log is)
 
 -- ---- a rack on which all was synced
 
@@ -145,12 +149,12 @@ raised_too one other new vol same is = is ∙ ap (λ (c : ℕ → ℕ). raised_a
 lacks_since : (old mid : Disk) → Touches old mid NoPlace → LacksNumbers mid → LacksNumbers old
 lacks_since old mid touches lacks told =
     let l = lacks (touches.told ∙ told) in
-    (l.0, subst (λ (s : List ℕ). IsRecovered s old.now.contents l.0) touches.sizes (subst (λ (c : Image). IsRecovered mid.sizes c l.0) (same_contents old mid touches told) l.1), l.2)
+    (l.0, subst (λ (s : List ℕ). IsRecovered s old.now.contents l.0) touches.sizes (subst (λ (c : Image). IsRecovered mid.sizes c l.0) (same_contents old mid touches told) l.1), l.2, l.3)
 
-pub cause_now : (old new : Disk) (found : Redone) (why : SettleFault) → (Tells old → IsRecovered old.sizes old.now.contents found) → HasCause old new found why → HasSettleCause old new why
-cause_now old new found NoNumbers recovered is = ((ap (λ (d : Disk). d.read_faults) is.1, ap (λ (d : Disk). d.write_faults) is.1), λ told. (found, recovered told, is.0))
-cause_now old new found (Slot fault) recovered is = is
-cause_now old new found (Write vol) recovered is = is
+pub cause_now : (old new : Disk) (found : Redone) (why : SettleFault) → ¬ HasNoGroups found → (Tells old → IsRecovered old.sizes old.now.contents found) → HasCause old new found why → HasSettleCause old new why
+cause_now old new found NoNumbers some recovered is = ((ap (λ (d : Disk). d.read_faults) is.1, ap (λ (d : Disk). d.write_faults) is.1), λ told. (found, recovered told, some, is.0))
+cause_now old new found (Slot fault) some recovered is = is
+cause_now old new found (Write vol) some recovered is = is
 
 pub settle_cause_since : (old mid new : Disk) (why : SettleFault) → Touches old mid NoPlace → mid.read_faults ≡ old.read_faults → mid.write_faults ≡ old.write_faults → HasSettleCause mid new why → HasSettleCause old new why
 settle_cause_since old mid new NoNumbers touches reads writes is = ((is.0.0 ∙ reads, is.0.1 ∙ writes), lacks_since old mid touches is.1)

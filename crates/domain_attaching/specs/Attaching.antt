@@ -25,7 +25,7 @@ use Rattle.attached_domain.specs.declared.unfit.Unfit.TheVariants as fitting
 use Rattle.domain_attaching.specs.declared.bringing.BroughtMemory.{BroughtMemory}
 use Rattle.domain_attaching.specs.declared.fault.AttachFault.{AttachFault}
 use Rattle.domain_attaching.specs.declared.fault.AttachFault.TheVariants.{Fault, NotADomain, NotSettled, OutOfMemory, Unfit as NotFit}
-use Rattle.domain_attaching.specs.Settling.{HasSettleCause, rested_anchor}
+use Rattle.domain_attaching.specs.Settling.{HasNoNumbers, HasSettleCause, rested_anchor}
 
 -- ** Why it is not
 
@@ -67,11 +67,13 @@ pub record IsUnfitDomain (sizes : List ℕ) (image : Image) (why : Unfit) : Type
   pub unfit : HasUnfitCause pages frame why
 
 -- an image may be attached as these filesets: it means them, at none of its places is it seen first
--- that there is no domain, and it has no cause why it is not attached
+-- that there is no domain, it has no cause why it is not attached, and its log is at rest or can be
+-- settled
 pub record IsAttachable (sizes : List ℕ) (image : Image) (all : FilesetMap) : Type 0 where
   pub means : Means sizes image all
   pub is_domain : (vol at : ℕ) → ¬ IsNoDomain sizes image vol at
   pub fits : (why : Unfit) → ¬ IsUnfitDomain sizes image why
+  pub numbers : ¬ HasNoNumbers sizes image
 
 -- ** What it is
 

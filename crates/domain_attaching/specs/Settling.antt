@@ -55,10 +55,14 @@ abbrev pub WritesNone : Disk → Disk → Type 0
 WritesNone old new = Tells old → (anchor : Anchor)
     → HasLog old.sizes anchor [] old.now.contents → Touches old new NoPlace
 
--- the log that a rack has, if it tells that, was recovered and has no numbers left
+-- the log of an image has a group, and no numbers are left with which it can be settled
+abbrev pub HasNoNumbers : List ℕ → Image → Type 0
+HasNoNumbers sizes image = (found : Redone)
+    × IsRecovered sizes image found × (¬ HasNoGroups found) × (¬ HasNumbersLeft found)
+
+-- so is the log that a rack has, if it tells that
 abbrev pub LacksNumbers : Disk → Type 0
-LacksNumbers disk = Tells disk → (found : Redone)
-    × IsRecovered disk.sizes disk.now.contents found × (¬ HasNumbersLeft found)
+LacksNumbers disk = Tells disk → HasNoNumbers disk.sizes disk.now.contents
 
 -- why a log was not settled: it has no numbers left, and then no call has failed; or a call failed
 -- of the volume that is named, and the count of that has risen

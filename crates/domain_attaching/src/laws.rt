@@ -11,7 +11,8 @@ ghost use Rattle.volume_disk.specs.Disk.{Disk, MayLeave};
 ghost use Rattle.volume_disk.specs.Image.{Image};
 
 /// Each image that a stop may leave of a rack on which a domain was closed means the filesets for
-/// which its memory stood, and is never refused as no domain, or as one that is not attached.
+/// which its memory stood, and is never refused as no domain, as one that is not attached, or for a
+/// log without numbers.
 pub fn a_closed_domain_is_attachable()
     ensures { (disk : Disk) (memory : DomainMemory) (all : FilesetMap) → IsClosed disk memory
         → StandsFor memory all → (image : Image) → MayLeave disk.now image

@@ -20,7 +20,7 @@ pub returns-clause-cause : goal.returns-clause-cause
 returns-clause-cause g c =
     let old = g.R.Rack.disk c.args.rack.now in
     let new = g.R.Rack.disk c.settle_log.new.rack in
-    err_too c.settle_log.result (HasCause old new c.args.redone.now) (HasSettleCause old new) (λ why is. cause_now old new c.args.redone.now why c.requires.recovered is) c.settle_log.ensures.cause
+    err_too c.settle_log.result (HasCause old new c.args.redone.now) (HasSettleCause old new) (λ why is. cause_now old new c.args.redone.now why c.if-redone.false c.requires.recovered is) c.settle_log.ensures.cause
 
 pub returns-then-redone-clause-passed : goal.returns-then-redone-clause-passed
 returns-then-redone-clause-passed g c = (refl, refl)
