@@ -1,64 +1,29 @@
 -- What it does to accounts that the share of one owner, and then of all, is kept or taken back.
-use Rattle.std.proofs.Common.{◌≡◌, ◌∙◌, ◌+◌, ◌≤◌, ◌||◌, ◌&&◌, ◌==◌, Bool, true, false, cond, not, List, [], ◌∷◌, ◌++◌, length, unwrap_or, is_some, IsTrue, T, Option, Some, None, refl, sym, ap, subst, arith, eqb-true}
-use Rattle.std.proofs.lemmas.Bool.{and_parts, true≢false}
+use Rattle.std.proofs.Common.{◌≡◌, ◌∙◌, ◌+◌, ◌≤◌, ◌||◌, Bool, true, false, cond, List, [], ◌∷◌, ◌++◌, length, unwrap_or, is_some, IsTrue, Option, Some, None, refl, sym, ap, subst, arith}
+use Rattle.std.proofs.lemmas.Bool.{true≢false}
 use Rattle.std.proofs.lemmas.Option.{same_Some}
 use Rattle.std.proofs.lemmas.List.{length-append}
-use Rattle.std.proofs.lemmas.Cmp.{eq_by_cmp_equiv}
-use Rattle.std.specs.declared.cmp.Ordering.{Ordering}
-use Rattle.std.specs.declared.cmp.Ordering.TheVariants.{Less, Equal, Greater}
-use Rattle.std.specs.Ordering.{eq_by_cmp, is_eq}
 use Rattle.std.specs.Option.{ForSome}
-use Rattle.std.specs.FinMap.Entries.{find, find-put, find-where_key, is_sorted, length-put, length_without, put}
+use Rattle.std.specs.FinMap.Entries.{find, find-put, is_sorted, length-put, put}
 use Rattle.fileset_model.specs.Orders.{owner_cmp, owner_cmp-total}
 use Rattle.fileset_model.specs.declared.command.Owner.{Owner}
-use Rattle.fileset_model.proofs.OwnerLemmas.{owner_cmp-IsAntisymmetric}
-use Rattle.sorted_entries.proofs.EntryLemmas.{first, second, to_T}
-use Rattle.sorted_entries.proofs.Removal.{none_above, others}
+use Rattle.sorted_entries.proofs.EntryLemmas.{to_T}
+use Rattle.sorted_entries.proofs.Removal.{others}
 use Rattle.quota_book.specs.declared.account.Account.{Account}
 use Rattle.quota_book.specs.declared.account.Account.TheVariants.{Same, Changed}
 use Rattle.quota_book.specs.declared.account.Share.{Share}
 use Rattle.quota_book.specs.declared.account.Side.{Side}
 use Rattle.quota_book.specs.Owners.{same_owner}
-use Rattle.quota_book.specs.Accounts.{Accounts, AreAccounts, SettlesOne, count_same, is_listed, is_no_share, is_same, no_share, share_at, share_on}
-use Rattle.quota_book.proofs.Cells.{same_is, unlimited_is}
-use Rattle.quota_book.proofs.Shares.{count_put, counted, counts, counts_found, itself}
+use Rattle.quota_book.specs.Accounts.{Accounts, AreAccounts, SettlesOne, is_listed, is_same, no_share, share_at, share_on}
+use Rattle.quota_book.proofs.Cells.{same_is}
+use Rattle.quota_book.proofs.Shares.{count_put, counts, counts_found, itself}
 
 none_some : {A : Type 0} (x : A) → None ≡ Some x → ⊥
 none_some x is = absurd (cc)
 
--- a share of nothing is the one that an owner without an account has
-pub no_share_is : (share : Share) → is_no_share share ≡ true → share ≡ no_share
-no_share_is share is =
-    let parts = and_parts (share.usage.files == 0 && share.usage.blocks == 0) _ is in
-    let used = and_parts (share.usage.files == 0) _ parts.0 in
-    λ i. record {
-      usage = record { files = eqb-true share.usage.files 0 used.0 i; blocks = eqb-true share.usage.blocks 0 used.1 i };
-      limits = unlimited_is share.limits parts.1 i;
-    }
-
 counts_most : (account : Account) → counts account ≤ 1
 counts_most (Same share) = omega arith
 counts_most (Changed now was) = omega arith
-
--- ---- an entry is left out
-
-count_without : (who : Owner) (es : Accounts) → T (is_sorted owner_cmp es) → count_same (others owner_cmp-total who es) + counts_found (find owner_cmp who es) ≡ count_same es
-count_without who [] sorted = refl
-count_without who (e ∷ es) sorted = by_test (same_owner who e.0) refl (count_without who es (second _ _ sorted))
-  where
-    equal : (r : Ordering) → is_eq r ≡ true → r ≡ Equal
-    equal Less is = absurd (cc)
-    equal Equal is = refl
-    equal Greater is = absurd (cc)
-
-    by_test : (b : Bool) → same_owner who e.0 ≡ b → count_same (others owner_cmp-total who es) + counts_found (find owner_cmp who es) ≡ count_same es
-        → count_same (cond (not b) (e ∷ others owner_cmp-total who es) (others owner_cmp-total who es)) + counts_found (cond b (Some e.1) (find owner_cmp who es)) ≡ count_same (e ∷ es)
-    by_test true same rest =
-        let none = ap counts_found (none_above owner_cmp-total who e.0 es (equal (owner_cmp who e.0) same) (first _ _ sorted)) in
-        omega (arith, rest, none, counted e es)
-    by_test false apart rest =
-        let new = counted e (others owner_cmp-total who es) in
-        omega (arith, rest, new, counted e es)
 
 -- ---- the share of one owner
 
@@ -95,24 +60,6 @@ module _ (side : Side) (who : Owner) (es : Accounts) (sorted : IsTrue (is_sorted
 
         here : find owner_cmp who (put owner_cmp who (Same share) es) ≡ Some (Same share)
         here = found who ∙ ap (λ b. cond b (Some (Same share)) (find owner_cmp who es)) (itself who)
-
-    pub settles_gone : (share : Share) → share ≡ share_on side account → is_no_share share ≡ true → SettlesOne side who es (others owner_cmp-total who es)
-    settles_gone share is nothing = record {
-      others = λ q apart. found q ∙ ap (λ b. cond (not b) (find owner_cmp q es) None) ((eq_by_cmp_equiv owner_cmp-total).symm who q ∙ apart);
-      same = λ other at. absurd (none_some other (sym gone ∙ at));
-      share = ap (λ o. share_on side (unwrap_or o (Same no_share))) gone ∙ sym (share_there ∙ sym is ∙ no_share_is share nothing);
-      count = (let a = count_without who es (to_T _ sorted) in
-          let b = ap (λ (o : Option Account). cond (is_some o) 1 0 + length (others owner_cmp-total who es)) (sym there) ∙ length_without owner_cmp owner_cmp-total who es (to_T _ sorted) in
-          let c = ap counts_found there in
-          let d = counts_most account in
-          omega (arith, a, b, c, d));
-    }
-      where
-        found : (q : Owner) → find owner_cmp q (others owner_cmp-total who es) ≡ cond (not (same_owner who q)) (find owner_cmp q es) None
-        found q = find-where_key owner_cmp (λ other. not (eq_by_cmp owner_cmp who other)) q (λ x tied. ap (λ y. not (eq_by_cmp owner_cmp who y)) (sym (owner_cmp-IsAntisymmetric q x tied))) es
-
-        gone : find owner_cmp who (others owner_cmp-total who es) ≡ None
-        gone = found who ∙ ap (λ b. cond (not b) (find owner_cmp who es) None) (itself who)
 
 -- ---- of all owners on the list
 

@@ -1,5 +1,5 @@
 -- The shares of owners, now and as they were kept, and what changes of them do.
-use Rattle.std.specs.Prelude.{◌≡◌, ◌+◌, ◌≤◌, ◌&&◌, ℕ, Bool, true, false, not, List, [], ◌∷◌, ◌++◌, length, map, unwrap_or, IsTrue, if◌then◌else◌}
+use Rattle.std.specs.Prelude.{◌≡◌, ◌+◌, ◌≤◌, ℕ, Bool, true, false, not, List, [], ◌∷◌, ◌++◌, length, map, unwrap_or, IsTrue, if◌then◌else◌}
 use Rattle.std.specs.List.{list_any}
 use Rattle.std.specs.Option.{ForSome}
 use Rattle.std.specs.FinMap as fin_map
@@ -33,9 +33,6 @@ is_same (Changed now was) = false
 
 abbrev pub no_share : Share
 no_share = record { usage = nothing; limits = record { files = 0; blocks = 0 } }
-
-abbrev pub is_no_share : Share → Bool
-is_no_share share = is_nothing share.usage && is_unlimited share.limits
 
 -- an owner's account, and each of its shares
 abbrev pub account_at : Accounts → Owner → Account

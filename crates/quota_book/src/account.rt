@@ -1,6 +1,6 @@
 //! An owner's share of a fileset, now and as it was kept.
 ghost use Rattle.std.specs.Prelude.{◌≡◌, false};
-ghost use Rattle.quota_book.specs.Accounts.{Kept as KeptSide, Now as NowSide, is_no_share, is_same as stays, share_on};
+ghost use Rattle.quota_book.specs.Accounts.{Kept as KeptSide, Now as NowSide, is_same as stays, share_on};
 
 use fileset_model::{Limits, Usage};
 
@@ -25,18 +25,6 @@ pub enum Side {
 pub enum Account {
     Same(Share),
     Changed { now: Share, was: Share },
-}
-
-impl Share {
-    /// Whether the owner uses nothing, and has no limits that bind.
-    pub fn is_nothing(&self) -> bool
-        ensures { result ≡ is_no_share self.now }
-    {
-        self.usage.files == 0
-            && self.usage.blocks == 0
-            && self.limits.files == 0
-            && self.limits.blocks == 0
-    }
 }
 
 impl Account {

@@ -8,7 +8,7 @@ ghost use Rattle.quota_book.specs.Accounts.{AreAccounts, HaveRoom, SetsShare, Se
 use crate::account::{Account, Share, Side};
 use domain_base::OutOfMemory;
 use fileset_model::{Limits, Owner, Usage};
-use sorted_entries::{find, put, replace, take_away};
+use sorted_entries::{find, put, replace};
 
 /// The account of an owner, who has none where nothing is said of the owner.
 pub(crate) fn account_of(accounts: &[(Owner, Account)], who: Owner) -> Account
@@ -99,22 +99,19 @@ pub(crate) fn replace_share(
     replace(accounts, &who, account.with(share));
 }
 
-/// Lets an owner's share be that of the two, now and as it was kept.
+/// Lets an owner's share be that of the two, now and as it was kept. A share of nothing stays where
+/// it is, so that no other account is moved.
 fn settle(accounts: &mut Vec<(Owner, Account)>, who: Owner, side: Side)
     requires { IsTrue (is_sorted owner_cmp accounts.old.items) }
     ensures settles { SettlesOne side who accounts.old.items accounts.new.items }
     ensures sorted { IsTrue (is_sorted owner_cmp accounts.new.items) }
-    ensures len { vec_len accounts.new ≤ vec_len accounts.old }
+    ensures len { vec_len accounts.new ≡ vec_len accounts.old }
 {
     let Some(account) = find(accounts, &who) else {
         return;
     };
     let share = account.share(side);
-    if share.is_nothing() {
-        take_away(accounts, &who);
-    } else {
-        replace(accounts, &who, Account::Same(share));
-    }
+    replace(accounts, &who, Account::Same(share));
 }
 
 /// Lets the share of each owner be that of the two, now and as it was kept. It takes no memory.
@@ -122,7 +119,7 @@ pub(crate) fn settle_all(accounts: &mut Vec<(Owner, Account)>, changed: &mut Vec
     requires { AreAccounts accounts.old.items changed.old.items }
     ensures settles { SettlesAll side accounts.old.items accounts.new.items }
     ensures accounts { AreAccounts accounts.new.items changed.new.items }
-    ensures len { vec_len accounts.new ≤ vec_len accounts.old }
+    ensures len { vec_len accounts.new ≡ vec_len accounts.old }
     ensures list_room { vec_capacity changed.new ≡ vec_capacity changed.old }
 {
     while let Some(who) = changed.pop() {

@@ -12,8 +12,8 @@ use std::alloc::Global;
 use std::marker::Model;
 
 /// What the users and groups of a fileset use, and all of it, with their limits, now and as they
-/// were kept. An owner who uses nothing, and whose limits bind nothing, takes no room once that is
-/// kept. Each call looks an owner up by halving.
+/// were kept. An owner who used something once, or had limits, has a place from then on, so that no
+/// other is moved as a change is kept or taken back. Each call looks an owner up by halving.
 #[derive(Drop)]
 pub struct QuotaBook {
     accounts: Vec<(Owner, Account)>,

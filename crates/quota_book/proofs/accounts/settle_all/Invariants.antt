@@ -7,7 +7,7 @@ abbrev pub invariant-loop-who : goal.invariant-loop-who
 invariant-loop-who l = record {
   accounts : AreAccounts l.accounts.items l.changed.items;
   shares : (q : Owner) → share_at l.side l.accounts.items q ≡ share_at l.side l.initial.accounts.items q;
-  len : vec_len l.accounts ≤ vec_len l.initial.accounts;
+  len : vec_len l.accounts ≡ vec_len l.initial.accounts;
   list_room : vec_capacity l.changed ≡ vec_capacity l.initial.changed;
 }
 
