@@ -29,12 +29,12 @@ memory_fits memory all stands table says =
     let so : StandsDomain d all = record whole { files = is.files; indexes = is.indexes; tables = is.below.tables; chains = is.below.chains; owned = is.below.owned; rest = is.below.rest } in
     subst (ReadsFit d.pages d.frame) (sym (table_is d so.tables table says)) (domain_fits d all so is.sound stands.alone)
 
-pub closed_attachable : (disk : Disk) (memory : DomainMemory) (all : FilesetMap) → IsClosed disk memory → StandsFor memory all → (image : Image) → MayLeave disk.now image → IsAttachable disk.sizes image all
+pub closed_attachable : (disk : Disk) (memory : DomainMemory) (all : FilesetMap) → IsClosed disk memory → StandsFor memory all → (image : Image) → MayLeave disk.now image → IsAttachable disk.sizes image memory.frame.anchor all
 closed_attachable disk memory all is stands image left =
     attachable disk.sizes image memory.frame.anchor memory.frame.version stands.stands.tables.laid.version (is.none.good image left) (is.none.stands image left) all (means_kept disk memory is all stands image left)
     (kept_in memory).pages (image_agrees disk memory is all stands image left) (memory_fits memory all stands)
 
-pub made_attachable : (disk : Disk) (anchor : Anchor) → IsMade disk anchor → (image : Image) → MayLeave disk.now image → IsAttachable disk.sizes image empty
+pub made_attachable : (disk : Disk) (anchor : Anchor) → IsMade disk anchor → (image : Image) → MayLeave disk.now image → IsAttachable disk.sizes image anchor empty
 made_attachable disk anchor made image left =
     let is : IsEmptyDomain disk.sizes anchor image = made.images image left in
     attachable disk.sizes image anchor is.version is.is_version is.good is.log empty is.means (pages_in image) (λ home looks. refl) (new_fits (pages_in image) (record { anchor = anchor; version = is.version }) is.fresh)

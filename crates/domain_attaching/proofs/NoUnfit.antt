@@ -8,6 +8,7 @@ use Rattle.disk_label.specs.declared.anchor.Anchor.{Anchor}
 use Rattle.disk_label.proofs.Bodies.{number_of-same}
 use Rattle.log_ring.specs.Groups.{Group, HasLog, redone}
 use Rattle.log_recovery.specs.Outcome.{HasGoodAnchor}
+use Rattle.log_recovery.specs.declared.redone.Redone.{Redone}
 use Rattle.log_recovery.proofs.OneOutcome.{has_one_log}
 use Rattle.fileset_model.specs.Filesets.{FilesetMap}
 use Rattle.fileset_table.specs.Table.{Table}
@@ -29,7 +30,8 @@ use Rattle.domain_bringing.proofs.Means.{agree_by}
 use Rattle.domain_bringing.proofs.SameFaults.{sides}
 use Rattle.domain_attaching.specs.Attaching.{IsAttachable, IsUnfitDomain}
 use Rattle.domain_attaching.proofs.AtClose.{found_of, recovered_none}
-use Rattle.domain_attaching.proofs.Rested.{numbers_left}
+use Rattle.domain_attaching.specs.Settling.{HasNoGroups, IsRecovered}
+use Rattle.domain_attaching.proofs.Rested.{had_none}
 
 -- nothing is in pages for which a domain is not attached, by the table that they say
 abbrev pub FitsSo : Pages → Frame → Type 0
@@ -117,5 +119,8 @@ module _ (sizes : List ℕ) (image : Image) (anchor : Anchor) (version : Version
   not_no_domain all means vol at (inl first) = means.no_first vol at first
   not_no_domain all means vol at (inr (rows, has, begins)) = rows_not all means vol at rows has begins
 
-  pub attachable : (all : FilesetMap) → Means sizes image all → (pages : Pages) → AgreeWhereRulesLook (redone [] image) pages frame → FitsSo pages frame → IsAttachable sizes image all
-  attachable all means pages agree fits = record { means = means; is_domain = not_no_domain all means; fits = no_unfit pages agree fits; numbers = numbers_left sizes image anchor log }
+  rests : (found : Redone) → IsRecovered sizes image found → HasNoGroups found × (found.anchor ≡ anchor)
+  rests found is = (had_none sizes image anchor found log is, (one_log found.anchor is.0 is.1.log).0)
+
+  pub attachable : (all : FilesetMap) → Means sizes image all → (pages : Pages) → AgreeWhereRulesLook (redone [] image) pages frame → FitsSo pages frame → IsAttachable sizes image anchor all
+  attachable all means pages agree fits = record { means = means; is_domain = not_no_domain all means; fits = no_unfit pages agree fits; rests = rests }

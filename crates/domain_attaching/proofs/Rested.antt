@@ -18,7 +18,7 @@ use Rattle.log_settling.specs.declared.fault.SettleFault.{SettleFault}
 use Rattle.log_settling.specs.declared.fault.SettleFault.TheVariants.{NoNumbers, Slot, Write}
 use Rattle.domain_bringing.specs.Brought.{IsBroughtFrom}
 use Rattle.domain_state.specs.Rest.{IsAtRest}
-use Rattle.domain_attaching.specs.Settling.{HasNoGroups, HasNoNumbers, HasSettleCause, IsRecovered, LacksNumbers, StandHome, StaysReadSince, rested_anchor}
+use Rattle.domain_attaching.specs.Settling.{HasNoGroups, HasSettleCause, IsRecovered, LacksNumbers, StandHome, StaysReadSince, rested_anchor}
 
 -- what was recovered is read as the pages once redone
 pub read_as : (sizes : List ℕ) (image : Image) (found : Redone) (is : IsRecovered sizes image found) → ReadsAs sizes (redone is.0 image) image
@@ -72,10 +72,6 @@ had_none sizes image anchor found log is =
     let next = is.1.next_group in
     let size : 0 ≡ length is.0 = ap length one in
     omega (arith, next, size)
-
--- so numbers are left, or none is wanted
-pub numbers_left : (sizes : List ℕ) (image : Image) (anchor : Anchor) → HasLog sizes anchor [] image → ¬ HasNoNumbers sizes image
-numbers_left sizes image anchor log (found, is, some, _) = some (had_none sizes image anchor found log is)
 
 -- ---- a rack on which all was synced
 

@@ -4,6 +4,7 @@ use Rattle.domain_base.specs.declared.place.Home.{Home}
 use Rattle.page_store.specs.Pages.{Pages}
 use Rattle.volume_disk.specs.Disk.{Disk, raised_at}
 use Rattle.volume_disk.specs.Image.{Image}
+use Rattle.disk_label.specs.declared.anchor.Anchor.{Anchor}
 use Rattle.log_recovery.specs.Outcome.{IsSound}
 use Rattle.log_recovery.specs.declared.redone.Redone.{Redone}
 use Rattle.fileset_model.specs.Filesets.{FilesetMap}
@@ -25,7 +26,7 @@ use Rattle.attached_domain.specs.declared.unfit.Unfit.TheVariants as fitting
 use Rattle.domain_attaching.specs.declared.bringing.BroughtMemory.{BroughtMemory}
 use Rattle.domain_attaching.specs.declared.fault.AttachFault.{AttachFault}
 use Rattle.domain_attaching.specs.declared.fault.AttachFault.TheVariants.{Fault, NotADomain, NotSettled, OutOfMemory, Unfit as NotFit}
-use Rattle.domain_attaching.specs.Settling.{HasNoNumbers, HasSettleCause, rested_anchor}
+use Rattle.domain_attaching.specs.Settling.{HasNoGroups, HasSettleCause, IsRecovered, rested_anchor}
 
 -- ** Why it is not
 
@@ -66,14 +67,16 @@ pub record IsUnfitDomain (sizes : List ℕ) (image : Image) (why : Unfit) : Type
   pub same : IsBroughtFrom sizes image pages found
   pub unfit : HasUnfitCause pages frame why
 
--- an image may be attached as these filesets: it means them, at none of its places is it seen first
--- that there is no domain, it has no cause why it is not attached, and its log is at rest or can be
--- settled
-pub record IsAttachable (sizes : List ℕ) (image : Image) (all : FilesetMap) : Type 0 where
-  pub means : Means sizes image all
-  pub is_domain : (vol at : ℕ) → ¬ IsNoDomain sizes image vol at
-  pub fits : (why : Unfit) → ¬ IsUnfitDomain sizes image why
-  pub numbers : ¬ HasNoNumbers sizes image
+-- an image may be attached as these filesets with this anchor: it means them, at none of its places is
+-- it seen first that there is no domain, it has no cause why it is not attached, and what is recovered
+-- of it has that anchor and no group, so that nothing has to be settled
+pub record IsAttachable (sizes : List ℕ) (image : Image) (anchor : Anchor) (all : FilesetMap) : Type 0
+  where
+    pub means : Means sizes image all
+    pub is_domain : (vol at : ℕ) → ¬ IsNoDomain sizes image vol at
+    pub fits : (why : Unfit) → ¬ IsUnfitDomain sizes image why
+    pub rests : (found : Redone) → IsRecovered sizes image found
+        → HasNoGroups found × (found.anchor ≡ anchor)
 
 -- ** What it is
 
