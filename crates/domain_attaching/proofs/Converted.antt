@@ -9,7 +9,7 @@ use Rattle.attached_domain.specs.declared.unfit.Unfit.TheVariants as fitting
 use Rattle.domain_bringing.specs.Fault.{HasCause as HasCauseThere, IfNotADomain as IfNotADomainThere}
 use Rattle.domain_bringing.specs.declared.fault.BringFault.{BringFault}
 use Rattle.domain_bringing.specs.declared.fault.BringFault.TheVariants as bringing
-use Rattle.domain_attaching.specs.Attaching.{HasCause, IfNotADomain, IfNotFit, of_bringing, of_unfit}
+use Rattle.domain_attaching.specs.Attaching.{HasCause, IfNotADomain, IfNotFit, IfNotSettled, of_bringing, of_unfit}
 
 pub no_domain_too : (fault : BringFault) (P : ℕ → ℕ → Type 0) → IfNotADomainThere fault P → IfNotADomain (of_bringing fault) P
 no_domain_too (bringing.NotADomain vol at) P is = is
@@ -50,3 +50,17 @@ why_of_unfit pages frame fitting.WrongQuotas P has so = so has
 why_of_unfit pages frame fitting.RemovedFile P has so = so has
 why_of_unfit pages frame fitting.CutDirectory P has so = so has
 why_of_unfit pages frame fitting.OutOfMemory P has so = tt
+
+-- neither tells of a log that was not settled
+pub first_there : (fault : BringFault) → IfNotSettled (of_bringing fault) ⊥
+first_there (bringing.NotADomain vol at) = tt
+first_there (bringing.Fault vol) = tt
+first_there bringing.OutOfMemory = tt
+
+pub first_of_unfit : (why : Unfit) → IfNotSettled (of_unfit why) ⊥
+first_of_unfit fitting.Cloned = tt
+first_of_unfit fitting.ReadThrough = tt
+first_of_unfit fitting.WrongQuotas = tt
+first_of_unfit fitting.RemovedFile = tt
+first_of_unfit fitting.CutDirectory = tt
+first_of_unfit fitting.OutOfMemory = tt

@@ -73,28 +73,28 @@ module _ (sizes : List ℕ) (image : Image) (anchor : Anchor) (version : Version
   -- pages that were brought agree with those with which the image's agree
   module _ (pages : Pages) (agree : AgreeWhereRulesLook (redone [] image) pages frame) (fits : FitsSo pages frame) where
     pub no_unfit : (why : Unfit) → ¬ IsUnfitDomain sizes image why
-    no_unfit why u = no_unfit_cause u.pages pages u.frame u.whole.has.no_fault agree_there (subst (FitsSo pages) (sym same) fits) why u.unfit
+    no_unfit why u = no_unfit_cause u.domain.pages pages u.domain.frame u.domain.whole.has.no_fault agree_there (subst (FitsSo pages) (sym same) fits) why u.unfit
       where
-        one : OneLog u.frame.anchor u.same.groups
-        one = one_log u.frame.anchor u.same.groups (subst (λ (a : Anchor). HasLog sizes a u.same.groups image) (sym u.anchor) u.same.recovered.log)
+        one : OneLog u.domain.frame.anchor u.domain.same.groups
+        one = one_log u.domain.frame.anchor u.domain.same.groups (subst (λ (a : Anchor). HasLog sizes a u.domain.same.groups image) (sym u.domain.anchor) u.domain.same.recovered.log)
 
-        same : u.frame ≡ frame
-        same = frame_is u.frame.anchor u.frame.version one.0 u.whole.good.named.0
+        same : u.domain.frame ≡ frame
+        same = frame_is u.domain.frame.anchor u.domain.frame.version one.0 u.domain.whole.good.named.0
 
-        ahead : AgreeWhereRulesLook u.pages (redone [] image) u.frame
-        ahead = subst (λ (g : List Group). AgreeWhereRulesLook u.pages (redone g image) u.frame) one.1 (agree_by u.pages u.frame u.same.groups image u.whole.has.looked u.same.same)
+        ahead : AgreeWhereRulesLook u.domain.pages (redone [] image) u.domain.frame
+        ahead = subst (λ (g : List Group). AgreeWhereRulesLook u.domain.pages (redone g image) u.domain.frame) one.1 (agree_by u.domain.pages u.domain.frame u.domain.same.groups image u.domain.whole.has.looked u.domain.same.same)
 
-        along : (layout : Layout) → frame_of layout ≡ u.frame → IsLayout u.pages layout → AgreeWhereRulesLook u.pages pages (frame_of layout)
+        along : (layout : Layout) → frame_of layout ≡ u.domain.frame → IsLayout u.domain.pages layout → AgreeWhereRulesLook u.domain.pages pages (frame_of layout)
         along layout to laid home looks =
-            let before = subst (AgreeWhereRulesLook u.pages (redone [] image)) (sym to) ahead in
+            let before = subst (AgreeWhereRulesLook u.domain.pages (redone [] image)) (sym to) ahead in
             let behind = subst (AgreeWhereRulesLook (redone [] image) pages) (sym (to ∙ same)) agree in
-            let s = sides u.pages (redone [] image) layout before (subst (HasNoTablesFault u.pages) (sym to) (none_of_tables u.pages u.frame u.whole.has.no_fault)) laid in
-            before home looks ∙ behind home (looked_too u.pages (redone [] image) layout s home looks)
+            let s = sides u.domain.pages (redone [] image) layout before (subst (HasNoTablesFault u.domain.pages) (sym to) (none_of_tables u.domain.pages u.domain.frame u.domain.whole.has.no_fault)) laid in
+            before home looks ∙ behind home (looked_too u.domain.pages (redone [] image) layout s home looks)
 
-        agree_there : AgreeWhereRulesLook u.pages pages u.frame
+        agree_there : AgreeWhereRulesLook u.domain.pages pages u.domain.frame
         agree_there =
-            let out = u.whole.has.laid_out in
-            subst (AgreeWhereRulesLook u.pages pages) out.is (along out.layout out.is out.laid)
+            let out = u.domain.whole.has.laid_out in
+            subst (AgreeWhereRulesLook u.domain.pages pages) out.is (along out.layout out.is out.laid)
 
   -- ---- what it means
 

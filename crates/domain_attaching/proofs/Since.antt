@@ -7,7 +7,7 @@ use Rattle.volume_disk.proofs.Laws.{only_reads-leaves, then_on, touches-then, we
 use Rattle.log_recovery.specs.declared.redone.Redone.{Redone}
 use Rattle.log_settling.specs.Settling.{ReadsAs}
 use Rattle.attached_domain.specs.declared.unfit.Unfit.{Unfit}
-use Rattle.domain_attaching.specs.Attaching.{HasCause, IfNotADomain, IfNotFit}
+use Rattle.domain_attaching.specs.Attaching.{HasCause, IfNotADomain, IfNotFit, IfNotSettled}
 use Rattle.domain_attaching.specs.Settling.{HasNoGroups, IfRefused, IsNotSettled, IsRecovered, StaysReadSince, WritesNone}
 use Rattle.domain_attaching.specs.declared.fault.AttachFault.{AttachFault}
 use Rattle.domain_attaching.specs.declared.fault.AttachFault.TheVariants.{Fault, NotADomain, NotSettled, OutOfMemory, Unfit as NotFit}
@@ -44,6 +44,20 @@ not_wrong old new fault P is = subst (λ (f : AttachFault). IfNotADomain f P) (s
 
 pub not_unfit : (old new : Disk) (fault : AttachFault) (P : Unfit → Type 0) → IsNotSettled old new fault → IfNotFit fault P
 not_unfit old new fault P is = subst (λ (f : AttachFault). IfNotFit f P) (sym is.1) tt
+
+pub whole_if : (fault : AttachFault) (P : Type 0) → P → IfNotSettled fault P
+whole_if (NotADomain vol at) P is = tt
+whole_if (Fault vol) P is = tt
+whole_if (NotFit why) P is = tt
+whole_if (NotSettled why) P is = is
+whole_if OutOfMemory P is = tt
+
+pub settled_first : (fault : AttachFault) (P : Type 0) → IfNotSettled fault ⊥ → IfNotSettled fault P
+settled_first (NotADomain vol at) P none = tt
+settled_first (Fault vol) P none = tt
+settled_first (NotFit why) P none = tt
+settled_first (NotSettled why) P none = absurd none
+settled_first OutOfMemory P none = tt
 
 pub settle_cause : (old mid new : Disk) (fault : AttachFault) → OnlyReads old mid → mid.read_faults ≡ old.read_faults → IsNotSettled mid new fault → HasCause old new fault
 settle_cause old mid new fault reads passed is = subst (HasCause old new) (sym is.1) (settle_cause_since old mid new is.0 reads.touches passed reads.write_faults is.2)

@@ -56,16 +56,24 @@ abbrev pub IfNotFit : AttachFault → (Unfit → Type 0) → Type 0
 IfNotFit (NotFit why) P = P why
 IfNotFit fault P = Unit {0}
 
--- an image has a domain, of whose pages, once its log is redone, those in memory are why it is not
--- attached
-pub record IsUnfitDomain (sizes : List ℕ) (image : Image) (why : Unfit) : Type 0 where
+-- and one of a log that was not settled
+abbrev pub IfNotSettled : AttachFault → Type 0 → Type 0
+IfNotSettled (NotSettled why) P = P
+IfNotSettled fault P = Unit {0}
+
+-- an image has a domain: of its pages, once its log is redone, those that were brought break no rule
+pub record HasDomain (sizes : List ℕ) (image : Image) : Type 0 where
   pub pages : Pages
   pub frame : Frame
   pub found : Redone
   pub whole : IsWholeDomain pages frame
   pub anchor : frame.anchor ≡ found.anchor
   pub same : IsBroughtFrom sizes image pages found
-  pub unfit : HasUnfitCause pages frame why
+
+-- an image has a domain, and those pages are why it is not attached
+pub record IsUnfitDomain (sizes : List ℕ) (image : Image) (why : Unfit) : Type 0 where
+  pub domain : HasDomain sizes image
+  pub unfit : HasUnfitCause domain.pages domain.frame why
 
 -- an image may be attached as these filesets with this anchor: it means them, at none of its places is
 -- it seen first that there is no domain, it has no cause why it is not attached, and what is recovered

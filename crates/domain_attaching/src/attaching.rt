@@ -9,7 +9,15 @@ ghost use Rattle.log_settling.specs.Settling.{Anywhere};
 ghost use Rattle.staged_pages.specs.Store.{before_of};
 ghost use Rattle.domain_memory.specs.Memory.{StandsFor};
 ghost use Rattle.domain_bringing.specs.Fault.{IsNoDomain};
-ghost use Rattle.domain_attaching.specs.Attaching.{HasCause, IfNotADomain, IfNotFit, IsReadFrom, IsUnfitDomain};
+ghost use Rattle.domain_attaching.specs.Attaching.{
+  HasCause,
+  HasDomain,
+  IfNotADomain,
+  IfNotFit,
+  IfNotSettled,
+  IsReadFrom,
+  IsUnfitDomain,
+};
 ghost use Rattle.domain_attaching.specs.Settling.{IfRefused, StandHome, StaysReadSince, WritesNone};
 
 use crate::bringing::bring_memory;
@@ -31,8 +39,8 @@ use volume_disk::Rack;
 /// anchors and its log come first, as `recover` has them, and then its pages in the order of the
 /// list of faults. `Fault` comes where a read of that volume failed, and `Unfit` where no rule is
 /// broken and the domain is not attached all the same. Nothing is written or synced then, nor at
-/// `OutOfMemory`. `NotSettled` comes where the log has no numbers left, or a call failed while it
-/// was settled.
+/// `OutOfMemory`. `NotSettled` comes where no rule is broken and the log has no numbers left, or a
+/// call failed while it was settled.
 pub fn attach<R: Rack>(alloc: Global, rack: R) -> Result<Attached<R>, (R, AttachFault)>
     ensures means { let old = R.disk rack in IfOk result (λ attached. Tells old
         → (all : FilesetMap) → Means old.sizes old.now.contents all
@@ -60,6 +68,8 @@ pub fn attach<R: Rack>(alloc: Global, rack: R) -> Result<Attached<R>, (R, Attach
         (λ vol at. Tells old → IsNoDomain old.sizes old.now.contents vol at)) }
     ensures unfit { let old = R.disk rack in IfErr result (λ back. IfNotFit back.1
         (λ why. Tells old → IsUnfitDomain old.sizes old.now.contents why)) }
+    ensures whole { let old = R.disk rack in IfErr result (λ back. IfNotSettled back.1
+        (Tells old → HasDomain old.sizes old.now.contents)) }
     ensures cause { IfErr result (λ back. HasCause (R.disk rack) (R.disk back.0) back.1) }
 {
     let mut rack = rack;

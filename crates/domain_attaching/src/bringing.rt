@@ -10,7 +10,7 @@ ghost use Rattle.domain_memory.specs.Memory.{StandsFor};
 ghost use Rattle.attached_domain.specs.Causes.{IsUnfit};
 ghost use Rattle.domain_bringing.specs.Brought.{IsBrought, IsBroughtFrom};
 ghost use Rattle.domain_bringing.specs.Fault.{IsNoDomain};
-ghost use Rattle.domain_attaching.specs.Attaching.{HasCause, HaveFilesets, IfNotADomain, IfNotFit, IsBroughtMemory, IsUnfitDomain};
+ghost use Rattle.domain_attaching.specs.Attaching.{HasCause, HaveFilesets, IfNotADomain, IfNotFit, IfNotSettled, IsBroughtMemory, IsUnfitDomain};
 
 use crate::fault::AttachFault;
 use attached_domain::{Unfit, read_domain};
@@ -66,6 +66,7 @@ pub fn bring_memory<R: Rack>(alloc: Global, rack: &mut R) -> Result<BroughtMemor
         (λ vol at. Tells old → IsNoDomain old.sizes old.now.contents vol at)) }
     ensures unfit { let old = R.disk rack.old in IfErr result (λ fault. IfNotFit fault
         (λ why. Tells old → IsUnfitDomain old.sizes old.now.contents why)) }
+    ensures first { IfErr result (λ fault. IfNotSettled fault ⊥) }
     ensures cause { IfErr result (HasCause (R.disk rack.old) (R.disk rack.new)) }
     ensures passed { IfOk result (λ _. (R.disk rack.new).read_faults
         ≡ (R.disk rack.old).read_faults) }

@@ -5,19 +5,20 @@ use Rattle.volume_disk.specs.Image.{NoPlace}
 use Rattle.volume_disk.specs.Run.{OnlyReads, Touches}
 use Rattle.disk_label.specs.Fault.{HasPassed}
 use Rattle.staged_pages.specs.Store.{before_of}
+use Rattle.page_ways.specs.Frame.{frame_in}
 use Rattle.log_settling.specs.Settling.{Anywhere, StandsAtHome}
 use Rattle.log_settling.proofs.Settled.{anywhere, anywhere_then}
 use Rattle.domain_layout.specs.Read.{Means}
 use Rattle.domain_memory.specs.Memory.{StandsFor}
 use Rattle.domain_memory.specs.declared.memory.DomainMemory.{DomainMemory}
 use Rattle.domain_bringing.specs.Fault.{IsNoDomain}
-use Rattle.domain_attaching.specs.Attaching.{HasCause, IfNotADomain, IfNotFit, IsBroughtMemory, IsReadFrom, IsUnfitDomain}
+use Rattle.domain_attaching.specs.Attaching.{HasCause, HasDomain, IfNotADomain, IfNotFit, IfNotSettled, IsBroughtMemory, IsReadFrom, IsUnfitDomain}
 use Rattle.domain_attaching.specs.Settling.{HasNoGroups, IfRefused, IsNotSettled, StandHome, StaysReadSince, WritesNone, rested_anchor, with_anchor}
 use Rattle.domain_attaching.proofs.Anew.{stands_anew, whole_anew}
 use Rattle.domain_attaching.proofs.HomeKept.{passed_then}
 use Rattle.domain_attaching.proofs.Mapped.{err_too, ok_both, ok_too}
 use Rattle.domain_attaching.proofs.Rested.{home_since, recovered_synced, stand_home, still_since}
-use Rattle.domain_attaching.proofs.Since.{not_refused, not_unfit, not_wrong, refused_if, settle_cause, since_read, writes_none}
+use Rattle.domain_attaching.proofs.Since.{not_refused, not_unfit, not_wrong, refused_if, settle_cause, settled_first, since_read, whole_if, writes_none}
 use Rattle.domain_attaching.proofs.attaching.attach.Goals as goal
 
 pub attach_brought-requires-clause-memory : goal.attach_brought-requires-clause-memory
@@ -150,3 +151,23 @@ returns-in-Ok-clause-passed g c =
     let mid = g.R.Rack.disk c.bring_memory.new.rack in
     ok_too c.attach_brought.result (λ attached. HasPassed mid (g.R.Rack.disk attached.rack)) (λ attached. HasPassed old (g.R.Rack.disk attached.rack))
     (λ attached passed. passed_then old mid (g.R.Rack.disk attached.rack) (c.in-Ok.ensures.passed, c.bring_memory.ensures.reads.write_faults) passed) c.attach_brought.ensures.passed
+
+pub returns-in-Ok-clause-whole : goal.returns-in-Ok-clause-whole
+returns-in-Ok-clause-whole g c =
+    let old = g.R.Rack.disk c.args.rack in
+    let mid = g.R.Rack.disk c.bring_memory.new.rack in
+    let found = c.in-Ok.found in
+    err_too c.attach_brought.result (λ back. IsNotSettled mid (g.R.Rack.disk back.0) back.1) (λ back. IfNotSettled back.1 (Tells old → HasDomain old.sizes old.now.contents))
+    (λ back is. whole_if back.1 (Tells old → HasDomain old.sizes old.now.contents) (λ told. record {
+      pages = before_of found.memory.pages;
+      frame = frame_in found.memory.frame;
+      found = found.redone;
+      whole = c.in-Ok.ensures.memory.whole;
+      anchor = c.in-Ok.ensures.memory.anchor;
+      same = c.in-Ok.ensures.same told;
+    })) c.attach_brought.ensures.cause
+
+pub returns-in-Err-clause-whole : goal.returns-in-Err-clause-whole
+returns-in-Err-clause-whole g c =
+    let old = g.R.Rack.disk c.args.rack in
+    settled_first c.in-Err.fault (Tells old → HasDomain old.sizes old.now.contents) c.in-Err.ensures.first
