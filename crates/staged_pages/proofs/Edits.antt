@@ -18,10 +18,10 @@ use Rattle.staged_pages.specs.Staged.{AreSlots, EditsSlot, count_same, have_page
 
 -- how many count for one slot
 abbrev pub counts : Slot → ℕ
-counts slot = if is_same slot.change then 1 else 0
+counts slot = if is_same slot then 1 else 0
 
 pub counted : (x : ℕ × Slot) (xs : List (ℕ × Slot)) → count_same (x ∷ xs) ≡ counts x.1 + count_same xs
-counted x xs = elim (is_same x.1.change) as (λ b. (if b then 1 + count_same xs else count_same xs) ≡ (if b then 1 else 0) + count_same xs) [
+counted x xs = elim (is_same x.1) as (λ b. (if b then 1 + count_same xs else count_same xs) ≡ (if b then 1 else 0) + count_same xs) [
   | true ↦ refl
   | false ↦ omega arith
 ]
@@ -38,7 +38,7 @@ count_set (x ∷ xs) (suc at) key slot d within =
     let rest = count_set xs at key slot d (omega (arith, within)) in
     omega (arith, new, old, rest)
 
-count_some : (entries : List (ℕ × Slot)) (at : ℕ) (d : ℕ × Slot) → at < length entries → is_same (get_or entries at d).1.change ≡ true → 1 ≤ count_same entries
+count_some : (entries : List (ℕ × Slot)) (at : ℕ) (d : ℕ × Slot) → at < length entries → is_same (get_or entries at d).1 ≡ true → 1 ≤ count_same entries
 count_some [] at d within unchanged = absurd (omega (arith, within))
 count_some (x ∷ xs) zero d within unchanged = rw unchanged (omega arith)
 count_some (x ∷ xs) (suc at) d within unchanged = omega (arith, count_some xs at d (omega (arith, within)) unchanged, counted x xs)
@@ -106,13 +106,13 @@ module _ (entries : List (ℕ × Slot)) (changed : List Home) (kept : AreSlots e
       by_before q true t = before ∙ sym (ap (option_and_then page_before) (ap (value_at entries) (sym (eqb-true _ q t)) ∙ there))
       by_before q false t = refl
 
-  pub slots_edited : home.page < 2 ^ 32 → is_same slot.change ≡ false → (AreWhole was → AreWhole slot) → AreSlots (set entries at (number_of home, slot)) (with_home (is_same was.change) home changed)
+  pub slots_edited : home.page < 2 ^ 32 → is_same slot ≡ false → (AreWhole was → AreWhole slot) → AreSlots (set entries at (number_of home, slot)) (with_home (is_same was) home changed)
   slots_edited fits changes whole = record {
     rising = rising_at_place _ _ _ place kept.rising slot;
     whole = for_sets (λ key. AreWhole) entries _ (number_of home) slot sets (whole (kept.whole (number_of home) was there)) kept.whole;
-    listed = for_sets (λ key s. is_same s.change ≡ false → is_listed (with_home (is_same was.change) home changed) key ≡ true) entries _ (number_of home) slot sets (λ no. listed_now (is_same was.change) home changed (kept.listed (number_of home) was there)) (λ q s is no. listed_more (is_same was.change) home changed q (kept.listed q s is no));
-    homes = homes_more (is_same was.change) home changed fits kept.homes;
-    once = grind (arith, kept.once, count_set entries at (number_of home) slot d place.within, length_more (is_same was.change) home changed, length-set entries at (number_of home, slot));
+    listed = for_sets (λ key s. is_same s ≡ false → is_listed (with_home (is_same was) home changed) key ≡ true) entries _ (number_of home) slot sets (λ no. listed_now (is_same was) home changed (kept.listed (number_of home) was there)) (λ q s is no. listed_more (is_same was) home changed q (kept.listed q s is no));
+    homes = homes_more (is_same was) home changed fits kept.homes;
+    once = grind (arith, kept.once, count_set entries at (number_of home) slot d place.within, length_more (is_same was) home changed, length-set entries at (number_of home, slot));
   }
 
 -- the entry at a place that was found
@@ -127,8 +127,8 @@ module _ (entries : List (ℕ × Slot)) (changed : List Home) (kept : AreSlots e
   its_slot = value_at_place _ _ _ place kept.rising entry ∙ ap (λ (e : ℕ × Slot). Some e.1) (sym value)
 
   -- the list has room for one that has not changed
-  pub has_room : is_same entry.1.change ≡ true → length changed < length entries
-  has_room unchanged = omega (arith, kept.once, count_some entries at entry place.within (ap (λ (e : ℕ × Slot). is_same e.1.change) (sym value) ∙ unchanged))
+  pub has_room : is_same entry.1 ≡ true → length changed < length entries
+  has_room unchanged = omega (arith, kept.once, count_some entries at entry place.within (ap (λ (e : ℕ × Slot). is_same e.1) (sym value) ∙ unchanged))
 
   pub edits_entry : (slot : Slot) (page : Option (List ℕ)) → page_now slot ≡ page → page_before slot ≡ page_before entry.1 → EditsSlot (number_of home) page entries (set entries at (entry.0, slot))
   edits_entry slot page now before = subst (λ k. EditsSlot (number_of home) page entries (set entries at (k, slot))) (sym its_key) (edits_slot entries changed kept home at place entry slot page now (before ∙ ap (λ (e : ℕ × Slot). page_before e.1) value))
@@ -140,18 +140,18 @@ module _ (entries : List (ℕ × Slot)) (changed : List Home) (kept : AreSlots e
       on_page None there = there
       on_page (Some page) there = edits_entry slot (Some (change page)) there before
 
-  pub slots_with : (slot : Slot) (unchanged : Bool) → unchanged ≡ is_same entry.1.change → home.page < 2 ^ 32 → is_same slot.change ≡ false → (AreWhole entry.1 → AreWhole slot) → AreSlots (set entries at (entry.0, slot)) (with_home unchanged home changed)
+  pub slots_with : (slot : Slot) (unchanged : Bool) → unchanged ≡ is_same entry.1 → home.page < 2 ^ 32 → is_same slot ≡ false → (AreWhole entry.1 → AreWhole slot) → AreSlots (set entries at (entry.0, slot)) (with_home unchanged home changed)
   slots_with slot unchanged says fits changes whole =
       let edited = slots_edited entries changed kept home at place entry slot fits changes (λ were. whole (subst (λ (e : ℕ × Slot). AreWhole e.1) (sym value) were)) in
-      let said : is_same (get_or entries at entry).1.change ≡ unchanged = ap (λ (e : ℕ × Slot). is_same e.1.change) (sym value) ∙ sym says in
+      let said : is_same (get_or entries at entry).1 ≡ unchanged = ap (λ (e : ℕ × Slot). is_same e.1) (sym value) ∙ sym says in
       subst (λ k. AreSlots (set entries at (k, slot)) (with_home unchanged home changed)) (sym its_key) (subst (λ b. AreSlots (set entries at (number_of home, slot)) (with_home b home changed)) said edited)
 
--- a number that has no slot has no page: nothing is to be done
-pub edits_none : (entries : List (ℕ × Slot)) (key : ℕ) → value_at entries key ≡ None → EditsSlot key None entries entries
+-- where no page is at a number, nothing is to be done
+pub edits_none : (entries : List (ℕ × Slot)) (key : ℕ) → option_and_then page_now (value_at entries key) ≡ None → EditsSlot key None entries entries
 edits_none entries key none = record { pages = λ q. by_test q (key == q) refl; before = λ q. refl }
   where
     by_test : (q : ℕ) (b : Bool) → (key == q) ≡ b → option_and_then page_now (value_at entries q) ≡ (if b then None else option_and_then page_now (value_at entries q))
-    by_test q true t = ap (option_and_then page_now) (ap (value_at entries) (sym (eqb-true key q t)) ∙ none)
+    by_test q true t = ap (λ k. option_and_then page_now (value_at entries k)) (sym (eqb-true key q t)) ∙ none
     by_test q false t = refl
 
 count_insert : (entries : List (ℕ × Slot)) (at : ℕ) (entry : ℕ × Slot) → count_same (insert entries at entry) ≡ counts entry.1 + count_same entries
@@ -181,11 +181,11 @@ module _ (entries : List (ℕ × Slot)) (changed : List Home) (kept : AreSlots e
       by_before q true t = before ∙ sym (ap (option_and_then page_before) (ap (value_at entries) (sym (eqb-true _ q t)) ∙ value_in_gap _ _ _ gap))
       by_before q false t = refl
 
-  pub slots_new : is_same slot.change ≡ false → AreWhole slot → home.page < 2 ^ 32 → AreSlots (insert entries at (key, slot)) (changed ++ home ∷ [])
+  pub slots_new : is_same slot ≡ false → AreWhole slot → home.page < 2 ^ 32 → AreSlots (insert entries at (key, slot)) (changed ++ home ∷ [])
   slots_new changes whole fits = record {
     rising = subst (λ k. IsRising (insert entries at (k, slot))) (sym is) (rising_with _ _ _ gap kept.rising slot);
     whole = for_sets (λ key. AreWhole) entries _ (number_of home) slot sets_new whole kept.whole;
-    listed = for_sets (λ key s. is_same s.change ≡ false → is_listed (changed ++ home ∷ []) key ≡ true) entries _ (number_of home) slot sets_new (λ no. listed_now true home changed (λ f. absurd (false≢true (sym f)))) (λ q s there no. listed_more true home changed q (kept.listed q s there no));
+    listed = for_sets (λ key s. is_same s ≡ false → is_listed (changed ++ home ∷ []) key ≡ true) entries _ (number_of home) slot sets_new (λ no. listed_now true home changed (λ f. absurd (false≢true (sym f)))) (λ q s there no. listed_more true home changed q (kept.listed q s there no));
     homes = homes_more true home changed fits kept.homes;
     once = omega (arith, kept.once, count_insert entries at (key, slot), none_counts, length-append changed (home ∷ []), length-insert entries at (key, slot) gap.within);
   }

@@ -1,54 +1,36 @@
 -- What it does to slots when the change of one is kept or taken back.
-use Rattle.std.proofs.Common.{◌≡◌, ◌==◌, ◌+◌, ◌^◌, ◌||◌, ◌&&◌, ◌<◌, ◌≤◌, ℕ, nat_lt, ⊎_elim, zero, suc, Bool, true, false, List, [], ◌∷◌, ◌++◌, length, get_or, set, Option, Some, None, refl, sym, ap, subst, ◌∙◌, arith, if◌then◌else◌, eqb-true}
+use Rattle.std.proofs.Common.{◌≡◌, ◌==◌, ◌^◌, ◌||◌, ◌&&◌, ◌≤◌, ℕ, nat_lt, ⊎_elim, Bool, true, false, List, [], ◌∷◌, ◌++◌, length, get_or, set, Option, Some, None, refl, sym, ap, subst, ◌∙◌, arith, if◌then◌else◌, eqb-true}
 use Rattle.std.specs.Option.{ForSome, option_and_then}
-use Rattle.std.specs.List.{remove}
 use Rattle.std.proofs.lemmas.Option.{same_Some}
 use Rattle.std.proofs.lemmas.List.{length-append, length-set}
 use Rattle.std.proofs.lemmas.Bool.{cases_Bool}
 use mathlib.Core.Bool.{false≢true}
 use Rattle.domain_base.specs.declared.place.Home.{Home}
 use Rattle.numbered_values.specs.Homes.{number_of}
-use Rattle.std.proofs.lemmas.List.Edits.{length-remove}
 use Rattle.std.proofs.lemmas.Bool.Decides.{nat_tests}
-use Rattle.numbered_values.specs.Rising.{Drops, IsPlaceOf, IsRising, Sets, value_at}
-use Rattle.numbered_values.proofs.Search.{drops_at_place, rising_without, sets_at_place, value_at_place}
+use Rattle.numbered_values.specs.Rising.{IsPlaceOf, IsRising, Sets, value_at}
+use Rattle.numbered_values.proofs.Search.{sets_at_place, value_at_place}
 use Rattle.staged_pages.specs.declared.slot.Slot.{Slot}
 use Rattle.staged_pages.specs.Slots.{AreWhole, is_same, page_before, page_now}
-use Rattle.staged_pages.specs.Staged.{AreSlots, SettlesSlot, count_same, have_pages, is_listed, pages_in}
+use Rattle.staged_pages.specs.Staged.{AreSlots, SettlesSlot, have_pages, is_listed, pages_in}
 use Rattle.staged_pages.proofs.Listed.{same_slot}
-use Rattle.staged_pages.proofs.Edits.{counted, counts, count_set, for_sets}
-
-count_remove : (entries : List (ℕ × Slot)) (at : ℕ) (d : ℕ × Slot) → at < length entries → count_same (remove entries at) + counts (get_or entries at d).1 ≡ count_same entries
-count_remove [] at d within = absurd (omega (arith, within))
-count_remove (x ∷ xs) zero d within = omega (arith, counted x xs)
-count_remove (x ∷ xs) (suc at) d within = omega (arith, counted x xs, counted x (remove xs at), count_remove xs at d (omega (arith, within)))
+use Rattle.staged_pages.proofs.Edits.{counts, count_set, for_sets}
 
 self : (key : ℕ) → (key == key) ≡ true
 self key = grind (arith, nat_tests)
 
 -- a slot counts for one at most
 counts_most : (slot : Slot) → counts slot ≤ 1
-counts_most slot = elim (is_same slot.change) as (λ b. (if b then 1 else 0) ≤ 1) [
+counts_most slot = elim (is_same slot) as (λ b. (if b then 1 else 0) ≤ 1) [
   | true ↦ omega arith
   | false ↦ omega arith
 ]
-
--- what holds of all slots holds of those that are left
-pub for_drops : (P : ℕ → Slot → Type 0) (old new : List (ℕ × Slot)) (key : ℕ) → Drops old new key → ((q : ℕ) → ForSome (value_at old q) (P q)) → (q : ℕ) → ForSome (value_at new q) (P q)
-for_drops P old new key drops others q = subst (λ o. ForSome o (P q)) (sym (drops q)) (by_test (key == q) refl)
-  where
-    by_test : (b : Bool) → (key == q) ≡ b → ForSome (if b then None else value_at old q) (P q)
-    by_test true t = λ x is. absurd (none_some x is)
-      where
-        none_some : (x : Slot) → None ≡ Some x → ⊥
-        none_some x is = grind arith
-    by_test false t = others q
 
 -- a number that has no slot is settled
 pub settles_none : (which : Slot → Option (List ℕ)) (entries : List (ℕ × Slot)) (key : ℕ) → value_at entries key ≡ None → SettlesSlot which key entries entries
 settles_none which entries key none = record {
   others = λ q other. refl;
-  same = subst (λ o. ForSome o (λ slot. is_same slot.change ≡ true)) (sym none) (λ x is. absurd (none_some x is));
+  same = subst (λ o. ForSome o (λ slot. is_same slot ≡ true)) (sym none) (λ x is. absurd (none_some x is));
   page = refl;
   count = omega arith;
 }
@@ -64,36 +46,16 @@ module _ (which : Slot → Option (List ℕ)) (entries : List (ℕ × Slot)) (ri
   pub slot_there : value_at entries key ≡ Some entry.1
   slot_there = value_at_place _ _ _ place rising entry ∙ ap (λ (e : ℕ × Slot). Some e.1) (sym value)
 
-  pub drops_it : Drops entries (remove entries at) key
-  drops_it = drops_at_place _ _ _ place rising entry
-
-  pub rises_without : IsRising (remove entries at)
-  rises_without = rising_without _ _ _ place rising
-
-  pub settles_by_removal : which entry.1 ≡ None → SettlesSlot which key entries (remove entries at)
-  settles_by_removal none = record {
-    others = λ q other. drops_it q ∙ ap (λ b. if b then None else value_at entries q) other;
-    same = subst (λ o. ForSome o (λ slot. is_same slot.change ≡ true)) (sym gone) (λ x is. absurd (none_some x is));
-    page = ap (option_and_then which) gone ∙ sym (ap (option_and_then which) slot_there ∙ none);
-    count = omega (arith, count_remove entries at entry place.within, counts_most (get_or entries at entry).1, length-remove entries at place.within);
-  }
-    where
-      gone : value_at (remove entries at) key ≡ None
-      gone = drops_it key ∙ ap (λ b. if b then None else value_at entries key) (self key)
-
-      none_some : (x : Slot) → None ≡ Some x → ⊥
-      none_some x is = grind arith
-
   sets_it : (slot : Slot) → Sets entries (set entries at (entry.0, slot)) key slot
   sets_it slot = subst (λ k. Sets entries (set entries at (k, slot)) key slot) (sym (ap (λ (e : ℕ × Slot). e.0) value ∙ place.has_key entry)) (sets_at_place _ _ _ place rising slot entry)
 
   pub whole_with : (slot : Slot) → (AreWhole entry.1 → AreWhole slot) → ((q : ℕ) → ForSome (value_at entries q) AreWhole) → (q : ℕ) → ForSome (value_at (set entries at (entry.0, slot)) q) AreWhole
   whole_with slot kept whole = for_sets (λ q. AreWhole) entries _ key slot (sets_it slot) (kept (whole key entry.1 slot_there)) whole
 
-  pub settles_in_place : (slot : Slot) → is_same slot.change ≡ true → which slot ≡ which entry.1 → SettlesSlot which key entries (set entries at (entry.0, slot))
+  pub settles_in_place : (slot : Slot) → is_same slot ≡ true → which slot ≡ which entry.1 → SettlesSlot which key entries (set entries at (entry.0, slot))
   settles_in_place slot unchanged page = record {
     others = λ q other. sets_it slot q ∙ ap (λ b. if b then Some slot else value_at entries q) other;
-    same = subst (λ o. ForSome o (λ s. is_same s.change ≡ true)) (sym here) (λ x is. subst (λ (s : Slot). is_same s.change ≡ true) (same_Some slot x is) unchanged);
+    same = subst (λ o. ForSome o (λ s. is_same s ≡ true)) (sym here) (λ x is. subst (λ (s : Slot). is_same s ≡ true) (same_Some slot x is) unchanged);
     page = ap (option_and_then which) here ∙ page ∙ sym (ap (option_and_then which) slot_there);
     count = omega (arith, count_set entries at entry.0 slot entry place.within, counts_most slot, length-set entries at (entry.0, slot));
   }
@@ -126,7 +88,7 @@ slots_settled which old new listed changed home kept is settles rising whole = r
   once = omega (arith, settles.count, kept.once, ap (λ (l : List Home). length l) is, length-append changed (home ∷ []));
 }
   where
-    by_test : (q : ℕ) (b : Bool) → (number_of home == q) ≡ b → ForSome (value_at new q) (λ slot. is_same slot.change ≡ false → is_listed changed q ≡ true)
+    by_test : (q : ℕ) (b : Bool) → (number_of home == q) ≡ b → ForSome (value_at new q) (λ slot. is_same slot ≡ false → is_listed changed q ≡ true)
     by_test q true t = λ slot there changes. absurd (false≢true (sym changes ∙ settles.same slot (ap (value_at new) (eqb-true _ q t) ∙ there)))
     by_test q false t = λ slot there changes. listed_before changed home q t (subst (λ l. is_listed l q ≡ true) is (kept.listed q slot (sym (settles.others q t) ∙ there) changes))
 
@@ -139,15 +101,15 @@ pages_settled which old new key settles q = by_test (key == q) refl
     by_test false t = ap (option_and_then which) (settles.others q t)
 
 -- where no home is listed, no slot has changed
-pub none_changed : (entries : List (ℕ × Slot)) (changed : List Home) → AreSlots entries changed → changed ≡ [] → (q : ℕ) → ForSome (value_at entries q) (λ slot. is_same slot.change ≡ true)
+pub none_changed : (entries : List (ℕ × Slot)) (changed : List Home) → AreSlots entries changed → changed ≡ [] → (q : ℕ) → ForSome (value_at entries q) (λ slot. is_same slot ≡ true)
 none_changed entries changed kept none q slot there =
-    ⊎_elim (λ same. same) (λ changes. absurd (false≢true (subst (λ l. is_listed l q ≡ true) none (kept.listed q slot there changes)))) (cases_Bool (is_same slot.change))
+    ⊎_elim (λ same. same) (λ changes. absurd (false≢true (subst (λ l. is_listed l q ≡ true) none (kept.listed q slot there changes)))) (cases_Bool (is_same slot))
 
 -- once no slot has changed, the pages are the same before and now
-pub same_settled : (entries : List (ℕ × Slot)) → ((q : ℕ) → ForSome (value_at entries q) (λ slot. is_same slot.change ≡ true)) → (q : ℕ) → option_and_then page_now (value_at entries q) ≡ option_and_then page_before (value_at entries q)
+pub same_settled : (entries : List (ℕ × Slot)) → ((q : ℕ) → ForSome (value_at entries q) (λ slot. is_same slot ≡ true)) → (q : ℕ) → option_and_then page_now (value_at entries q) ≡ option_and_then page_before (value_at entries q)
 same_settled entries same q = by_slot (value_at entries q) (same q)
   where
-    by_slot : (o : Option Slot) → ForSome o (λ slot. is_same slot.change ≡ true) → option_and_then page_now o ≡ option_and_then page_before o
+    by_slot : (o : Option Slot) → ForSome o (λ slot. is_same slot ≡ true) → option_and_then page_now o ≡ option_and_then page_before o
     by_slot None unchanged = refl
     by_slot (Some slot) unchanged = same_slot slot (unchanged slot refl)
 

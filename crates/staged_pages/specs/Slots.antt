@@ -4,6 +4,7 @@ use Rattle.domain_base.specs.Limits.{page_bytes}
 use Rattle.staged_pages.specs.declared.slot.Change.{Change}
 use Rattle.staged_pages.specs.declared.slot.Change.TheVariants.{Same, Rewritten, Added, Forgotten, Passed}
 use Rattle.staged_pages.specs.declared.slot.Slot.{Slot}
+use Rattle.staged_pages.specs.declared.slot.Slot.TheVariants.{Taken, Vacant}
 
 -- the page that stands there after a change
 abbrev pub after : Change → List ℕ → Option (List ℕ)
@@ -21,20 +22,36 @@ before Added page other = None
 before Forgotten page other = Some other
 before Passed page other = None
 
+abbrev pub stays : Change → Bool
+stays Same = true
+stays Rewritten = false
+stays Added = false
+stays Forgotten = false
+stays Passed = false
+
 abbrev pub page_now : Slot → Option (List ℕ)
-page_now slot = after slot.change slot.page
+page_now Vacant = None
+page_now (Taken page other change) = after change page
 
 abbrev pub page_before : Slot → Option (List ℕ)
-page_before slot = before slot.change slot.page slot.other
+page_before Vacant = None
+page_before (Taken page other change) = before change page other
 
-abbrev pub is_same : Change → Bool
-is_same Same = true
-is_same Rewritten = false
-is_same Added = false
-is_same Forgotten = false
-is_same Passed = false
+-- nothing has changed
+abbrev pub is_same : Slot → Bool
+is_same Vacant = true
+is_same (Taken page other change) = stays change
+
+-- how many bytes its page has, and the other one; a vacant slot lacks none
+abbrev pub page_length : Slot → ℕ
+page_length Vacant = page_bytes
+page_length (Taken page other change) = length page
+
+abbrev pub other_length : Slot → ℕ
+other_length Vacant = page_bytes
+other_length (Taken page other change) = length other
 
 -- both pages have all their bytes
 pub record AreWhole (slot : Slot) : Type 0 where
-  pub page : length slot.page ≡ page_bytes
-  pub other : length slot.other ≡ page_bytes
+  pub page : page_length slot ≡ page_bytes
+  pub other : other_length slot ≡ page_bytes

@@ -25,7 +25,7 @@ have_pages homes = list_all (λ home. nat_lt home.page (2 ^ 32)) homes
 abbrev pub count_same : List (ℕ × Slot) → ℕ
 count_same [] = 0
 count_same (entry ∷ entries) =
-    if is_same entry.1.change then 1 + count_same entries else count_same entries
+    if is_same entry.1 then 1 + count_same entries else count_same entries
 
 -- a home of that number is on the list
 abbrev pub is_listed : List Home → ℕ → Bool
@@ -34,7 +34,7 @@ is_listed changed key = list_any (λ home. number_of home == key) changed
 -- each that has changed is
 abbrev pub AreListed : List (ℕ × Slot) → List Home → Type 0
 AreListed entries changed = (key : ℕ) → ForSome (value_at entries key)
-    (λ slot. is_same slot.change ≡ false → is_listed changed key ≡ true)
+    (λ slot. is_same slot ≡ false → is_listed changed key ≡ true)
 
 -- slots in the order of their homes; those that have changed are listed, each once
 pub record AreSlots (entries : List (ℕ × Slot)) (changed : List Home) : Type 0 where
@@ -57,12 +57,12 @@ pub record EditsSlot (key : ℕ) (page : Option (List ℕ)) (old new : List (ℕ
   pub before : (q : ℕ) → option_and_then page_before (value_at new q)
       ≡ option_and_then page_before (value_at old q)
 
--- the slot of a number has not changed now, or is gone, and has the page that it had now or before;
--- all others are as they were
+-- the slot of a number has not changed now, and has the page that it had now or before; all others
+-- are as they were
 pub record SettlesSlot (which : Slot → Option (List ℕ)) (key : ℕ) (old new : List (ℕ × Slot))
     : Type 0 where
   pub others : (q : ℕ) → (key == q) ≡ false → value_at new q ≡ value_at old q
-  pub same : ForSome (value_at new key) (λ slot. is_same slot.change ≡ true)
+  pub same : ForSome (value_at new key) (λ slot. is_same slot ≡ true)
   pub page : option_and_then which (value_at new key) ≡ option_and_then which (value_at old key)
   pub count : count_same new + length old ≤ count_same old + length new + 1
 
@@ -70,4 +70,4 @@ pub record SettlesSlot (which : Slot → Option (List ℕ)) (key : ℕ) (old new
 pub record SettlesAll (which : Slot → Option (List ℕ)) (old new : List (ℕ × Slot)) : Type 0 where
   pub pages : (q : ℕ) → option_and_then which (value_at new q)
       ≡ option_and_then which (value_at old q)
-  pub same : (q : ℕ) → ForSome (value_at new q) (λ slot. is_same slot.change ≡ true)
+  pub same : (q : ℕ) → ForSome (value_at new q) (λ slot. is_same slot ≡ true)

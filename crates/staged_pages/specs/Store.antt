@@ -10,6 +10,7 @@ use Rattle.staged_pages.specs.declared.pages.StagedPages.{StagedPages}
 use Rattle.staged_pages.specs.declared.slot.Change.{Change}
 use Rattle.staged_pages.specs.declared.slot.Change.TheVariants.{Same, Rewritten, Added, Forgotten, Passed}
 use Rattle.staged_pages.specs.declared.slot.Slot.{Slot}
+use Rattle.staged_pages.specs.declared.slot.Slot.TheVariants.{Taken, Vacant}
 use Rattle.staged_pages.specs.Slots.{AreWhole, after, page_before, page_now}
 use Rattle.staged_pages.specs.Staged.{AreSlots, pages_in}
 
@@ -26,15 +27,20 @@ changed_in store = store.changed.items
 if_some : (found : Option Slot) → ForSome found AreWhole
     → IfSome (option_and_then page_now found) (λ page. length page ≡ page_bytes)
 if_some None whole = tt
-if_some (Some slot) whole = of_change slot.change (whole slot refl)
+if_some (Some slot) whole = of_slot slot (whole slot refl)
   where
-    of_change : (change : Change) → AreWhole slot
-        → IfSome (after change slot.page) (λ page. length page ≡ page_bytes)
-    of_change Same are = are.page
-    of_change Rewritten are = are.page
-    of_change Added are = are.page
-    of_change Forgotten are = tt
-    of_change Passed are = tt
+    of_change : (change : Change) (page : List ℕ) → length page ≡ page_bytes
+        → IfSome (after change page) (λ page. length page ≡ page_bytes)
+    of_change Same page is = is
+    of_change Rewritten page is = is
+    of_change Added page is = is
+    of_change Forgotten page is = tt
+    of_change Passed page is = tt
+
+    of_slot : (slot : Slot) → AreWhole slot
+        → IfSome (page_now slot) (λ page. length page ≡ page_bytes)
+    of_slot Vacant are = tt
+    of_slot (Taken page other change) are = of_change change page are.page
 
 -- each page has all its bytes
 pub whole_pages : (entries : List (ℕ × Slot)) (changed : List Home) → AreSlots entries changed

@@ -1,11 +1,11 @@
 //! Changes of single slots.
-ghost use Rattle.std.specs.Prelude.{◌≡◌, ◌+◌, ◌<◌, ◌≤◌, true, Some, None, IsSome, IsSomeAnd, is_some, length, vec_capacity, vec_len};
+ghost use Rattle.std.specs.Prelude.{◌≡◌, ◌+◌, ◌<◌, ◌≤◌, Some, None, IsSome, IsSomeAnd, length, vec_capacity, vec_len};
 ghost use Rattle.std.specs.Option.{option_and_then};
 ghost use Rattle.domain_base.specs.Page.{overwritten};
 ghost use Rattle.numbered_values.specs.Homes.{number_of};
 ghost use Rattle.numbered_values.specs.Rising.{value_at};
-ghost use Rattle.staged_pages.specs.Slots.{page_before, page_now};
-ghost use Rattle.staged_pages.specs.Staged.{AreSlots, EditsSlot, SettlesSlot};
+ghost use Rattle.staged_pages.specs.Slots.{page_now};
+ghost use Rattle.staged_pages.specs.Staged.{AreSlots, EditsSlot};
 
 use crate::slot::Slot;
 use domain_base::limits::PAGE_BYTES;
@@ -43,16 +43,20 @@ pub(crate) fn rewrite_at(
     }
 }
 
-/// Puts a page at a home that has a slot.
+/// Puts a page at a home that has a slot. Where no page is there, another one comes as room for it,
+/// which a vacant slot takes.
 pub(crate) fn put_at(
     entries: &mut Vec<(u64, Slot)>,
     changed: &mut Vec<Home>,
     home: Home,
     page: Page,
+    other: Option<Page>,
 )
     requires slots { AreSlots entries.old.items changed.old.items }
     requires room { vec_len entries.old ≤ vec_capacity changed.old }
     requires there { IsSome (value_at entries.old.items (number_of home)) }
+    requires page_room { option_and_then page_now (value_at entries.old.items (number_of home))
+        ≡ None → IsSome other }
     ensures edits { EditsSlot (number_of home) (Some page) entries.old.items entries.new.items }
     ensures slots { AreSlots entries.new.items changed.new.items }
     ensures len { vec_len entries.new ≡ vec_len entries.old }
@@ -63,13 +67,13 @@ pub(crate) fn put_at(
         return;
     };
     let is_new = entries[place].1.is_same();
-    entries[place].1.put(page);
+    entries[place].1.put(page, other);
     if is_new {
         changed.push_reserved(home);
     }
 }
 
-/// Forgets the page at a home; nothing changes where it has no slot.
+/// Forgets the page at a home; nothing changes where none is there.
 pub(crate) fn forget_at(entries: &mut Vec<(u64, Slot)>, changed: &mut Vec<Home>, home: Home)
     requires slots { AreSlots entries.old.items changed.old.items }
     requires room { vec_len entries.old ≤ vec_capacity changed.old }
@@ -82,7 +86,11 @@ pub(crate) fn forget_at(entries: &mut Vec<(u64, Slot)>, changed: &mut Vec<Home>,
     let Ok(place) = place_of(entries, home_number(&home)) else {
         return;
     };
-    let is_new = entries[place].1.is_same();
+    let slot = &entries[place].1;
+    if slot.page().is_none() {
+        return;
+    }
+    let is_new = slot.is_same();
     entries[place].1.forget();
     if is_new {
         changed.push_reserved(home);

@@ -1,5 +1,4 @@
 //! Pages with a change laid over them as pages of metadata.
-ghost use Rattle.std.specs.Prelude.{◌≡◌, ◌+◌, ◌≤◌, length};
 ghost use Rattle.staged_pages.specs.Store.{before_of, pages_of, room_of, whole_pages};
 
 use crate::edit::{add_at, forget_at, put_at, rewrite_at};
@@ -46,9 +45,18 @@ impl MetaPages for StagedPages {
             return;
         };
         if slot.page().is_none() {
-            let _ = self.spare.pop();
+            if let Some(other) = self.spare.pop() {
+                put_at(
+                    &mut self.entries,
+                    &mut self.changed,
+                    home,
+                    page,
+                    Some(other),
+                );
+            }
+        } else {
+            put_at(&mut self.entries, &mut self.changed, home, page, None);
         }
-        put_at(&mut self.entries, &mut self.changed, home, page);
     }
 
     fn set(&mut self, home: Home, at: usize, bytes: &[u8]) {

@@ -1,5 +1,5 @@
 //! Changes kept or taken back, slot by slot.
-ghost use Rattle.std.specs.Prelude.{◌≡◌, ◌+◌, ◌<◌, ◌≤◌, ℕ, [], length, vec_capacity, vec_len};
+ghost use Rattle.std.specs.Prelude.{◌≡◌, ℕ, [], vec_capacity, vec_len};
 ghost use Rattle.std.specs.Option.{ForSome};
 ghost use Rattle.numbered_values.specs.Rising.{IsRising, value_at};
 ghost use Rattle.staged_pages.specs.Slots.{AreWhole, page_before, page_now};
@@ -16,17 +16,13 @@ fn settle_at(entries: &mut Vec<(u64, Slot)>, key: u64)
     ensures settles { SettlesSlot page_now key entries.old.items entries.new.items }
     ensures rising { IsRising entries.new.items }
     ensures whole { (q : ℕ) → ForSome (value_at entries.new.items q) AreWhole }
-    ensures len { vec_len entries.new ≤ vec_len entries.old }
+    ensures len { vec_len entries.new ≡ vec_len entries.old }
     ensures capacity { vec_capacity entries.new ≡ vec_capacity entries.old }
 {
     let Ok(place) = place_of(entries, key) else {
         return;
     };
-    if entries[place].1.page().is_none() {
-        entries.remove(place);
-    } else {
-        entries[place].1.settle();
-    }
+    entries[place].1.settle();
 }
 
 /// Lets the page of a number be as it was.
@@ -36,17 +32,13 @@ fn take_back_at(entries: &mut Vec<(u64, Slot)>, key: u64)
     ensures settles { SettlesSlot page_before key entries.old.items entries.new.items }
     ensures rising { IsRising entries.new.items }
     ensures whole { (q : ℕ) → ForSome (value_at entries.new.items q) AreWhole }
-    ensures len { vec_len entries.new ≤ vec_len entries.old }
+    ensures len { vec_len entries.new ≡ vec_len entries.old }
     ensures capacity { vec_capacity entries.new ≡ vec_capacity entries.old }
 {
     let Ok(place) = place_of(entries, key) else {
         return;
     };
-    if entries[place].1.before().is_none() {
-        entries.remove(place);
-    } else {
-        entries[place].1.take_back();
-    }
+    entries[place].1.take_back();
 }
 
 /// Lets all pages be as they are now.
@@ -55,7 +47,7 @@ pub(crate) fn settle_all(entries: &mut Vec<(u64, Slot)>, changed: &mut Vec<Home>
     ensures settles { SettlesAll page_now entries.old.items entries.new.items }
     ensures slots { AreSlots entries.new.items changed.new.items }
     ensures none { changed.new.items ≡ [] }
-    ensures len { vec_len entries.new ≤ vec_len entries.old }
+    ensures len { vec_len entries.new ≡ vec_len entries.old }
     ensures capacity { vec_capacity entries.new ≡ vec_capacity entries.old }
     ensures list_room { vec_capacity changed.new ≡ vec_capacity changed.old }
 {
@@ -70,7 +62,7 @@ pub(crate) fn take_back_all(entries: &mut Vec<(u64, Slot)>, changed: &mut Vec<Ho
     ensures settles { SettlesAll page_before entries.old.items entries.new.items }
     ensures slots { AreSlots entries.new.items changed.new.items }
     ensures none { changed.new.items ≡ [] }
-    ensures len { vec_len entries.new ≤ vec_len entries.old }
+    ensures len { vec_len entries.new ≡ vec_len entries.old }
     ensures capacity { vec_capacity entries.new ≡ vec_capacity entries.old }
     ensures list_room { vec_capacity changed.new ≡ vec_capacity changed.old }
 {

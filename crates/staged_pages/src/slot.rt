@@ -1,7 +1,6 @@
 //! A page, with what stood in its place before the change.
-ghost use Rattle.std.specs.Prelude.{◌≡◌, ◌+◌, ◌≤◌, true, false, Some, None, IsSome, IsSomeAnd, length};
+ghost use Rattle.std.specs.Prelude.{◌≡◌, ◌+◌, ◌≤◌, ◌⊎◌, true, false, Some, None, IsSome, IsSomeAnd, length};
 ghost use Rattle.std.specs.Option.{option_copied};
-ghost use Rattle.domain_base.specs.Limits.{page_bytes};
 ghost use Rattle.domain_base.specs.Page.{overwritten};
 ghost use Rattle.staged_pages.specs.Slots.{AreWhole, is_same, page_before, page_now};
 
@@ -24,12 +23,16 @@ pub enum Change {
     Passed,
 }
 
-/// A page, and room for another one: for what it was, where it has changed.
+/// A page, and room for another one: for what it was, where it has changed. A vacant slot has no
+/// page and had none, and has room for neither.
 #[derive(Debug, Drop)]
-pub struct Slot {
-    pub page: Page,
-    pub other: Page,
-    pub change: Change,
+pub enum Slot {
+    Vacant,
+    Taken {
+        page: Page,
+        other: Page,
+        change: Change,
+    },
 }
 
 impl Slot {
@@ -37,12 +40,12 @@ impl Slot {
     pub fn added(page: Page, other: Page) -> Slot
         ensures page { page_now result ≡ Some page }
         ensures before { page_before result ≡ None }
-        ensures changed { is_same result.change ≡ false }
+        ensures changed { is_same result ≡ false }
         ensures whole { AreWhole result }
     {
         prove!(page.bytes().len() == PAGE_BYTES);
         prove!(other.bytes().len() == PAGE_BYTES);
-        Slot {
+        Slot::Taken {
             page,
             other,
             change: Change::Added,
@@ -53,9 +56,12 @@ impl Slot {
     pub fn page(&self) -> Option<&Page>
         ensures { option_copied result ≡ page_now self.now }
     {
-        match self.change {
-            Change::Same | Change::Rewritten | Change::Added => Some(&self.page),
-            Change::Forgotten | Change::Passed => None,
+        match self {
+            Slot::Vacant => None,
+            Slot::Taken { page, change, .. } => match change {
+                Change::Same | Change::Rewritten | Change::Added => Some(page),
+                Change::Forgotten | Change::Passed => None,
+            },
         }
     }
 
@@ -63,30 +69,27 @@ impl Slot {
     pub fn before(&self) -> Option<&Page>
         ensures { option_copied result ≡ page_before self.now }
     {
-        match self.change {
-            Change::Same => Some(&self.page),
-            Change::Rewritten | Change::Forgotten => Some(&self.other),
-            Change::Added | Change::Passed => None,
+        match self {
+            Slot::Vacant => None,
+            Slot::Taken {
+                page,
+                other,
+                change,
+            } => match change {
+                Change::Same => Some(page),
+                Change::Rewritten | Change::Forgotten => Some(other),
+                Change::Added | Change::Passed => None,
+            },
         }
     }
 
     /// Whether nothing has changed.
     pub fn is_same(&self) -> bool
-        ensures { result ≡ is_same self.now.change }
+        ensures { result ≡ is_same self.now }
     {
-        matches!(self.change, Change::Same)
-    }
-
-    /// Keeps what the page was, where nothing has changed so far.
-    fn keep_before(&mut self)
-        ensures page { page_now self.new ≡ page_now self.old }
-        ensures before { page_before self.new ≡ page_before self.old }
-        ensures changed { is_same self.new.change ≡ false }
-        ensures whole { AreWhole self.old → AreWhole self.new }
-    {
-        if self.is_same() {
-            self.other.set(0, self.page.bytes());
-            self.change = Change::Rewritten;
+        match self {
+            Slot::Vacant => true,
+            Slot::Taken { change, .. } => matches!(change, Change::Same),
         }
     }
 
@@ -97,69 +100,121 @@ impl Slot {
         ensures page { IsSomeAnd (page_now self.old)
             (λ page. page_now self.new ≡ Some (overwritten page at bytes.now)) }
         ensures before { page_before self.new ≡ page_before self.old }
-        ensures changed { is_same self.new.change ≡ false }
+        ensures changed { is_same self.new ≡ false }
         ensures whole { AreWhole self.old → AreWhole self.new }
     {
-        self.keep_before();
-        self.page.set(at, bytes);
-    }
-
-    /// Puts this page in place of what is there.
-    pub fn put(&mut self, page: Page)
-        ensures page { page_now self.new ≡ Some page }
-        ensures before { page_before self.new ≡ page_before self.old }
-        ensures changed { is_same self.new.change ≡ false }
-        ensures whole { AreWhole self.old → AreWhole self.new }
-    {
-        prove!(page.bytes().len() == PAGE_BYTES);
-        let was = replace(&mut self.page, page);
-        self.change = match self.change {
-            Change::Same => {
-                self.other = was;
-                Change::Rewritten
-            }
-            Change::Rewritten | Change::Forgotten => Change::Rewritten,
-            Change::Added | Change::Passed => Change::Added,
+        let Slot::Taken {
+            page,
+            other,
+            change,
+        } = self
+        else {
+            return;
         };
+        match *change {
+            Change::Same => {
+                other.set(0, page.bytes());
+                page.set(at, bytes);
+                *change = Change::Rewritten;
+            }
+            Change::Rewritten | Change::Added => page.set(at, bytes),
+            Change::Forgotten | Change::Passed => (),
+        }
     }
 
-    /// Forgets the page.
+    /// Puts this page in place of what is there. A vacant slot takes the other one as its room.
+    pub fn put(&mut self, new: Page, room: Option<Page>)
+        requires { IsSome (page_now self.old) ⊎ IsSome room }
+        ensures page { page_now self.new ≡ Some new }
+        ensures before { page_before self.new ≡ page_before self.old }
+        ensures changed { is_same self.new ≡ false }
+        ensures whole { AreWhole self.old → AreWhole self.new }
+    {
+        prove!(new.bytes().len() == PAGE_BYTES);
+        match self {
+            Slot::Vacant => {
+                if let Some(other) = room {
+                    *self = Slot::added(new, other);
+                }
+            }
+            Slot::Taken {
+                page,
+                other,
+                change,
+            } => {
+                let was = replace(page, new);
+                match *change {
+                    Change::Same => {
+                        *other = was;
+                        *change = Change::Rewritten;
+                    }
+                    Change::Rewritten | Change::Forgotten => *change = Change::Rewritten,
+                    Change::Added | Change::Passed => *change = Change::Added,
+                }
+            }
+        }
+    }
+
+    /// Forgets the page, which is there.
     pub fn forget(&mut self)
+        requires { IsSome (page_now self.old) }
         ensures page { page_now self.new ≡ None }
         ensures before { page_before self.new ≡ page_before self.old }
-        ensures changed { is_same self.new.change ≡ false }
+        ensures changed { is_same self.new ≡ false }
         ensures whole { AreWhole self.old → AreWhole self.new }
     {
-        self.change = match self.change {
-            Change::Same => {
-                swap(&mut self.page, &mut self.other);
-                Change::Forgotten
-            }
-            Change::Rewritten | Change::Forgotten => Change::Forgotten,
-            Change::Added | Change::Passed => Change::Passed,
+        let Slot::Taken {
+            page,
+            other,
+            change,
+        } = self
+        else {
+            return;
         };
-    }
-
-    /// Lets the page, which is there, be as it is now.
-    pub fn settle(&mut self)
-        requires there { IsSome (page_now self.old) }
-        ensures page { page_now self.new ≡ page_now self.old }
-        ensures same { is_same self.new.change ≡ true }
-        ensures whole { AreWhole self.old → AreWhole self.new }
-    {
-        self.change = Change::Same;
-    }
-
-    /// Lets the page, which was there, be as it was.
-    pub fn take_back(&mut self)
-        requires there { IsSome (page_before self.old) }
-        ensures page { page_before self.new ≡ page_before self.old }
-        ensures same { is_same self.new.change ≡ true }
-        ensures whole { AreWhole self.old → AreWhole self.new }
-    {
-        if let Change::Rewritten | Change::Forgotten = self.change {
-            swap(&mut self.page, &mut self.other);
+        match *change {
+            Change::Same => {
+                swap(page, other);
+                *change = Change::Forgotten;
+            }
+            Change::Rewritten | Change::Forgotten => *change = Change::Forgotten,
+            Change::Added | Change::Passed => *change = Change::Passed,
         }
-        self.change = Change::Same;
+    }
+
+    /// Lets the page be as it is now; where none is there, the slot is vacant.
+    pub fn settle(&mut self)
+        ensures page { page_now self.new ≡ page_now self.old }
+        ensures same { is_same self.new ≡ true }
+        ensures whole { AreWhole self.old → AreWhole self.new }
+    {
+        if let Slot::Taken { change, .. } = self {
+            match *change {
+                Change::Same | Change::Rewritten | Change::Added => *change = Change::Same,
+                Change::Forgotten | Change::Passed => *self = Slot::Vacant,
+            }
+        }
+    }
+
+    /// Lets the page be as it was; where none was there, the slot is vacant.
+    pub fn take_back(&mut self)
+        ensures page { page_before self.new ≡ page_before self.old }
+        ensures same { is_same self.new ≡ true }
+        ensures whole { AreWhole self.old → AreWhole self.new }
+    {
+        if let Slot::Taken {
+            page,
+            other,
+            change,
+        } = self
+        {
+            match *change {
+                Change::Same => (),
+                Change::Rewritten | Change::Forgotten => {
+                    swap(page, other);
+                    *change = Change::Same;
+                }
+                Change::Added | Change::Passed => *self = Slot::Vacant,
+            }
+        }
     }
 }

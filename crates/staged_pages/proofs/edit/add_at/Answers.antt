@@ -3,8 +3,8 @@ use Rattle.std.specs.List.{insert}
 use Rattle.numbered_values.specs.Homes.{number_of}
 use Rattle.numbered_values.specs.Rising.{IsPlaceOf}
 use Rattle.numbered_values.proofs.Search.{value_at_place}
-use Rattle.staged_pages.specs.declared.slot.Change.TheVariants.{Same}
 use Rattle.staged_pages.specs.declared.slot.Slot.{Slot}
+use Rattle.staged_pages.specs.declared.slot.Slot.TheVariants.{Vacant}
 use Rattle.staged_pages.specs.Staged.{AreSlots, EditsSlot}
 use Rattle.staged_pages.proofs.Edits.{edits_new, slots_new}
 use Rattle.staged_pages.proofs.edit.add_at.Goals as goal
@@ -15,12 +15,12 @@ none_some x is = grind arith
 pub returns-in_default-clause-edits : goal.returns-in_default-clause-edits
 returns-in_default-clause-edits c =
     let place = subst (λ k. IsPlaceOf c.args.entries.now.items k c.in_default.field-0) c.home_number-key.ensures.value (subst (λ l. IsPlaceOf l c.home_number-key.result c.in_default.field-0) c.deref.ensures.value c.in_default.ensures.place) in
-    absurd (none_some _ (sym c.requires.none ∙ value_at_place _ _ _ place c.requires.slots.rising (0, record { page = c.args.page; other = c.args.other; change = Same })))
+    absurd (none_some _ (sym c.requires.none ∙ value_at_place _ _ _ place c.requires.slots.rising (0, Vacant)))
 
 pub returns-in_default-clause-len : goal.returns-in_default-clause-len
 returns-in_default-clause-len c =
     let place = subst (λ k. IsPlaceOf c.args.entries.now.items k c.in_default.field-0) c.home_number-key.ensures.value (subst (λ l. IsPlaceOf l c.home_number-key.result c.in_default.field-0) c.deref.ensures.value c.in_default.ensures.place) in
-    absurd (none_some _ (sym c.requires.none ∙ value_at_place _ _ _ place c.requires.slots.rising (0, record { page = c.args.page; other = c.args.other; change = Same })))
+    absurd (none_some _ (sym c.requires.none ∙ value_at_place _ _ _ place c.requires.slots.rising (0, Vacant)))
 
 pub returns-clause-edits : goal.returns-clause-edits
 returns-clause-edits c =

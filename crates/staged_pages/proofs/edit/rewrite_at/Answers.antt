@@ -32,7 +32,7 @@ pub returns-then-is_new-clause-slots : goal.returns-then-is_new-clause-slots
 returns-then-is_new-clause-slots c =
     let slot = its_slot _ _ c.requires.slots c.args.home _ c.deref.ensures.value _ c.home_number.ensures.value _ c.in-Ok.ensures.place in
     let one = same_Some _ _ (sym (slot c.index.result.now c.index.ensures) ∙ slot c.index_mut.result.now c.index_mut.ensures.value) in
-    let says = ap (λ (s : Slot). is_same s.change) one in
+    let says = ap (λ (s : Slot). is_same s) one in
     let kept = slots_with _ _ c.requires.slots c.args.home _ c.deref.ensures.value _ c.home_number.ensures.value _ c.in-Ok.ensures.place c.index_mut.result.now c.index_mut.ensures.value c.rewrite.new.self true (sym c.if-is_new.true ∙ c.is_same-is_new.ensures ∙ says) c.home_number.ensures.width c.rewrite.ensures.changed c.rewrite.ensures.whole in
     subst (λ l. AreSlots (set c.args.entries.now.items c.in-Ok.place (c.index_mut.result.now.0, c.rewrite.new.self)) l) (sym c.push_reserved.ensures.items) kept
 
@@ -43,6 +43,6 @@ pub returns-else-is_new-clause-slots : goal.returns-else-is_new-clause-slots
 returns-else-is_new-clause-slots c =
     let slot = its_slot _ _ c.requires.slots c.args.home _ c.deref.ensures.value _ c.home_number.ensures.value _ c.in-Ok.ensures.place in
     let one = same_Some _ _ (sym (slot c.index.result.now c.index.ensures) ∙ slot c.index_mut.result.now c.index_mut.ensures.value) in
-    let says = ap (λ (s : Slot). is_same s.change) one in
+    let says = ap (λ (s : Slot). is_same s) one in
     let kept = slots_with _ _ c.requires.slots c.args.home _ c.deref.ensures.value _ c.home_number.ensures.value _ c.in-Ok.ensures.place c.index_mut.result.now c.index_mut.ensures.value c.rewrite.new.self false (sym c.if-is_new.false ∙ c.is_same-is_new.ensures ∙ says) c.home_number.ensures.width c.rewrite.ensures.changed c.rewrite.ensures.whole in
     kept

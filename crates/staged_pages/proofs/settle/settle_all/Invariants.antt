@@ -1,4 +1,4 @@
-use Rattle.std.proofs.Common.{◌≡◌, ◌≤◌, ℕ, length, vec_capacity, vec_len}
+use Rattle.std.proofs.Common.{◌≡◌, ℕ, length, vec_capacity, vec_len}
 use Rattle.std.specs.Option.{option_and_then}
 use Rattle.numbered_values.specs.Rising.{value_at}
 use Rattle.staged_pages.specs.Slots.{page_now}
@@ -9,7 +9,7 @@ abbrev pub invariant-loop-home : goal.invariant-loop-home
 invariant-loop-home l = record {
   slots : AreSlots l.entries.items l.changed.items;
   pages : (q : ℕ) → option_and_then page_now (value_at l.entries.items q) ≡ option_and_then page_now (value_at l.initial.entries.items q);
-  len : vec_len l.entries ≤ vec_len l.initial.entries;
+  len : vec_len l.entries ≡ vec_len l.initial.entries;
   capacity : vec_capacity l.entries ≡ vec_capacity l.initial.entries;
   list_room : vec_capacity l.changed ≡ vec_capacity l.initial.changed;
 }

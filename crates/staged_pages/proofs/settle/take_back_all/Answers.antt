@@ -1,4 +1,4 @@
-use Rattle.std.proofs.Common.{rules, ◌≡◌, ◌∙◌, ◌++◌, ◌∷◌, [], subst, arith}
+use Rattle.std.proofs.Common.{rules, ◌≡◌, ◌∙◌, ◌++◌, ◌∷◌, [], subst}
 use Rattle.staged_pages.specs.Slots.{page_before}
 use Rattle.staged_pages.specs.Staged.{SettlesSlot}
 use Rattle.staged_pages.proofs.Settled.{none_changed, pages_settled, slots_settled}
@@ -11,7 +11,7 @@ loop-home-preserved c =
     record {
       slots = slots_settled page_before _ _ _ _ c.in-Some.home c.loop-home.invariant.slots last settles c.take_back_at.ensures.rising c.take_back_at.ensures.whole;
       pages = λ q. pages_settled page_before _ _ _ settles q ∙ c.loop-home.invariant.pages q;
-      len = omega (arith, c.take_back_at.ensures.len, c.loop-home.invariant.len);
+      len = c.take_back_at.ensures.len ∙ c.loop-home.invariant.len;
       capacity = c.take_back_at.ensures.capacity ∙ c.loop-home.invariant.capacity;
       list_room = search rules;
     }
