@@ -7,8 +7,8 @@ use domain_base::{Home, Page};
 
 /// Pages of metadata by their homes, with a change laid over them, which is kept or taken back as a
 /// whole, in the time of what it has touched. Each page has room for what it was beside it, so
-/// changing one takes no memory. Where a page has gone its slot stays, with no page in it, until one
-/// comes there again: no other slot is moved.
+/// changing one takes no memory. Where a page has gone its slot stays, with no page in it, until
+/// one comes there again: no other slot is moved.
 #[derive(Drop)]
 pub struct StagedPages {
     pub(crate) entries: Vec<(u64, Slot)>,
