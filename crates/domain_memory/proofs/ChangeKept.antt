@@ -98,7 +98,7 @@ module _ (d : DomainNow) (all : FilesetMap) (stands : StandsDomain d all) where
     abbrev marked : DomainNow
     marked = record d { pages = pages; contents = contents_of pages }
 
-    other_pages : (home : Home) (holder : Holder) → Holds d files indexes holder home → ¬ holder ≡ Holder.of_volume → pages home ≡ d.pages home
+    pub other_pages : (home : Home) (holder : Holder) → Holds d files indexes holder home → ¬ holder ≡ Holder.of_volume → pages home ≡ d.pages home
     other_pages home holder holds not_volume = change.elsewhere home (λ vol first is. not_volume (stands.owned.once home holder Holder.of_volume holds (bitmap_held vol home first is)))
 
     keeps : KeepsPages d marked files indexes

@@ -1,4 +1,5 @@
 pub mod ChangeKept
+pub mod GoneKept
 pub mod GoingBack
 pub mod KeptCells
 pub mod KeptSpace

@@ -8,6 +8,7 @@ use Rattle.record_table.specs.declared.record.Record.{Record}
 use Rattle.bmt_mcells.specs.Cell.{Cell, record_of}
 use Rattle.bmt_mcells.specs.Chain.{StandsAt}
 use Rattle.tag_dirs.specs.Directory.{cell_of}
+use Rattle.free_cells.specs.Cells.{is_free}
 use Rattle.free_space.specs.Spaces.{Spaces, free_pages, volume_of}
 use Rattle.deferred_delete.specs.Listing.{IsEmpty}
 use Rattle.deferred_delete.specs.declared.list.Entry.{Entry}
@@ -90,3 +91,12 @@ free_in memory = sum_by free_pages memory.space.volumes
 -- no page of any volume waits
 abbrev pub NoneWaits : Spaces → Type 0
 NoneWaits space = (vol : ℕ) → IfSome (volume_of space vol) (λ v. v.waiting ≡ [])
+
+-- ** What stays gone
+
+-- where a change is kept slots are what they were with it, the same cells are free, and each tag
+-- that is used was
+pub record KeepsGone (old new : DomainMemory) : Type 0 where
+  pub table : new.table ≡ old.table
+  pub cells : (at : CellAt) → is_free new.cells at ≡ is_free old.cells at
+  pub used : (number : ℕ) (tag : Tag) → IsUsedIn new number tag → IsUsedIn old number tag

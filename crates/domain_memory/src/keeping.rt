@@ -4,6 +4,7 @@ ghost use Rattle.fileset_model.specs.Filesets.{FilesetMap};
 ghost use Rattle.fileset_table.specs.Table.{IsTable};
 ghost use Rattle.free_space.specs.Spaces.{change_volumes};
 ghost use Rattle.free_space.specs.VolumeSpace.{keeping};
+ghost use Rattle.domain_memory.specs.Going.{KeepsGone};
 ghost use Rattle.domain_memory.specs.Memory.{StandsFor, books_in, kept_in, with_was};
 ghost use Rattle.domain_memory.specs.Staged.{IsSettled, IsStagedForSome, MayBeKept, MayGoBack};
 
@@ -28,8 +29,9 @@ fn put_slot_back(table: &mut FilesetTable, was: &mut Option<ReplacedSlot>)
 impl DomainMemory {
     /// Keeps the change: the domain stands for the filesets then for which it stood with it, if
     /// directories say their parents with it and books are theirs. The bits of its bitmaps say
-    /// which pages are used, and what the change left to be let go of is on the list. It takes no
-    /// memory, and the time of what the change has changed.
+    /// which pages are used, and what the change left to be let go of is on the list; slots, cells
+    /// and tags that came free with it are free. It takes no memory, and the time of what the
+    /// change has changed.
     pub fn keep(&mut self)
         requires staged { ∥ IsStagedForSome self.old ∥₁ }
         requires back { ∥ MayGoBack self.old ∥₁ }
@@ -37,6 +39,7 @@ impl DomainMemory {
         ensures settled { IsSettled self.new }
         ensures back { ∥ MayGoBack self.new ∥₁ }
         ensures space { self.new.space ≡ change_volumes keeping self.old.space }
+        ensures gone { KeepsGone self.old self.new }
         ensures frame { self.new.frame ≡ self.old.frame }
     {
         mark_changes(&mut self.pages, &self.space);

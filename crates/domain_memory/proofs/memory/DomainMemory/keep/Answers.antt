@@ -1,6 +1,8 @@
 use Rattle.std.proofs.Common.{◌∙◌, refl, sym}
+use Rattle.staged_pages.specs.Store.{pages_of}
 use Rattle.domain_memory.proofs.ChangeKept.{asks_bitmaps, asks_bits, asks_once, asks_room, kept_settled, kept_stands}
 use Rattle.domain_memory.proofs.GoingBack.{kept_goes_back}
+use Rattle.domain_memory.proofs.GoneKept.{keeps_gone}
 use Rattle.domain_memory.proofs.memory.DomainMemory.keep.Goals as goal
 
 pub mark_changes-requires-clause-there : goal.mark_changes-requires-clause-there
@@ -26,3 +28,7 @@ returns-clause-settled c =
 
 pub returns-clause-back : goal.returns-clause-back
 returns-clause-back c = kept_goes_back c.args.self.now _ c.requires.staged c.requires.back refl refl c.keep_slots.ensures
+
+pub returns-clause-gone : goal.returns-clause-gone
+returns-clause-gone c =
+    keeps_gone c.args.self.now _ (pages_of c.mark_changes.new.pages) c.requires.staged c.mark_changes.ensures.change c.keep.ensures.pages c.keep_slots.ensures refl c.keep-3.ensures.same.cells
