@@ -32,6 +32,8 @@ mod WithIndex
 mod TagAsks
 mod OutOfUse
 mod TagTaken
+mod TagGone
+mod Emptied
 mod TagsBack
 mod SlotFree
 mod SlotFreed

@@ -149,3 +149,10 @@ module _ (number : ℕ) (tag : Tag) (group : ℕ) (d : DomainNow) (at : StandsAt
       by_chain c = goes_first c.first c.rest c.is
           (subst (λ (a : CellAt). TakesOut group number (d.tags number) tag a d.space space d.pages pages) (sym c.at) out) follow listed
           (subst (λ (a : CellAt). Adds a None d.list.entries listed.entries) (sym c.at) adds) same_pages
+
+  -- and what the other tags name is named still
+  pub files_out : (start : CellAt) → TakesOut group number (d.tags number) tag start d.space space d.pages pages → AreFiles number (d.tags number) pages (without_chain tag at.chains)
+  files_out start out = by_chain (removed_chain number tag d at out.said start (out.removes at.chains are))
+    where
+      by_chain : IsChain at.chains tag start → AreFiles number (d.tags number) pages (without_chain tag at.chains)
+      by_chain c = (away c.first c.rest c.is (subst (λ (a : CellAt). TakesOut group number (d.tags number) tag a d.space space d.pages pages) (sym c.at) out)).files

@@ -1,5 +1,5 @@
 -- Quota cells that a slot of memory names begin there, and what their going leaves.
-use Rattle.std.proofs.Common.{◌≡◌, ◌∙◌, ℕ, Bool, true, false, not, List, [], Option, Some, None, Result, Ok, Err, OnErr, Contains, true≢false, IfSome, IsSomeAnd, length, slice_get, refl, sym, ap, subst}
+use Rattle.std.proofs.Common.{◌≡◌, ◌∙◌, ℕ, Bool, true, false, not, List, [], Option, Some, None, Result, Ok, Err, OnErr, OnOk, Contains, true≢false, IfSome, IsSomeAnd, length, slice_get, refl, sym, ap, subst}
 use Rattle.std.proofs.Math.Logic.{∥∥₁_map}
 use Rattle.std.specs.Option.{option_and_then}
 use Rattle.domain_base.specs.declared.place.CellAt.{CellAt}
@@ -105,3 +105,8 @@ module _ (memory : DomainMemory) (listed : memory.listed.items ≡ []) where
 pub on_err : {X E A B : Type 0} (r : Result X E) → (A → B) → OnErr r A → OnErr r B
 on_err (Ok x) f a = tt
 on_err (Err e) f a = f a
+
+-- what is so at Ok whatever files they are, is so of all files at Ok
+pub on_ok_for : {X E : Type 0} (P Q : Files → Type 0) (r : Result X E) → ((files : Files) → P files → OnOk r (Q files)) → OnOk r ((files : Files) → P files → Q files)
+on_ok_for P Q (Ok x) each = each
+on_ok_for P Q (Err e) each = tt

@@ -1,15 +1,15 @@
 -- What is being removed from slots of a domain's memory: tags of it that are taken out of use, and
 -- slots that come free.
-use Rattle.std.specs.Prelude.{◌≡◌, ◌≤◌, ◌⊎◌, ℕ, true, false, List, [], Option, None, Some, Contains, IsSomeAnd, slice_get}
+use Rattle.std.specs.Prelude.{◌≡◌, ◌≤◌, ◌⊎◌, ◌||◌, ℕ, true, false, List, [], Option, None, Some, Contains, IsSomeAnd, slice_get}
 use Rattle.std.specs.Option.{option_and_then, option_map_or}
 use Rattle.domain_base.specs.declared.place.CellAt.{CellAt}
 use Rattle.domain_base.specs.declared.place.Home.{Home}
 use Rattle.domain_base.specs.declared.place.Tag.{Tag}
 use Rattle.page_store.specs.Pages.{Pages}
-use Rattle.bmt_mcells.specs.Chain.{PlacedCell}
+use Rattle.bmt_mcells.specs.Chain.{PlacedCell, is_at, places}
 use Rattle.tag_dirs.specs.declared.dir.TagPlace.{TagPlace}
 use Rattle.tag_dirs.specs.Directory.{cell_of, has_home}
-use Rattle.free_cells.specs.Cells.{Cells}
+use Rattle.free_cells.specs.Cells.{Cells, is_free}
 use Rattle.free_space.specs.Spaces.{Spaces, kept_spaces}
 use Rattle.bitfile_core.specs.Changes.{ChangesBeside, IsLive, KeepsSequences, Removes, is_page_of_first, without_chain}
 use Rattle.bitfile_core.specs.Files.{AreFiles, Chains, HasFiles}
@@ -21,6 +21,7 @@ use Rattle.staged_pages.specs.Store.{before_of}
 use Rattle.fileset_table.specs.Page.{IsTablePage}
 use Rattle.fileset_table.specs.Table.{with_slot}
 use Rattle.fileset_table.specs.declared.slot.SlotItem.TheVariants as slot
+use Rattle.deferred_delete.specs.Standing.{Files}
 use Rattle.deferred_laws.specs.Links.{homes_of}
 use Rattle.release_laws.specs.Chains.{IsRemoved}
 use Rattle.release_laws.specs.Domain.{DomainNow, item_in}
@@ -28,7 +29,8 @@ use Rattle.set_standing.specs.Sets.{without_index}
 use Rattle.domain_parts.specs.declared.slots.SlotFiles.{SlotFiles}
 use Rattle.domain_memory.specs.Staged.{MayBeKept}
 use Rattle.domain_memory.specs.declared.memory.DomainMemory.{DomainMemory}
-use Rattle.domain_memory.specs.Going.{HasNoQuota, IsUsedIn}
+use Rattle.domain_memory.specs.Going.{HasNoQuota, HasQuotaCells, IsUsedIn}
+use Rattle.domain_stages.specs.QuotaCells.{BeginsQuotas}
 use Rattle.fileset_model.specs.Filesets.{FilesetMap}
 
 -- the pages of the index that the first cell of a chain names, if it names one: each is used and
@@ -125,3 +127,32 @@ pub record FreesSlot (group number : ℕ) (d now : DomainNow) : Type 0 where
 pub record IsUsedOrBare (memory : DomainMemory) (number : ℕ) : Type 0 where
   pub removed : IsRemoved (slice_get memory.table.slots number)
   pub some : ((tag : Tag) × IsUsedIn memory number tag) ⊎ HasNoQuota memory number
+
+-- ** What is less of a removal
+
+-- of the tags of a slot fewer are used: one is no more, and each that is was
+pub record UsesFewer (number : ℕ) (old new : DomainMemory) : Type 0 where
+  pub tag : Tag
+  pub was : IsUsedIn old number tag
+  pub gone : ¬ IsUsedIn new number tag
+  pub others : (t : Tag) → IsUsedIn new number t → IsUsedIn old number t
+
+-- one of these cells is free, and beside it those are that were
+abbrev pub FreesOneOf : List PlacedCell → Cells → Cells → Type 0
+FreesOneOf chain old new = (gone : CellAt) × Contains (places chain) gone
+    × ((at : CellAt) → is_free new at ≡ (is_at gone at || is_free old at))
+
+-- one is of the quota cells that a slot names, which are not on the list
+abbrev pub FreesQuotaCell : ℕ → DomainMemory → DomainMemory → Type 0
+FreesQuotaCell number old new = (at : CellAt) × HasQuotaCells old number at × ((files : Files)
+    → BeginsQuotas old at files
+    → IsSomeAnd (files at) (λ chain. FreesOneOf chain old.cells new.cells))
+
+abbrev pub IsFreeSlot : ℕ → DomainMemory → Type 0
+IsFreeSlot number memory = slice_get memory.table.slots number ≡ Some slot.Free
+
+-- of what is being removed from a slot less is left: fewer of its tags are used, or a quota cell of
+-- it is free, or the slot is
+abbrev pub Empties : ℕ → DomainMemory → DomainMemory → Type 0
+Empties number old new =
+    UsesFewer number old new ⊎ FreesQuotaCell number old new ⊎ IsFreeSlot number new

@@ -1,6 +1,6 @@
 -- Quota cells of what is being removed from slots of a domain's memory, which go one after the
 -- other.
-use Rattle.std.specs.Prelude.{◌≡◌, ◌++◌, ◌∷◌, ℕ, [], None, Some}
+use Rattle.std.specs.Prelude.{◌≡◌, ◌⊎◌, ◌++◌, ◌∷◌, ℕ, [], None, Some}
 use Rattle.domain_base.specs.declared.place.CellAt.{CellAt}
 use Rattle.bmt_mcells.specs.Cell.{Cell}
 use Rattle.bmt_mcells.specs.Chain.{StandsAt}
@@ -40,3 +40,9 @@ LosesSecond number at files old new = HasQuotaCells old number at → (files_now
 abbrev pub LosesLast : ℕ → CellAt → Files → DomainMemory → DomainMemory → Type 0
 LosesLast number at files old new = HasQuotaCells old number at → (files_now : Files)
     × EndsQuotaOf number (staged_in old) (staged_in new) files files_now
+
+-- one goes of those that a slot names: the second or, where there is no second one, the last
+abbrev pub LosesOne : ℕ → DomainMemory → DomainMemory → Type 0
+LosesOne number old new = (at : CellAt) × HasQuotaCells old number at × ((files : Files)
+    → BeginsQuotas old at files
+    → LosesSecond number at files old new ⊎ LosesLast number at files old new)

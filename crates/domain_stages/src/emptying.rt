@@ -1,6 +1,6 @@
 //! What is being removed from slots: tags of it that are taken out of use, and slots that come
 //! free.
-ghost use Rattle.std.specs.Prelude.{◌≡◌, ◌<◌, ◌≤◌, ℕ, false, None, Contains, IfNone, IfOk, IfSome, IsSome, IsSomeAnd, MatchBool, OnErr, OnOk, length, slice_get, slice_set, []};
+ghost use Rattle.std.specs.Prelude.{◌≡◌, ◌<◌, ◌≤◌, ◌⊎◌, ℕ, true, false, None, Contains, IfNone, IfOk, IfSome, IsSome, IsSomeAnd, MatchBool, OnErr, OnOk, length, slice_get, slice_set, []};
 ghost use Rattle.domain_base.specs.declared.place.Home.{Home as HomeOf};
 ghost use Rattle.domain_base.specs.declared.place.Tag.{Tag as TagOf};
 ghost use Rattle.bitfile_core.specs.Changes.{IsLive};
@@ -18,8 +18,9 @@ ghost use Rattle.domain_memory.specs.Kept.{KeepsKept};
 ghost use Rattle.domain_memory.specs.Memory.{StandsFor};
 ghost use Rattle.domain_memory.specs.Staged.{IsSettled, MayBeKept, MayGoBack};
 ghost use Rattle.domain_memory.specs.Going.{HasNoQuota, IsUsedIn, MayEmpty, NoneToEmpty};
-ghost use Rattle.domain_stages.specs.Emptying.{HasIndexApart, IsUsedOrBare, MayBeKeptForAny, MayTakeOut, TakesOfFiles, TakesOut};
+ghost use Rattle.domain_stages.specs.Emptying.{Empties, HasIndexApart, IsFreeSlot, IsUsedOrBare, MayBeKeptForAny, MayTakeOut, TakesOfFiles, TakesOut, UsesFewer};
 ghost use Rattle.domain_stages.specs.LettingGo.{StandsForAny};
+ghost use Rattle.domain_stages.specs.QuotaCells.{LosesOne};
 
 use crate::quotas::{lose_or_take_back, names_quota_cells};
 use crate::table::put_in_table;
@@ -123,10 +124,10 @@ fn take_of_slot(
     }
 }
 
-/// Takes a tag that is used out of use, of what is being removed from a slot: what it names goes as
-/// a whole and comes on the list, on which there is room for it then. The filesets stay what they
-/// are. There may only be no memory. After an Err the change may be half made: it is to be taken
-/// back.
+/// Takes a tag that is used out of use, of what is being removed from a slot, and no other: what it
+/// names goes as a whole and comes on the list, on which there is room for it then. The filesets
+/// stay what they are. There may only be no memory. After an Err the change may be half made: it is
+/// to be taken back.
 fn take_tag_out(
     memory: &mut DomainMemory,
     alloc: Global,
@@ -140,6 +141,7 @@ fn take_tag_out(
     requires used { IsUsedIn memory.old number tag }
     ensures ok { (all : FilesetMap) → MayBeKept memory.old all
         → OnOk result (MayBeKept memory.new all) }
+    ensures fewer { OnOk result (UsesFewer number memory.old memory.new) }
     ensures held { held_open memory.new.space ≤ held_open memory.old.space }
     ensures kept { KeepsKept memory.old memory.new }
     ensures back { ∥ MayGoBack memory.new ∥₁ }
@@ -194,6 +196,8 @@ fn take_tags_out(
         → OnOk result (MayBeKept memory.new all) }
     ensures none { IfOk result (λ count. count ≡ 0 → (tag : TagOf)
         → ¬ IsUsedIn memory.old number tag) }
+    ensures fewer { IfOk result (λ count. ¬ count ≡ 0
+        → UsesFewer number memory.old memory.new) }
     ensures same { IfOk result (λ count. count ≡ 0 → memory.new ≡ memory.old) }
     ensures held { held_open memory.new.space ≤ held_open memory.old.space }
     ensures kept { KeepsKept memory.old memory.new }
@@ -257,6 +261,7 @@ fn free_slot(
     requires quota { HasNoQuota memory.old number }
     ensures ok { (all : FilesetMap) → StandsFor memory.old all
         → OnOk result (MayBeKept memory.new all) }
+    ensures free { OnOk result (IsFreeSlot number memory.new) }
     ensures err { OnErr result (memory.new ≡ memory.old) }
     ensures held { held_open memory.new.space ≤ held_open memory.old.space }
     ensures back { ∥ MayGoBack memory.new ∥₁ }
@@ -290,6 +295,8 @@ fn end_slot(
     requires unused { (tag : TagOf) → ¬ IsUsedIn memory.old number tag }
     ensures ok { (all : FilesetMap) → StandsFor memory.old all
         → OnOk result (MayBeKept memory.new all) }
+    ensures goes { OnOk result (LosesOne number memory.old memory.new
+        ⊎ IsFreeSlot number memory.new) }
     ensures stands { (all : FilesetMap) → StandsFor memory.old all
         → OnErr result (StandsFor memory.new all) }
     ensures settled { OnErr result (IsSettled memory.new) }
@@ -317,6 +324,7 @@ fn empty_slot(
     requires back { ∥ MayGoBack memory.old ∥₁ }
     requires may { MayEmpty memory.old number }
     ensures stands { (all : FilesetMap) → StandsFor memory.old all → StandsFor memory.new all }
+    ensures goes { OnOk result (Empties number memory.old memory.new) }
     ensures held { held_open memory.new.space ≤ held_open memory.old.space }
     ensures settled { IsSettled memory.new }
     ensures back { ∥ MayGoBack memory.new ∥₁ }
@@ -393,8 +401,8 @@ pub fn may_empty(memory: &DomainMemory) -> bool
 /// Makes one change of what is being removed from the first slot that may be emptied, and keeps it:
 /// takes tags of it out of use, fourteen at most, of which the files come on the list, lets go of a
 /// quota cell, or frees the slot. The domain stands for the same filesets, and no page more is
-/// held. It answers whether there was one; if not, nothing changes. There may only be no memory,
-/// and then too the domain stands for them.
+/// held. It answers whether there was one, of which less is left then; if not, nothing changes.
+/// There may only be no memory, and then too the domain stands for them.
 pub fn empty_some(memory: &mut DomainMemory, alloc: Global, group: u64) -> Result<bool, OutOfMemory>
     requires settled { IsSettled memory.old }
     requires stands { ∥ StandsForAny memory.old ∥₁ }
@@ -403,6 +411,8 @@ pub fn empty_some(memory: &mut DomainMemory, alloc: Global, group: u64) -> Resul
     ensures held { held_open memory.new.space ≤ held_open memory.old.space }
     ensures some { IfOk result (λ did. MatchBool did ((number : ℕ) × MayEmpty memory.old number)
         (NoneToEmpty memory.old)) }
+    ensures goes { IfOk result (λ did. did ≡ true
+        → (number : ℕ) × MayEmpty memory.old number × Empties number memory.old memory.new) }
     ensures same { IfOk result (λ did. did ≡ false → memory.new ≡ memory.old) }
     ensures settled { IsSettled memory.new }
     ensures back { ∥ MayGoBack memory.new ∥₁ }

@@ -14,7 +14,7 @@ ghost use Rattle.domain_memory.specs.Held.{held_open};
 ghost use Rattle.domain_memory.specs.Staged.{IsSettled, MayBeKept, MayGoBack};
 ghost use Rattle.domain_stages.specs.Emptying.{MayBeKeptForAny};
 ghost use Rattle.domain_memory.specs.Going.{HasQuotaCells};
-ghost use Rattle.domain_stages.specs.QuotaCells.{BeginsQuotas, LeadsNowhere, LeadsOn, LosesLast, LosesSecond};
+ghost use Rattle.domain_stages.specs.QuotaCells.{BeginsQuotas, LeadsNowhere, LeadsOn, LosesLast, LosesOne, LosesSecond};
 
 use crate::table::put_in_table;
 use bitfile_cells::next_cell;
@@ -98,6 +98,7 @@ pub(crate) fn lose_quota_cell(
     requires quota { (at : CellAtOf) × HasQuotaCells memory.old number at }
     ensures ok { (all : FilesetMap) → MayBeKept memory.old all
         → OnOk result (MayBeKept memory.new all) }
+    ensures goes { OnOk result (LosesOne number memory.old memory.new) }
     ensures held { held_open memory.new.space ≤ held_open memory.old.space }
     ensures kept { KeepsKept memory.old memory.new }
     ensures back { ∥ MayGoBack memory.new ∥₁ }
@@ -161,6 +162,7 @@ pub(crate) fn lose_or_take_back(
     requires quota { (at : CellAtOf) × HasQuotaCells memory.old number at }
     ensures ok { (all : FilesetMap) → StandsFor memory.old all
         → OnOk result (MayBeKept memory.new all) }
+    ensures goes { OnOk result (LosesOne number memory.old memory.new) }
     ensures stands { (all : FilesetMap) → StandsFor memory.old all
         → OnErr result (StandsFor memory.new all) }
     ensures settled { OnErr result (IsSettled memory.new) }

@@ -8,6 +8,7 @@ use Rattle.domain_memory.specs.Staged.{IsStagedForSome, MayBeKept}
 use Rattle.domain_memory.specs.declared.memory.DomainMemory.{DomainMemory}
 use Rattle.domain_memory.specs.Going.{MayEmpty}
 use Rattle.domain_stages.specs.LettingGo.{StandsForAny}
+use Rattle.domain_stages.proofs.Emptied.{end_empties, tags_empty}
 use Rattle.domain_stages.proofs.HeldStill.{back_held, kept_held}
 use Rattle.domain_stages.proofs.emptying.empty_slot.Goals as goal
 use Rattle.domain_stages.proofs.emptying.empty_slot.Goals.{then-count-eq0+in_ok-end_slot, else-count-eq0}
@@ -67,3 +68,13 @@ returns-clause-held c =
       | then-count-eq0+in_ok-end_slot w ↦ subst (λ (m : DomainMemory). held_open m.space ≤ most) (sym w.memory-is) (omega (arith, c.in-Ok.ensures.held, w.in_ok-end_slot.ensures.held))
       | else-count-eq0 w ↦ subst (λ (m : DomainMemory). held_open m.space ≤ most) (sym w.memory-is) c.in-Ok.ensures.held
     ])
+
+pub returns-clause-goes : goal.returns-clause-goes
+returns-clause-goes c = elim c.if-count-eq0.branch [
+  | then-count-eq0+in_ok-end_slot w ↦
+      let zero : c.in-Ok.count ≡ 0 = omega (arith, w.if-count-eq0.true) in
+      end_empties c.args.number c.args.memory.now c.take_tags_out.new.memory _ c.if-count-eq0.memory c.keep.new.self (c.in-Ok.ensures.same zero) w.memory-is w.in_ok-end_slot.ensures.goes c.keep.ensures.gone
+  | else-count-eq0 w ↦
+      tags_empty c.args.number c.args.memory.now _ c.if-count-eq0.memory c.keep.new.self w.memory-is
+      (c.in-Ok.ensures.fewer (λ zero. omega (arith, zero, w.if-count-eq0.false))) c.keep.ensures.gone
+]

@@ -1,8 +1,9 @@
-use Rattle.std.proofs.Common.{subst, sym}
+use Rattle.std.proofs.Common.{inl, inr, subst, sym}
 use Rattle.domain_memory.specs.Memory.{StandsFor}
 use Rattle.domain_memory.specs.Staged.{IsSettled}
 use Rattle.domain_memory.specs.declared.memory.DomainMemory.{DomainMemory}
 use Rattle.domain_stages.proofs.QuotaBegins.{on_err}
+use Rattle.domain_stages.proofs.SlotPut.{on_ok}
 use Rattle.domain_stages.proofs.ToEmpty.{bare_left}
 use Rattle.domain_stages.proofs.emptying.end_slot.Goals as goal
 
@@ -14,3 +15,9 @@ returns-clause-stands c = λ all stood. on_err c.free_slot.result (λ same. subs
 
 pub returns-clause-settled : goal.returns-clause-settled
 returns-clause-settled c = on_err c.free_slot.result (λ same. subst IsSettled (sym same) c.requires.settled) c.free_slot.ensures.err
+
+pub returns-clause-goes : goal.returns-clause-goes
+returns-clause-goes c = on_ok c.free_slot.result (λ free. inr free) c.free_slot.ensures.free
+
+pub returns-then-names_quota_cells-clause-goes : goal.returns-then-names_quota_cells-clause-goes
+returns-then-names_quota_cells-clause-goes c = on_ok c.lose_or_take_back.result (λ loses. inl loses) c.lose_or_take_back.ensures.goes

@@ -12,6 +12,7 @@ use Rattle.domain_parts.specs.Slots.{places_in, slot_in}
 use Rattle.domain_memory.specs.Held.{held_open}
 use Rattle.domain_memory.proofs.SettledKept.{settled_kept}
 use Rattle.domain_memory.specs.declared.memory.DomainMemory.{DomainMemory}
+use Rattle.domain_stages.proofs.Emptied.{free_there}
 use Rattle.domain_stages.proofs.FreedMemory.{back_freed, drops_its, drops_none, freed_so, its_places}
 use Rattle.domain_stages.proofs.HeldOver.{waiting_less}
 use Rattle.domain_stages.proofs.LeftOver.{asks_held, asks_low, asks_once, left_over, must_be, slot_within}
@@ -109,3 +110,9 @@ pub returns-in_default-take_slot-clause-held : goal.returns-in_default-take_slot
 returns-in_default-take_slot-clause-held c =
     let same = ap (λ (m : DomainMemory). held_open m.space) c.in_ok-put_in_table.ensures.ok.same in
     omega (arith, same)
+
+pub returns-in-Some-clause-free : goal.returns-in-Some-clause-free
+returns-in-Some-clause-free c = free_there c.args.number c.args.memory.now c.put_in_table.new.memory c.in_ok-put_in_table.ensures.ok
+
+pub returns-in_default-take_slot-clause-free : goal.returns-in_default-take_slot-clause-free
+returns-in_default-take_slot-clause-free c = free_there c.args.number c.args.memory.now c.put_in_table.new.memory c.in_ok-put_in_table.ensures.ok

@@ -3,11 +3,14 @@ use Rattle.std.proofs.Math.Logic.{∥∥₁_map}
 use Rattle.std.specs.Vec.{with_item}
 use Rattle.staged_pages.specs.Store.{pages_of}
 use Rattle.domain_parts.specs.Slots.{slot_in}
+use Rattle.domain_memory.specs.Staged.{IsStagedForSome}
 use Rattle.domain_memory.specs.declared.memory.DomainMemory.{DomainMemory}
 use Rattle.domain_stages.specs.Emptying.{MayTakeOut, TakesTag}
+use Rattle.domain_stages.proofs.Emptied.{any_ok}
 use Rattle.domain_stages.proofs.LeftOver.{slot_within}
 use Rattle.domain_stages.proofs.SlotPut.{on_ok}
 use Rattle.domain_stages.proofs.TagAsks.{asks}
+use Rattle.domain_stages.proofs.TagGone.{uses_fewer}
 use Rattle.domain_stages.proofs.TagTaken.{back_taken, got_slot, kept_so, out_of, put_same}
 use Rattle.domain_stages.proofs.emptying.take_tag_out.Goals as goal
 
@@ -71,3 +74,14 @@ returns-clause-ok c = λ all may.
     on_ok c.reserve.result (λ (room : c.len.result ≤ c.reserve.new.self.room).
     let few : length now.listed.items ≤ now.list.room = omega (arith, room, c.len.ensures, now.listed.ok) in
     kept_so c.args.number memory now takes c.args.tag c.in_ok-at.at c.args.group c.requires.removed c.requires.used out c.in_ok-push.ensures.items few all may) c.reserve.ensures.ok
+
+pub returns-clause-fewer : goal.returns-clause-fewer
+returns-clause-fewer c =
+    let memory = c.args.memory.now in
+    let low : c.args.number < 32 = search rules in
+    let within = slot_within memory c.args.number low c.requires.back in
+    let here = c.index_mut.ensures.value ∙ got_slot memory.slots.items c.number.result _ (subst (λ n. n < length memory.slots.items) (sym c.number.ensures.value) within) ∙ ap (slot_in memory.slots.items) c.number.ensures.value in
+    let staged : ∥ IsStagedForSome memory ∥₁ = ∥∥₁_map c.requires.ready (λ r. (r.0, r.1.staged)) in
+    let out = out_of memory c.args.number c.args.tag staged c.requires.back c.requires.used c.args.group c.in_ok-at.at c.take_of_slot.new.space (pages_of c.take_of_slot.new.pages) c.index_mut.result.now here c.in_ok-at.ensures.takes in
+    let now : DomainMemory = record memory { pages = c.take_of_slot.new.pages; space = c.take_of_slot.new.space; slots = with_item memory.slots c.number.result c.take_of_slot.new.slot; list = c.reserve.new.self; listed = c.push.new.self } in
+    any_ok c.reserve.result (uses_fewer memory now c.args.number c.args.tag c.requires.used c.args.group c.in_ok-at.at out (put_same memory.slots.items c.number.result c.take_of_slot.new.slot c.index_mut.result.now _ c.index_mut.ensures.value c.take_of_slot.ensures.same) staged)

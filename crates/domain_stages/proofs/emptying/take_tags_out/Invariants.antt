@@ -3,12 +3,14 @@ use Rattle.fileset_model.specs.Filesets.{FilesetMap}
 use Rattle.domain_memory.specs.Held.{held_open}
 use Rattle.domain_memory.specs.Kept.{KeepsKept}
 use Rattle.domain_memory.specs.Staged.{MayBeKept, MayGoBack}
+use Rattle.domain_stages.specs.Emptying.{UsesFewer}
 use Rattle.domain_stages.proofs.emptying.take_tags_out.Given as goal
 
 abbrev pub invariant-loop-count : goal.invariant-loop-count
 invariant-loop-count l = record {
   ok : (all : FilesetMap) → MayBeKept l.initial.memory all → MayBeKept l.memory all;
   same : l.count ≡ 0 → l.memory ≡ l.initial.memory;
+  fewer : ¬ l.count ≡ 0 → UsesFewer l.fn.number l.initial.memory l.memory;
   held : held_open l.memory.space ≤ held_open l.initial.memory.space;
   kept : KeepsKept l.initial.memory l.memory;
   back : ∥ MayGoBack l.memory ∥₁;

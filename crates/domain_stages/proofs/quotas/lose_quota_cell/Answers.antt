@@ -1,9 +1,10 @@
-use Rattle.std.proofs.Common.{None, ap, refl}
+use Rattle.std.proofs.Common.{None, ap, inl, inr, refl}
 use Rattle.std.proofs.Math.Logic.{∥∥₁_map}
 use Rattle.fileset_table.proofs.Leaving.{leaves}
 use Rattle.fileset_table.specs.declared.slot.SlotItem.TheVariants as slot
 use Rattle.domain_memory.specs.declared.memory.DomainMemory.{DomainMemory}
-use Rattle.domain_stages.proofs.QuotaBegins.{asks_quotas, back_lost, begins_so, has_those, last_kept, second_kept}
+use Rattle.domain_stages.proofs.QuotaBegins.{asks_quotas, back_lost, begins_so, has_those, last_kept, on_ok_for, second_kept}
+use Rattle.domain_stages.specs.QuotaCells.{BeginsQuotas, LosesLast, LosesSecond}
 use Rattle.domain_stages.proofs.SlotPut.{asks_no_clone, asks_page, on_ok}
 use Rattle.domain_stages.proofs.quotas.lose_quota_cell.Goals as goal
 
@@ -50,3 +51,19 @@ returns-in-None-clause-ok c = λ all ready.
 pub returns-in-None-clause-back : goal.returns-in-None-clause-back
 returns-in-None-clause-back c =
     back_lost c.args.memory.now c.lose_last.new.memory (ap (λ (m : DomainMemory). m.slots) c.lose_last.ensures.same) c.lose_last.ensures.kept c.requires.back
+
+pub returns-in-Some-next_cell-clause-goes : goal.returns-in-Some-next_cell-clause-goes
+returns-in-Some-next_cell-clause-goes c =
+    let memory = c.args.memory.now in
+    let q = c.requires.quota in
+    let cells = has_those memory c.args.number q.0 q.1 c.slot.result.now c.in-Removed.first_tag c.in-Removed.quota c.in-Some.at c.slot.ensures.value c.in-Removed.is c.in-Some.is in
+    on_ok c.lose_second.result (λ loses. (c.in-Some.at, cells, λ files begins. inl (loses files begins)))
+    (on_ok_for (BeginsQuotas memory c.in-Some.at) (λ files. LosesSecond c.args.number c.in-Some.at files memory c.lose_second.new.memory) c.lose_second.result (c.lose_second.ensures.ok c.args.number))
+
+pub returns-in-None-clause-goes : goal.returns-in-None-clause-goes
+returns-in-None-clause-goes c =
+    let memory = c.args.memory.now in
+    let q = c.requires.quota in
+    let cells = has_those memory c.args.number q.0 q.1 c.slot.result.now c.in-Removed.first_tag c.in-Removed.quota c.in-Some.at c.slot.ensures.value c.in-Removed.is c.in-Some.is in
+    on_ok c.lose_last.result (λ loses. (c.in-Some.at, cells, λ files begins. inr (loses files begins)))
+    (on_ok_for (BeginsQuotas memory c.in-Some.at) (λ files. LosesLast c.args.number c.in-Some.at files memory c.lose_last.new.memory) c.lose_last.result (c.lose_last.ensures.ok))
