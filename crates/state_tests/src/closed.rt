@@ -75,7 +75,8 @@ fn names_kept<R: Rack + Drop, O: Opening>(
     names_of(alloc, &memory.table)
 }
 
-/// A domain that is made on a rack of one volume, has these commands, is closed, and attached again.
+/// A domain that is made on a rack of one volume, has these commands, is closed, and is attached
+/// again.
 fn again(alloc: Global, version: Version, rows: &[Row]) -> Result<Attached<MemoryRack>, Fail> {
     let rack = MemoryRack::new(alloc, &[256], &[], false)?;
     if rack.volumes() != 1 {
@@ -135,19 +136,23 @@ fn wrong_rows(alloc: Global, version: Version) -> Result<String, Fail> {
     Ok(wrong)
 }
 
-/// What is done before a domain is closed.
-static BEFORE: [Row; 6] = [
+/// What is done before a domain is closed: a directory is made with a file, which gets a second
+/// path and the first two pages of its bytes, and limits are set.
+static BEFORE: [Row; 7] = [
     ("mkfset home", "ok"),
     ("mkdir home:/d 10 20", "ok"),
     ("create home:/d/a 10 20", "ok"),
     ("link home:/d/a /b", "ok"),
+    ("write home:/d/a 8190 61.62.63.64", "ok 4"),
     ("setquota home user 10 2 0", "ok"),
     ("setquota home group 21 1 0", "ok"),
 ];
 
 /// What it is answered once it is attached again.
-static AFTER: [Row; 10] = [
+static AFTER: [Row; 12] = [
     ("mkfset home", "E2 fileset-exists"),
+    ("read home:/b 8190 4", "ok 61.62.63.64"),
+    ("stat home:/d/a", "ok file 10 20 8194 2 -"),
     ("create home:/d/a 1 2", "E4 exists"),
     ("mkdir home:/b 1 2", "E4 exists"),
     ("create home:/b/c 1 2", "E5 not-directory"),

@@ -1,5 +1,5 @@
 //! Filesets that are made, bounded and removed in a domain that was just made.
-ghost use Rattle.std.specs.Prelude.{◌≡◌, ◌≤◌, true};
+ghost use Rattle.std.specs.Prelude.{◌≡◌};
 ghost use Rattle.page_ways.specs.Frame.{frame_in};
 ghost use Rattle.staged_pages.specs.Store.{before_of};
 ghost use Rattle.domain_memory.specs.Staged.{IsSettled};

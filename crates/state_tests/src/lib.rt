@@ -11,3 +11,5 @@ mod filesets;
 mod opened;
 #[cfg(test)]
 mod telling;
+#[cfg(test)]
+mod wide;

@@ -4,10 +4,12 @@ ghost use Rattle.page_ways.specs.Frame.{frame_in};
 ghost use Rattle.staged_pages.specs.Store.{before_of};
 ghost use Rattle.state_tests.specs.Sync.{sync_entry};
 
-use domain_base::{OutOfMemory, Version};
+use crate::telling::all_told;
+use domain_base::{Home, OutOfMemory, Page, Version, VolIx};
 use domain_making::MakeFault;
 use domain_state::{Attached, Domain, Opening, make};
 use fileset_model::{Actor, Command, Entry, Reply, Told};
+use fileset_table::FilesetTable;
 use log_recovery::recover;
 use memory_disk::MemoryRack;
 use std::alloc::Global;
@@ -145,5 +147,86 @@ fn a_small_volume_is_refused(rt: HostRuntime) -> Result<(), Fail> {
     let alloc = rt.alloc();
     let seen = made_and_opened(alloc, 159, Version::Four)?;
     assert_eq!(rt; seen, Outcome::Small { pages: 159 });
+    Ok(())
+}
+
+/// What a domain tells of itself, asked by calls that change nothing.
+#[derive(Debug, PartialEq, Eq, Drop)]
+struct Looks {
+    /// Whether its history has room for so many entries more.
+    has_room: bool,
+    job_runs: bool,
+    has_panicked: bool,
+    /// Whether its table names the fileset home; None where no page of a table is kept.
+    has_home: Option<bool>,
+    /// Whether the last page of its volume is kept in memory.
+    keeps_last: bool,
+}
+
+/// Whether the page of a table names the fileset home.
+fn names_home(alloc: Global, page: Option<&Page>) -> Option<bool> {
+    let table = FilesetTable::read(alloc, page?).ok()?;
+    Some(table.find(b"home").is_some())
+}
+
+/// What a domain on a volume of 160 pages tells of itself, and of room for so many entries.
+fn looks_of<R: Rack, O: Opening>(
+    alloc: Global,
+    domain: &Domain<R, O>,
+    vol: VolIx,
+    room: usize,
+) -> Looks {
+    Looks {
+        has_room: domain.spare() >= room,
+        job_runs: domain.job_runs(),
+        has_panicked: domain.panicked().is_some(),
+        has_home: names_home(alloc, domain.read_page(Home { vol, page: 132 })),
+        keeps_last: domain.read_page(Home { vol, page: 159 }).is_some(),
+    }
+}
+
+/// Begins the history of a domain, and looks at it before and behind a fileset that is made in it.
+fn looked_at<R: Rack + Drop, O: Opening>(
+    alloc: Global,
+    attached: Attached<R>,
+    vol: VolIx,
+) -> Result<[Looks; 2], OutOfMemory>
+    requires pages { O.pages ≡ before_of attached.memory.pages }
+    requires frame { O.frame ≡ frame_in attached.memory.frame }
+    requires sizes { O.sizes ≡ (R.disk attached.rack).sizes }
+{
+    let mut domain: Domain<R, O> = Domain::begin(alloc, attached);
+    domain.reserve_history(3)?;
+    domain.discard();
+    let first = looks_of(alloc, &domain, vol, 3);
+    let domain = all_told(domain, alloc, &[("mkfset home", "ok")]);
+    let second = looks_of(alloc, &domain, vol, 2);
+    Ok([first, second])
+}
+
+/// What a domain tells of itself that is made on a volume of 160 pages.
+fn made_and_looked_at(alloc: Global) -> Result<[Looks; 2], Fail> {
+    let vol = VolIx::new(1).ok_or("a volume")?;
+    let rack = MemoryRack::new(alloc, &[160], &[], false)?;
+    if rack.volumes() != 1 {
+        return Err(Fail::from("one volume"));
+    }
+    match make(alloc, rack, Version::Four) {
+        Ok(made) => Ok(looked_at::<MemoryRack, Brand>(alloc, made, vol)?),
+        Err((_rack, fault)) => Err(Fail::from(fault)),
+    }
+}
+
+#[test]
+fn a_domain_tells_of_its_room_and_of_pages_that_are_kept(rt: HostRuntime) -> Result<(), Fail> {
+    let looks = made_and_looked_at(rt.alloc())?;
+    let told = |has_home| Looks {
+        has_room: true,
+        job_runs: false,
+        has_panicked: false,
+        has_home: Some(has_home),
+        keeps_last: false,
+    };
+    assert_eq!(rt; looks, [told(false), told(true)]);
     Ok(())
 }

@@ -1,5 +1,5 @@
 //! Lines of scripts that are answered in a domain, and the lines that these have in its history.
-ghost use Rattle.std.specs.Prelude.{◌≡◌, ◌≤◌, true};
+ghost use Rattle.std.specs.Prelude.{◌≡◌};
 ghost use Rattle.page_ways.specs.Frame.{frame_in};
 ghost use Rattle.staged_pages.specs.Store.{before_of};
 ghost use Rattle.domain_memory.specs.Staged.{IsSettled};
@@ -50,7 +50,8 @@ pub fn all_told<R: Rack + Drop, O: Opening>(
 ) -> Domain<R, O>
     requires rests { ⟦<Domain<R, O> as Told>⟧.rests domain }
     requires settled { IsSettled domain.memory }
-    ensures { IsSettled result.memory }
+    ensures rests { ⟦<Domain<R, O> as Told>⟧.rests result }
+    ensures settled { IsSettled result.memory }
 {
     match rows {
         [] => domain,

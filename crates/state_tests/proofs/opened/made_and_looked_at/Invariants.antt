@@ -1,0 +1,11 @@
+use Rattle.memory_disk.specs.Memory.{memory_disk}
+use Rattle.page_ways.specs.Frame.{frame_in}
+use Rattle.staged_pages.specs.Store.{before_of}
+use Rattle.state_tests.proofs.opened.made_and_looked_at.Given as goal
+
+abbrev pub ghosts-looked_at : goal.ghosts-looked_at
+ghosts-looked_at a = record {
+  pages = before_of a.attached.memory.pages;
+  frame = frame_in a.attached.memory.frame;
+  sizes = (memory_disk a.attached.rack).sizes;
+}

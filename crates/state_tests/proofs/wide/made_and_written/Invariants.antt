@@ -1,0 +1,11 @@
+use Rattle.memory_disk.specs.Memory.{memory_disk}
+use Rattle.page_ways.specs.Frame.{frame_in}
+use Rattle.staged_pages.specs.Store.{before_of}
+use Rattle.state_tests.proofs.wide.made_and_written.Given as goal
+
+abbrev pub ghosts-written : goal.ghosts-written
+ghosts-written a = record {
+  pages = before_of a.attached.memory.pages;
+  frame = frame_in a.attached.memory.frame;
+  sizes = (memory_disk a.attached.rack).sizes;
+}
