@@ -1,7 +1,8 @@
 -- Of what is being removed from a slot less is left, also once the change is kept.
-use Rattle.std.proofs.Common.{◌≡◌, ◌∙◌, ◌⊎◌, ⊎_elim, inl, inr, ℕ, zero, suc, [], ◌∷◌, Option, IsSomeAnd, List, Result, Ok, Err, OnOk, slice_get, arith, refl, sym, ap, subst}
+use Rattle.std.proofs.Common.{◌≡◌, ◌∙◌, ◌⊎◌, ⊎_elim, inl, inr, ℕ, zero, suc, Bool, true, false, [], ◌∷◌, Option, IsSomeAnd, List, Result, Ok, Err, OnOk, slice_get, arith, refl, sym, ap, subst, true≢false}
 use Rattle.std.specs.Option.{option_and_then}
 use Rattle.domain_base.specs.declared.place.CellAt.{CellAt}
+use Rattle.domain_base.specs.declared.place.Home.{Home}
 use Rattle.bmt_mcells.specs.Chain.{PlacedCell}
 use Rattle.bitfile_cells.proofs.ChainChanges.{in_first, in_later}
 use Rattle.deferred_delete.specs.Standing.{Files, IsQuotas}
@@ -12,7 +13,7 @@ use Rattle.release_laws.specs.QuotaCells.{EndsQuotaOf, LosesQuotaOf}
 use Rattle.release_laws.proofs.FilesetBegins.{get_set}
 use Rattle.domain_layout.specs.TagRules.{quota_of}
 use Rattle.staged_pages.specs.Store.{pages_of}
-use Rattle.domain_memory.specs.Going.{HasQuotaCells, KeepsGone}
+use Rattle.domain_memory.specs.Going.{HasQuotaCells, KeepsGone, MayEmpty, MayLetGo, are_plain}
 use Rattle.domain_memory.specs.Staged.{staged_in}
 use Rattle.domain_memory.specs.declared.memory.DomainMemory.{DomainMemory}
 use Rattle.domain_stages.specs.Emptying.{Empties, FreesOneOf, FreesQuotaCell, IsFreeSlot, UsesFewer}
@@ -95,3 +96,25 @@ end_empties number old start mid last new begins ends goes kept =
 
 pub tags_empty : (number : ℕ) (old mid last new : DomainMemory) → last ≡ mid → UsesFewer number old mid → KeepsGone last new → Empties number old new
 tags_empty number old mid last new ends fewer kept = tags_kept number old mid new (subst (λ (m : DomainMemory). KeepsGone m new) ends kept) fewer
+
+-- that something is emptied of memory which is the same
+pub still_empties : (old start new : DomainMemory) → start ≡ old → (number : ℕ) × MayEmpty start number × Empties number start new → (number : ℕ) × MayEmpty old number × Empties number old new
+still_empties old start new same empties = subst (λ (m : DomainMemory). (number : ℕ) × MayEmpty m number × Empties number m new) same empties
+
+-- ---- the list
+
+none_there : (homes : List Home) → ¬ ¬ homes ≡ [] → homes ≡ []
+none_there [] known = refl
+none_there (home ∷ homes) known = absurd (known (λ e. cc))
+
+is_so : (b : Bool) → ¬ b ≡ false → b ≡ true
+is_so true is = refl
+is_so false is = absurd (is refl)
+
+-- where it cannot be that nothing on it may be let go of, something may be
+pub may_known : (memory : DomainMemory) → ¬ ¬ MayLetGo memory → MayLetGo memory
+may_known memory known = record {
+  some = λ empty. known (λ may. may.some empty);
+  tag_pages = none_there memory.list.list.tag_pages (λ some. known (λ may. some may.tag_pages));
+  plain = λ entry inside cell stands. is_so (are_plain cell.records) (λ not. known (λ may. true≢false (sym (may.plain entry inside cell stands) ∙ not)));
+}

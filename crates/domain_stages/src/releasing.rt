@@ -1,13 +1,14 @@
 //! Things on a domain's list, and in its slots, that are given up and kept so, and pages that come
 //! free.
-ghost use Rattle.std.specs.Prelude.{◌≡◌, ◌≤◌, ◌↔◌, true, IfOk, OnOk, sum_by};
+ghost use Rattle.std.specs.Prelude.{◌≡◌, ◌≤◌, ◌↔◌, ◌⊎◌, ℕ, true, IfOk, OnOk, sum_by};
 ghost use Rattle.fileset_model.specs.Filesets.{FilesetMap};
 ghost use Rattle.free_space.specs.Spaces.{free_pages};
 ghost use Rattle.deferred_delete.specs.Listing.{IsEmpty};
 ghost use Rattle.domain_memory.specs.Held.{held_open};
 ghost use Rattle.domain_memory.specs.Memory.{StandsFor};
 ghost use Rattle.domain_memory.specs.Staged.{IsSettled, MayGoBack};
-ghost use Rattle.domain_memory.specs.Going.{NoneWaits, NothingGoes};
+ghost use Rattle.domain_memory.specs.Going.{MayEmpty, MayLetGo, NoneWaits, NothingGoes};
+ghost use Rattle.domain_stages.specs.Emptying.{Empties};
 ghost use Rattle.domain_stages.specs.LettingGo.{StandsForAny};
 
 use crate::emptying::empty_some;
@@ -23,11 +24,11 @@ const GROUP: u64 = 0;
 const MOST_PAGES: u32 = 32;
 
 /// Lets go of some of the things on a domain's list, sixteen at most, and keeps that; or, where
-/// nothing on it may be let go of, makes one change of what is being removed from a slot. The
-/// domain stands for the same filesets, and no page more is held. It answers how many, 0 exactly
-/// where nothing is left to be given up now, and then nothing changes; no clause says what is left
-/// once something was given up. There may only be no memory, and then too the domain stands for
-/// them.
+/// nothing on it may be let go of, makes one change of what is being removed from a slot, of which
+/// less is left then; no clause says what is left on the list. The domain stands for the same
+/// filesets, and no page more is held. It answers how many, 0 exactly where nothing is left to be
+/// given up now, and then nothing changes. There may only be no memory, and then too the domain
+/// stands for them.
 pub fn release(memory: &mut DomainMemory, alloc: Global) -> Result<u32, OutOfMemory>
     requires settled { IsSettled memory.old }
     requires stands { ∥ StandsForAny memory.old ∥₁ }
@@ -35,6 +36,8 @@ pub fn release(memory: &mut DomainMemory, alloc: Global) -> Result<u32, OutOfMem
     ensures stands { (all : FilesetMap) → StandsFor memory.old all → StandsFor memory.new all }
     ensures held { held_open memory.new.space ≤ held_open memory.old.space }
     ensures some { IfOk result (λ count. (count ≡ 0) ↔ NothingGoes memory.old) }
+    ensures goes { IfOk result (λ count. ¬ count ≡ 0 → MayLetGo memory.old
+        ⊎ ((number : ℕ) × MayEmpty memory.old number × Empties number memory.old memory.new)) }
     ensures none { IfOk result (λ count. count ≡ 0 → memory.new ≡ memory.old) }
     ensures most { IfOk result (λ count. count ≤ 16) }
     ensures settled { IsSettled memory.new }

@@ -1,10 +1,11 @@
-use Rattle.std.proofs.Common.{arith, sym, subst}
+use Rattle.std.proofs.Common.{arith, inl, inr, sym, subst}
 use Rattle.std.proofs.Math.Logic.{∥∥₁_map}
 use Rattle.domain_memory.proofs.KeptStands.{stands_so}
 use Rattle.domain_memory.specs.Memory.{StandsFor}
 use Rattle.domain_memory.specs.declared.memory.DomainMemory.{DomainMemory}
 use Rattle.domain_stages.specs.LettingGo.{StandsForAny}
 use Rattle.domain_memory.specs.Held.{held_open}
+use Rattle.domain_stages.proofs.Emptied.{may_known, still_empties}
 use Rattle.domain_stages.proofs.HeldStill.{kept_held}
 use Rattle.domain_stages.proofs.releasing.release.Goals as goal
 
@@ -28,3 +29,15 @@ returns-clause-stands c = λ all stood. c.keep.ensures.stands all (c.in_ok-count
 
 pub returns-clause-held : goal.returns-clause-held
 returns-clause-held c = kept_held (held_open c.args.memory.now.space) c.let_go.new.memory c.keep.new.self c.keep.ensures.space c.let_go.ensures.held
+
+pub returns-then-is_emptied-clause-goes : goal.returns-then-is_emptied-clause-goes
+returns-then-is_emptied-clause-goes c = λ some.
+    inr (still_empties c.args.memory.now c.let_go.new.memory c.empty_some.new.memory (c.in_ok-count.ensures.none (omega (arith, c.if-count-eq0.true))) (c.in_ok-is_emptied.ensures.goes c.if-is_emptied.true))
+
+pub returns-clause-goes : goal.returns-clause-goes
+returns-clause-goes c = λ some. inl (may_known c.args.memory.now (λ none. some (c.in_ok-count.ensures.some.1 none)))
+
+pub returns-then-is_emptied-clause-some : goal.returns-then-is_emptied-clause-some
+returns-then-is_emptied-clause-some c =
+    let emptied = still_empties c.args.memory.now c.let_go.new.memory c.empty_some.new.memory (c.in_ok-count.ensures.none (omega (arith, c.if-count-eq0.true))) (c.in_ok-is_emptied.ensures.goes c.if-is_emptied.true) in
+    ((λ one. absurd (omega (arith, one))), (λ nothing. absurd (nothing.slots emptied.0 emptied.1)))
