@@ -1,5 +1,5 @@
 //! A domain with the history of its commands.
-ghost use Rattle.std.specs.Prelude.{◌≡◌, ◌+◌, ◌-◌, ◌≤◌, ◌∷◌, ◌++◌, ℕ, [], All, List, None, OnOk, false, true, if◌then◌else◌, is_some, length, vec_capacity};
+ghost use Rattle.std.specs.Prelude.{◌≡◌, ◌+◌, ◌-◌, ◌≤◌, ◌∷◌, ◌++◌, ◌↔◌, ℕ, [], All, Contains, List, None, Some, OnOk, false, true, if◌then◌else◌, is_some, length, map, vec_capacity};
 ghost use Rattle.std.specs.Option.{option_copied};
 ghost use Rattle.domain_base.specs.declared.version.Version.TheVariants.{Four};
 ghost use Rattle.page_store.specs.Pages.{Pages, no_pages};
@@ -8,6 +8,8 @@ ghost use Rattle.page_ways.specs.Frame.{frame_in};
 ghost use Rattle.staged_pages.specs.Store.{before_of};
 ghost use Rattle.domain_making.specs.Making.{new_frame};
 ghost use Rattle.fileset_model.specs.Filesets.{FilesetMap};
+ghost use Rattle.fileset_model.specs.declared.reply.Refusal.TheVariants.{Panicked};
+ghost use Rattle.fileset_model.specs.declared.reply.Reply.TheVariants.{Refused};
 ghost use Rattle.domain_memory.specs.Memory.{StandsFor, books_in, kept_in};
 ghost use Rattle.domain_memory.specs.Staged.{IsSettled, MayBeKept, MayGoBack};
 ghost use Rattle.history_laws.specs.GoingOn.{job_left};
@@ -16,7 +18,6 @@ ghost use Rattle.domain_state.specs.History.{
   IsCalm,
   MayCommit,
   MayCommitUnchanged,
-  NonePanicked,
   StandsForSome,
   with_last_stamped,
 };
@@ -243,11 +244,11 @@ impl<R: Rack, O: Opening> Domain<R, O> {
         self.history.job.is_some()
     }
 
-    /// The volume that panicked, if one did. It is none as long as events make no calls of devices,
-    /// so that no write and no sync of a volume can fail in one.
+    /// The volume that panicked, if one did, as the replies of the history tell it. It is none as
+    /// long as events make no calls of devices, so that no write and no sync of one can fail.
     pub fn panicked(&self) -> Option<VolIx>
-        ensures none { result ≡ None }
-        ensures calm { NonePanicked (⟦<Domain<R, O> as Told>⟧.history self.now) }
+        ensures { (volume : ℕ) → (result ≡ Some volume) ↔ Contains (map (λ before. before.reply)
+            (⟦<Domain<R, O> as Told>⟧.history self.now)) (Refused (Panicked volume)) }
     {
         None
     }
