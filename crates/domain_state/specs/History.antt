@@ -4,7 +4,7 @@ use Rattle.page_store.specs.Pages.{Pages}
 use Rattle.fileset_model.specs.Filesets.{FilesetMap}
 use Rattle.fileset_model.specs.declared.command.Command.{Command}
 use Rattle.fileset_model.specs.declared.entry.Entry.{Entry}
-use Rattle.fileset_model.specs.declared.reply.Refusal.TheVariants.{Panicked}
+use Rattle.fileset_model.specs.declared.reply.Refusal.TheVariants.{Panicked, ReadFault}
 use Rattle.fileset_model.specs.declared.reply.Reply.{Reply}
 use Rattle.fileset_model.specs.declared.reply.Reply.TheVariants.{Refused}
 use Rattle.history_model.specs.Legal.{Legal}
@@ -50,13 +50,14 @@ pub record MayCommit (pages : Pages) (frame : Frame) (sizes : List ℕ) (memory 
       → MayGoOnFrom start entries job (record start { filesets = all }) e
       (record start { filesets = now })
 
--- ** Volumes that panicked
+-- ** Volumes that failed
 
--- a reply does not tell that a volume panicked
+-- a reply tells neither that a volume panicked nor that a read of one failed
 abbrev pub IsCalm : Reply → Type 0
-IsCalm reply = (volume : ℕ) → ¬ (reply ≡ Refused (Panicked volume))
+IsCalm reply = (volume : ℕ) → (¬ (reply ≡ Refused (Panicked volume)))
+    × (¬ (reply ≡ Refused (ReadFault volume)))
 
--- none of these was answered so
+-- by none of these replies a volume panicked
 abbrev pub NonePanicked : List Entry → Type 0
 NonePanicked entries = (volume : ℕ)
     → ¬ Contains (map (λ before. before.reply) entries) (Refused (Panicked volume))

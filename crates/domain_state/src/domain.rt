@@ -126,10 +126,10 @@ impl<R: Rack, O: Opening> Domain<R, O> {
     }
 
     /// Keeps the change that is laid over the domain, and adds the command whose change it is, with
-    /// its reply, which tells neither of a volume that panicked nor of want of pages: one in each
-    /// event, which gets its stamp where that ends. At most 24 pages more are held with the change
-    /// than before it. The mover's own entry ends its job. It takes no memory, and the time of what
-    /// the change has changed.
+    /// its reply, which tells neither of a volume that panicked, nor of a read of one that failed,
+    /// nor of want of pages: one in each event, which gets its stamp where that ends. At most 24
+    /// pages more are held with the change than before it. The mover's own entry ends its job. It
+    /// takes no memory, and the time of what the change has changed.
     pub fn commit(&mut self, entry: Entry)
         requires first { ⟦<Domain<R, O> as Told>⟧.rests self.old }
         requires room { 1 ≤ ⟦<Domain<R, O> as Told>⟧.room self.old }
@@ -157,10 +157,11 @@ impl<R: Rack, O: Opening> Domain<R, O> {
         self.history.add(entry);
     }
 
-    /// Adds a command that changed nothing, with its reply, which tells of no volume that panicked,
-    /// and of want of pages only where memory is as short of them as it tells, no page waits, and
-    /// nothing may be given up: one in each event, which gets its stamp where that ends. What is
-    /// kept in memory stays, with the change that is laid over it. It takes no memory.
+    /// Adds a command that changed nothing, with its reply, which tells neither of a volume that
+    /// panicked, nor of a read of one that failed, and of want of pages only where memory is as
+    /// short of them as it tells, no page waits, and nothing may be given up: one in each event,
+    /// which gets its stamp where that ends. What is kept in memory stays, with the change that is
+    /// laid over it. It takes no memory.
     pub fn commit_unchanged(&mut self, entry: Entry)
         requires first { ⟦<Domain<R, O> as Told>⟧.rests self.old }
         requires room { 1 ≤ ⟦<Domain<R, O> as Told>⟧.room self.old }

@@ -28,7 +28,7 @@ commit_unchanged-requires-clause-step g c = λ all stands.
     (lacks o.pages o.frame o.sizes it.memory it.history.entries.items it.history.job c.requires.settled c.requires.waits it.stands all want.need (subst (λ n. n < want.need) c.requires.free c.requires.few)))
 
 pub commit_unchanged-requires-clause-calm : goal.commit_unchanged-requires-clause-calm
-commit_unchanged-requires-clause-calm g c = λ volume is. absurd (cc)
+commit_unchanged-requires-clause-calm g c = λ volume. (λ is. absurd (cc), λ is. absurd (cc))
 
 free_told : Reply → ℕ
 free_told (Refused (NoSpace free need)) = free
