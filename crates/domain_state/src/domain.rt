@@ -110,9 +110,12 @@ impl<R: Rack, O: Opening> Domain<R, O> {
         }
     }
 
-    /// Makes room for so many entries more. Nothing else changes, at an error either.
+    /// Makes room for so many entries more. Nothing else changes, at an error either, and room that
+    /// was there stays.
     pub fn reserve_history(&mut self, more: usize) -> Result<(), OutOfMemory>
         ensures room { OnOk result (more ≤ ⟦<Domain<R, O> as Told>⟧.room self.new) }
+        ensures least { ⟦<Domain<R, O> as Told>⟧.room self.old
+            ≤ ⟦<Domain<R, O> as Told>⟧.room self.new }
         ensures history { ⟦<Domain<R, O> as Told>⟧.history self.new
             ≡ ⟦<Domain<R, O> as Told>⟧.history self.old }
         ensures begun { ⟦<Domain<R, O> as Told>⟧.begun self.new
@@ -273,6 +276,7 @@ impl<R: Rack, O: Opening> Domain<R, O> {
     /// How many calls the rack has had: no entry has a greater stamp, where no event goes on that
     /// has added one.
     pub fn calls(&self) -> u64
+        ensures is { result ≡ (R.disk self.now.history.rack).calls }
         ensures stamps { ⟦<Domain<R, O> as Told>⟧.rests self.now
             → All (λ before. before.stamp ≤ result) (⟦<Domain<R, O> as Told>⟧.history self.now) }
     {
