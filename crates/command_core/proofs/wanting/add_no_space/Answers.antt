@@ -8,9 +8,8 @@ use Rattle.history_model.specs.Room.{need}
 use Rattle.domain_memory.specs.Memory.{StandsFor}
 use Rattle.domain_memory.specs.declared.memory.DomainMemory.{DomainMemory}
 use Rattle.domain_memory.specs.Going.{free_in}
-use Rattle.domain_state.specs.Short.{IsShort}
-use Rattle.command_core.specs.Wanting.{MayLackPages}
-use Rattle.command_core.proofs.Tightness.{lacks}
+use Rattle.domain_state.specs.Short.{IsShort, MayLackPages}
+use Rattle.domain_state.proofs.Tightness.{lacks}
 use Rattle.command_core.proofs.Wanted.{goes_unchanged, no_movers, taking}
 use Rattle.command_core.proofs.wanting.add_no_space.Goals as goal
 
