@@ -18,8 +18,8 @@ use Rattle.domain_memory.specs.declared.memory.DomainMemory.{DomainMemory}
 use Rattle.domain_state.specs.Opening.{IsStartOf}
 use Rattle.domain_state.specs.Room.{IsWithinRoom}
 
--- from each state that the pages at the opening mean the entries lead to these filesets, with all else
--- as it was, while this job runs
+-- from each state that the pages at the opening mean the entries lead to these filesets, with all
+-- else as it was, while this job runs
 abbrev pub LeadsTo : Pages → Frame → List ℕ → List Entry → Option Command → FilesetMap → Type 0
 LeadsTo pages frame sizes entries job all = (start : State) → IsStartOf pages frame sizes start
     → ∥ Legal start entries job (record start { filesets = all }) ∥₁
@@ -62,7 +62,8 @@ abbrev pub NonePanicked : List Entry → Type 0
 NonePanicked entries = (volume : ℕ)
     → ¬ Contains (map (λ before. before.reply) entries) (Refused (Panicked volume))
 
--- an entry leads from these filesets to themselves, at each point to which the history may have come
+-- an entry leads from these filesets to themselves, at each point to which the history may have
+-- come
 abbrev pub MayCommitUnchanged : Pages → Frame → List ℕ → List Entry → Option Command → Entry
     → FilesetMap → Type 0
 MayCommitUnchanged pages frame sizes entries job e all = (start : State)

@@ -73,7 +73,8 @@ impl<R: Rack, O: Opening> Told for Domain<R, O> {
 
     ghost rests = { λ domain. domain.history.added ≡ false };
 
-    ghost room = { λ domain. vec_capacity domain.history.entries - length domain.history.entries.items };
+    ghost room = { λ domain. vec_capacity domain.history.entries
+        - length domain.history.entries.items };
 
     ghost begun = { λ domain. domain.history.job };
 
