@@ -88,9 +88,10 @@ may_commit pages frame sizes memory entries job e all now kept next means = reco
   step = λ start is point comes same. leads start entries job e all now next is.striped point comes same means;
 }
 
--- a reply without a cause that lies outside tells of no volume that panicked
+-- a reply without a cause that lies outside tells of no volume that failed
 pub inside_calm : (memory : DomainMemory) (reply : Reply) → ∥ StandsForSome memory ∥₁ → ((all : FilesetMap) → StandsFor memory all → IsInside reply) → IsCalm reply
-inside_calm memory reply stands inside volume is = ∥∥₁_elim stands (λ x y. absurd x) (λ some. subst IsInside is (inside some.0 some.1))
+inside_calm memory reply stands inside volume =
+    (λ is. ∥∥₁_elim stands (λ x y. absurd x) (λ some. subst IsInside is (inside some.0 some.1)), λ is. ∥∥₁_elim stands (λ x y. absurd x) (λ some. subst IsInside is (inside some.0 some.1)))
 
 -- nor of want of pages
 pub inside_spared : (memory : DomainMemory) (reply : Reply) → ∥ StandsForSome memory ∥₁ → ((all : FilesetMap) → StandsFor memory all → IsInside reply) → HadPages reply

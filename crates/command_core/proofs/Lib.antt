@@ -28,8 +28,6 @@ pub mod Written
 pub mod Wanted
 pub mod FewHeld
 pub mod VolumesHeld
-pub mod OpenPages
-pub mod Tightness
 pub mod WaysSplit
 pub mod AtRoot
 pub mod RootMoved

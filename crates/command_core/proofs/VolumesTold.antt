@@ -104,7 +104,7 @@ shown_inside memory all (Showfile place) reply (inl shown) = by_refusal (in_file
     by_refusal (Some refusal) refused told = subst IsInside (sym told) (refused_inside refusal all place refused)
 shown_inside memory all c reply (inl shown) = absurd shown
 
--- so it tells neither of a volume that panicked nor of want of pages
+-- so it tells neither of a volume that failed nor of want of pages
 pub shown_calm : (memory : DomainMemory) (c : Command) (reply : Reply) → ∥ StandsForSome memory ∥₁ → ((all : FilesetMap) → StandsFor memory all → IsShownIfMemory memory all c reply) → IsCalm reply
 shown_calm memory c reply stands shown = inside_calm memory reply stands (λ all stood. shown_inside memory all c reply (shown all stood))
 

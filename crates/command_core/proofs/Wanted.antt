@@ -40,7 +40,8 @@ use Rattle.domain_state.specs.History.{MayCommitUnchanged}
 use Rattle.domain_state.specs.Opening.{IsStartOf}
 use Rattle.command_core.specs.Coming.{ComesNext}
 use Rattle.command_core.specs.Ending.{EndsAs, LacksPage}
-use Rattle.command_core.specs.Wanting.{MayLackPages, MayTake}
+use Rattle.domain_state.specs.Short.{MayLackPages}
+use Rattle.command_core.specs.Wanting.{MayTake}
 use Rattle.command_core.specs.declared.stop.Stop.{Stop}
 use Rattle.command_core.specs.declared.stop.Stop.TheVariants.{NoPage}
 use Rattle.command_core.proofs.Coming.{follows, looks_itself}

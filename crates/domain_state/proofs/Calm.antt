@@ -27,7 +27,7 @@ in_either front last r (k, low, is) beside = ⊎_elim
 pub added_calm : (entries : List Entry) (e : Entry) → NonePanicked entries → IsCalm e.reply → NonePanicked (entries ++ e ∷ [])
 unfolding replies
 added_calm entries e calm this volume there =
-    this volume (in_either (replies entries) e.reply (Refused (Panicked volume))
+    (this volume).0 (in_either (replies entries) e.reply (Refused (Panicked volume))
     (subst (λ l. Contains l (Refused (Panicked volume))) (map-append (λ (before : Entry). before.reply) entries (e ∷ [])) there) (calm volume))
 
 -- stamps are no part of it

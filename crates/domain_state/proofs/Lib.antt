@@ -8,6 +8,8 @@ pub mod Unmoved
 pub mod Stamping
 pub mod Resting
 pub mod MemberSums
+pub mod OpenPages
+pub mod Tightness
 pub mod Decided
 pub mod MemberHomes
 pub mod NewStart

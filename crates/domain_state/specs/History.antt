@@ -4,7 +4,7 @@ use Rattle.page_store.specs.Pages.{Pages}
 use Rattle.fileset_model.specs.Filesets.{FilesetMap}
 use Rattle.fileset_model.specs.declared.command.Command.{Command}
 use Rattle.fileset_model.specs.declared.entry.Entry.{Entry}
-use Rattle.fileset_model.specs.declared.reply.Refusal.TheVariants.{Panicked}
+use Rattle.fileset_model.specs.declared.reply.Refusal.TheVariants.{Panicked, ReadFault}
 use Rattle.fileset_model.specs.declared.reply.Reply.{Reply}
 use Rattle.fileset_model.specs.declared.reply.Reply.TheVariants.{Refused}
 use Rattle.history_model.specs.Legal.{Legal}
@@ -18,8 +18,8 @@ use Rattle.domain_memory.specs.declared.memory.DomainMemory.{DomainMemory}
 use Rattle.domain_state.specs.Opening.{IsStartOf}
 use Rattle.domain_state.specs.Room.{IsWithinRoom}
 
--- from each state that the pages at the opening mean the entries lead to these filesets, with all else
--- as it was, while this job runs
+-- from each state that the pages at the opening mean the entries lead to these filesets, with all
+-- else as it was, while this job runs
 abbrev pub LeadsTo : Pages → Frame → List ℕ → List Entry → Option Command → FilesetMap → Type 0
 LeadsTo pages frame sizes entries job all = (start : State) → IsStartOf pages frame sizes start
     → ∥ Legal start entries job (record start { filesets = all }) ∥₁
@@ -50,18 +50,20 @@ pub record MayCommit (pages : Pages) (frame : Frame) (sizes : List ℕ) (memory 
       → MayGoOnFrom start entries job (record start { filesets = all }) e
       (record start { filesets = now })
 
--- ** Volumes that panicked
+-- ** Volumes that failed
 
--- a reply does not tell that a volume panicked
+-- a reply tells neither that a volume panicked nor that a read of one failed
 abbrev pub IsCalm : Reply → Type 0
-IsCalm reply = (volume : ℕ) → ¬ (reply ≡ Refused (Panicked volume))
+IsCalm reply = (volume : ℕ) → (¬ (reply ≡ Refused (Panicked volume)))
+    × (¬ (reply ≡ Refused (ReadFault volume)))
 
--- none of these was answered so
+-- by none of these replies a volume panicked
 abbrev pub NonePanicked : List Entry → Type 0
 NonePanicked entries = (volume : ℕ)
     → ¬ Contains (map (λ before. before.reply) entries) (Refused (Panicked volume))
 
--- an entry leads from these filesets to themselves, at each point to which the history may have come
+-- an entry leads from these filesets to themselves, at each point to which the history may have
+-- come
 abbrev pub MayCommitUnchanged : Pages → Frame → List ℕ → List Entry → Option Command → Entry
     → FilesetMap → Type 0
 MayCommitUnchanged pages frame sizes entries job e all = (start : State)

@@ -17,8 +17,8 @@ ArePagesSynced disk anchor =
     → (home : Home) → IsMember anchor home.vol → home.page ≢ anchors_page
     → pages_in image home ≡ pages_in disk.now.contents home
 
--- a rack has the members of an anchor; if it tells what it holds, this is its anchor, its log has no
--- group behind that, and nothing is pending on pages of members, those of anchors aside
+-- a rack has the members of an anchor; if it tells what it holds, this is its anchor, its log has
+-- no group behind that, and nothing is pending on pages of members, those of anchors aside
 pub record IsAtRest (disk : Disk) (anchor : Anchor) : Type 0 where
   pub members : HasMembers disk.sizes anchor
   pub none : IsBehindAll disk anchor

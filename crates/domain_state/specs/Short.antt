@@ -1,11 +1,20 @@
 -- Want of pages, for which a command may be answered no-space.
-use Rattle.std.specs.Prelude.{◌≡◌, ◌<◌, ℕ}
+use Rattle.std.specs.Prelude.{◌≡◌, ◌<◌, ℕ, List, Option}
+use Rattle.page_store.specs.Pages.{Pages}
+use Rattle.fileset_model.specs.Filesets.{FilesetMap}
+use Rattle.fileset_model.specs.declared.command.Command.{Command}
+use Rattle.fileset_model.specs.declared.entry.Entry.{Entry}
 use Rattle.fileset_model.specs.declared.reply.Refusal.TheVariants.{NoSpace}
 use Rattle.fileset_model.specs.declared.reply.Reply.{Reply}
 use Rattle.fileset_model.specs.declared.reply.Reply.TheVariants.{Refused}
+use Rattle.history_model.specs.Point.{Point, Tight}
+use Rattle.history_model.specs.State.{State}
+use Rattle.history_laws.specs.GoingOn.{ComesTo}
+use Rattle.domain_layout.specs.Reached.{Frame}
 use Rattle.domain_memory.specs.Going.{NoneWaits, NothingGoes, free_in}
 use Rattle.domain_memory.specs.Staged.{IsSettled}
 use Rattle.domain_memory.specs.declared.memory.DomainMemory.{DomainMemory}
+use Rattle.domain_state.specs.Opening.{IsStartOf}
 
 -- with no change laid over memory so many pages are free, which are fewer than are needed; no page
 -- waits, and nothing on the list may be let go of, nor anything of what is being removed
@@ -24,3 +33,13 @@ HasCause memory reply = (free need : ℕ) → reply ≡ Refused (NoSpace free ne
 -- a reply does not tell of want of pages
 abbrev pub HadPages : Reply → Type 0
 HadPages reply = (free need : ℕ) → ¬ (reply ≡ Refused (NoSpace free need))
+
+-- ** Where the open members lack pages
+
+-- wherever this history may have come with these filesets, from a state that the pages at the
+-- opening mean, the open members have fewer pages than may be needed, and so many more
+abbrev pub MayLackPages : Pages → Frame → List ℕ → List Entry → Option Command → FilesetMap → ℕ
+    → Type 0
+MayLackPages pages frame sizes history job all more = (start : State)
+    → IsStartOf pages frame sizes start → (point : Point) → ComesTo start history job point
+    → point.state ≡ record start { filesets = all } → Tight point point.state more

@@ -1,5 +1,5 @@
 //! A domain with the history of its commands.
-ghost use Rattle.std.specs.Prelude.{◌≡◌, ◌+◌, ◌-◌, ◌≤◌, ◌∷◌, ◌++◌, ℕ, [], All, List, None, OnOk, false, true, if◌then◌else◌, is_some, length, vec_capacity};
+ghost use Rattle.std.specs.Prelude.{◌≡◌, ◌+◌, ◌-◌, ◌≤◌, ◌∷◌, ◌++◌, ◌↔◌, ℕ, [], All, Contains, List, None, Some, OnOk, false, true, if◌then◌else◌, is_some, length, map, vec_capacity};
 ghost use Rattle.std.specs.Option.{option_copied};
 ghost use Rattle.domain_base.specs.declared.version.Version.TheVariants.{Four};
 ghost use Rattle.page_store.specs.Pages.{Pages, no_pages};
@@ -8,6 +8,8 @@ ghost use Rattle.page_ways.specs.Frame.{frame_in};
 ghost use Rattle.staged_pages.specs.Store.{before_of};
 ghost use Rattle.domain_making.specs.Making.{new_frame};
 ghost use Rattle.fileset_model.specs.Filesets.{FilesetMap};
+ghost use Rattle.fileset_model.specs.declared.reply.Refusal.TheVariants.{Panicked};
+ghost use Rattle.fileset_model.specs.declared.reply.Reply.TheVariants.{Refused};
 ghost use Rattle.domain_memory.specs.Memory.{StandsFor, books_in, kept_in};
 ghost use Rattle.domain_memory.specs.Staged.{IsSettled, MayBeKept, MayGoBack};
 ghost use Rattle.history_laws.specs.GoingOn.{job_left};
@@ -16,7 +18,6 @@ ghost use Rattle.domain_state.specs.History.{
   IsCalm,
   MayCommit,
   MayCommitUnchanged,
-  NonePanicked,
   StandsForSome,
   with_last_stamped,
 };
@@ -72,7 +73,8 @@ impl<R: Rack, O: Opening> Told for Domain<R, O> {
 
     ghost rests = { λ domain. domain.history.added ≡ false };
 
-    ghost room = { λ domain. vec_capacity domain.history.entries - length domain.history.entries.items };
+    ghost room = { λ domain. vec_capacity domain.history.entries
+        - length domain.history.entries.items };
 
     ghost begun = { λ domain. domain.history.job };
 
@@ -109,9 +111,12 @@ impl<R: Rack, O: Opening> Domain<R, O> {
         }
     }
 
-    /// Makes room for so many entries more. Nothing else changes, at an error either.
+    /// Makes room for so many entries more. Nothing else changes, at an error either, and room that
+    /// was there stays.
     pub fn reserve_history(&mut self, more: usize) -> Result<(), OutOfMemory>
         ensures room { OnOk result (more ≤ ⟦<Domain<R, O> as Told>⟧.room self.new) }
+        ensures least { ⟦<Domain<R, O> as Told>⟧.room self.old
+            ≤ ⟦<Domain<R, O> as Told>⟧.room self.new }
         ensures history { ⟦<Domain<R, O> as Told>⟧.history self.new
             ≡ ⟦<Domain<R, O> as Told>⟧.history self.old }
         ensures begun { ⟦<Domain<R, O> as Told>⟧.begun self.new
@@ -125,10 +130,10 @@ impl<R: Rack, O: Opening> Domain<R, O> {
     }
 
     /// Keeps the change that is laid over the domain, and adds the command whose change it is, with
-    /// its reply, which tells neither of a volume that panicked nor of want of pages: one in each
-    /// event, which gets its stamp where that ends. At most 24 pages more are held with the change
-    /// than before it. The mover's own entry ends its job. It takes no memory, and the time of what
-    /// the change has changed.
+    /// its reply, which tells neither of a volume that panicked, nor of a read of one that failed,
+    /// nor of want of pages: one in each event, which gets its stamp where that ends. At most 24
+    /// pages more are held with the change than before it. The mover's own entry ends its job. It
+    /// takes no memory, and the time of what the change has changed.
     pub fn commit(&mut self, entry: Entry)
         requires first { ⟦<Domain<R, O> as Told>⟧.rests self.old }
         requires room { 1 ≤ ⟦<Domain<R, O> as Told>⟧.room self.old }
@@ -156,10 +161,11 @@ impl<R: Rack, O: Opening> Domain<R, O> {
         self.history.add(entry);
     }
 
-    /// Adds a command that changed nothing, with its reply, which tells of no volume that panicked,
-    /// and of want of pages only where memory is as short of them as it tells, no page waits, and
-    /// nothing may be given up: one in each event, which gets its stamp where that ends. What is
-    /// kept in memory stays, with the change that is laid over it. It takes no memory.
+    /// Adds a command that changed nothing, with its reply, which tells neither of a volume that
+    /// panicked, nor of a read of one that failed, and of want of pages only where memory is as
+    /// short of them as it tells, no page waits, and nothing may be given up: one in each event,
+    /// which gets its stamp where that ends. What is kept in memory stays, with the change that is
+    /// laid over it. It takes no memory.
     pub fn commit_unchanged(&mut self, entry: Entry)
         requires first { ⟦<Domain<R, O> as Told>⟧.rests self.old }
         requires room { 1 ≤ ⟦<Domain<R, O> as Told>⟧.room self.old }
@@ -243,11 +249,11 @@ impl<R: Rack, O: Opening> Domain<R, O> {
         self.history.job.is_some()
     }
 
-    /// The volume that panicked, if one did. It is none as long as events make no calls of devices,
-    /// so that no write and no sync of a volume can fail in one.
+    /// The volume that panicked, if one did, as the replies of the history tell it. It is none as
+    /// long as events make no calls of devices, so that no write and no sync of one can fail.
     pub fn panicked(&self) -> Option<VolIx>
-        ensures none { result ≡ None }
-        ensures calm { NonePanicked (⟦<Domain<R, O> as Told>⟧.history self.now) }
+        ensures { (volume : ℕ) → (result ≡ Some volume) ↔ Contains (map (λ before. before.reply)
+            (⟦<Domain<R, O> as Told>⟧.history self.now)) (Refused (Panicked volume)) }
     {
         None
     }
@@ -271,6 +277,7 @@ impl<R: Rack, O: Opening> Domain<R, O> {
     /// How many calls the rack has had: no entry has a greater stamp, where no event goes on that
     /// has added one.
     pub fn calls(&self) -> u64
+        ensures is { result ≡ (R.disk self.now.history.rack).calls }
         ensures stamps { ⟦<Domain<R, O> as Told>⟧.rests self.now
             → All (λ before. before.stamp ≤ result) (⟦<Domain<R, O> as Told>⟧.history self.now) }
     {

@@ -78,10 +78,13 @@ impl<R: Rack> History<R> {
         (rack, entries)
     }
 
-    /// Makes room for so many entries more. Nothing else changes, at an error either.
+    /// Makes room for so many entries more. Nothing else changes, at an error either, and room that
+    /// was there stays.
     pub(crate) fn reserve(&mut self, more: usize) -> Result<(), OutOfMemory>
         ensures room { OnOk result (more
             ≤ vec_capacity self.new.entries - length self.new.entries.items) }
+        ensures least { vec_capacity self.old.entries - length self.old.entries.items
+            ≤ vec_capacity self.new.entries - length self.new.entries.items }
         ensures entries { self.new.entries.items ≡ self.old.entries.items }
         ensures durable { self.new.durable ≡ self.old.durable }
         ensures job { self.new.job ≡ self.old.job }

@@ -16,6 +16,7 @@ ghost use Rattle.staged_pages.specs.Store.{before_of};
 ghost use Rattle.domain_memory.specs.Memory.{StandsFor};
 ghost use Rattle.domain_state.specs.History.{GoesOn};
 ghost use Rattle.domain_state.specs.Opening.{IsStartOf};
+ghost use Rattle.domain_state.specs.Short.{IsShort, MayLackPages};
 
 /// The history of a domain leads to the filesets for which it stands, whatever change is laid over
 /// its memory, as long as what was kept of that stays.
@@ -38,4 +39,14 @@ pub fn a_new_domain_is_a_start()
 pub fn an_attached_domain_has_a_start()
     ensures { (memory : DomainMemory) (sizes : List ℕ) (all : FilesetMap) → StandsFor memory all
         → (start : State) × IsStartOf (before_of memory.pages) (frame_in memory.frame) sizes start }
+{}
+
+/// Where a domain is short of pages, with no change laid over it, the open members have fewer pages
+/// than the filesets and the entries of its history may need, and so many more: wherever that
+/// history may have come.
+pub fn want_of_pages_is_bounded()
+    ensures { (pages : Pages) (frame : Frame) (sizes : List ℕ) (memory : DomainMemory)
+        (entries : List Entry) (job : Option Command) (all : FilesetMap) (free need : ℕ)
+        → ∥ GoesOn pages frame sizes memory entries job ∥₁ → IsShort memory free need
+        → MayLackPages pages frame sizes entries job all need }
 {}

@@ -13,5 +13,6 @@ pub use domain::{Domain, Opening};
 pub use history::History;
 pub use laws::{
     a_history_goes_on_over_changes, a_new_domain_is_a_start, an_attached_domain_has_a_start,
+    want_of_pages_is_bounded,
 };
 pub use making::make;

@@ -9,7 +9,7 @@ use Rattle.fileset_model.specs.Filesets.{FilesetMap}
 use Rattle.fileset_model.specs.Orders.{name_cmp, name_cmp-IsAntisymmetric}
 use Rattle.fileset_model.specs.declared.command.Command.{Command}
 use Rattle.fileset_model.specs.declared.entry.Entry.{Entry}
-use Rattle.fileset_model.specs.declared.reply.Refusal.TheVariants.{NoSpace, Panicked}
+use Rattle.fileset_model.specs.declared.reply.Refusal.TheVariants.{NoSpace, Panicked, ReadFault}
 use Rattle.fileset_model.specs.declared.reply.Reply.TheVariants.{Done, Refused}
 use Rattle.history_model.specs.Legal.{MayFollow}
 use Rattle.history_model.specs.Point.{Point}
@@ -71,7 +71,8 @@ leads start now point comes none same = record {
 }
 
 pub is_calm : (e : Entry) → e ≡ sync_entry → IsCalm e.reply
-is_calm e is volume panicked = let same : Done ≡ Refused (Panicked volume) = sym (ap (λ (x : Entry). x.reply) is) ∙ panicked in absurd (cc)
+is_calm e is volume =
+    (λ panicked. let same : Done ≡ Refused (Panicked volume) = sym (ap (λ (x : Entry). x.reply) is) ∙ panicked in absurd (cc), λ failed. let same : Done ≡ Refused (ReadFault volume) = sym (ap (λ (x : Entry). x.reply) is) ∙ failed in absurd (cc))
 
 pub had_pages : (e : Entry) → e ≡ sync_entry → HadPages e.reply
 had_pages e is free need wanted = let same : Done ≡ Refused (NoSpace free need) = sym (ap (λ (x : Entry). x.reply) is) ∙ wanted in absurd (cc)

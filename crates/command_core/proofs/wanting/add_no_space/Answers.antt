@@ -8,9 +8,8 @@ use Rattle.history_model.specs.Room.{need}
 use Rattle.domain_memory.specs.Memory.{StandsFor}
 use Rattle.domain_memory.specs.declared.memory.DomainMemory.{DomainMemory}
 use Rattle.domain_memory.specs.Going.{free_in}
-use Rattle.domain_state.specs.Short.{IsShort}
-use Rattle.command_core.specs.Wanting.{MayLackPages}
-use Rattle.command_core.proofs.Tightness.{lacks}
+use Rattle.domain_state.specs.Short.{IsShort, MayLackPages}
+use Rattle.domain_state.proofs.Tightness.{lacks}
 use Rattle.command_core.proofs.Wanted.{goes_unchanged, no_movers, taking}
 use Rattle.command_core.proofs.wanting.add_no_space.Goals as goal
 
@@ -28,7 +27,7 @@ commit_unchanged-requires-clause-step g c = λ all stands.
     (lacks o.pages o.frame o.sizes it.memory it.history.entries.items it.history.job c.requires.settled c.requires.waits it.stands all want.need (subst (λ n. n < want.need) c.requires.free c.requires.few)))
 
 pub commit_unchanged-requires-clause-calm : goal.commit_unchanged-requires-clause-calm
-commit_unchanged-requires-clause-calm g c = λ volume is. absurd (cc)
+commit_unchanged-requires-clause-calm g c = λ volume. (λ is. absurd (cc), λ is. absurd (cc))
 
 free_told : Reply → ℕ
 free_told (Refused (NoSpace free need)) = free

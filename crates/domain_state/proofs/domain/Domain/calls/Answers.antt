@@ -4,6 +4,7 @@ use Rattle.domain_state.proofs.domain.Domain.calls.Goals as goal
 
 pub returns : goal.returns
 returns g c = record {
+  is = c.calls.ensures;
   stamps = λ rests.
       let it = c.args.self.now.history in
       let calls = (g.R.Rack.disk it.rack).calls in

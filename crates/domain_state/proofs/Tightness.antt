@@ -1,10 +1,10 @@
 -- Where fewer pages are free than are needed, and none waits, the open members have fewer than may be needed.
 use Rattle.std.proofs.Common.{◌≡◌, ◌∙◌, ◌+◌, ◌-◌, ◌<◌, ◌≤◌, ℕ, List, [], Option, None, IfSome, get_or, sym, ap, subst, arith, ⊎_elim}
-use Rattle.std.proofs.Math.Logic.{∥∥₁_map}
+use Rattle.std.proofs.Math.Logic.{∥∥₁_elim}
 use Rattle.std.proofs.lemmas.Bool.{cases_lt}
 use Rattle.std.specs.List.{sum_by}
 use Rattle.page_store.specs.Pages.{Pages}
-use Rattle.free_space.specs.Spaces.{Spaces}
+use Rattle.domain_memory.specs.Spaces.{Spaces}
 use Rattle.fileset_model.specs.Filesets.{FilesetMap}
 use Rattle.fileset_model.specs.declared.command.Command.{Command}
 use Rattle.fileset_model.specs.declared.entry.Entry.{Entry}
@@ -12,7 +12,6 @@ use Rattle.history_model.specs.Point.{peak}
 use Rattle.history_model.specs.Room.{open_pages}
 use Rattle.history_model.specs.State.{State}
 use Rattle.domain_layout.specs.Reached.{Frame}
-use Rattle.set_laws.proofs.Stable.{nothing}
 use Rattle.domain_memory.specs.Held.{held_open}
 use Rattle.domain_memory.specs.Memory.{kept_in}
 use Rattle.domain_memory.specs.Staged.{IsSettled}
@@ -21,8 +20,8 @@ use Rattle.domain_memory.specs.Going.{NoneWaits, free_in}
 use Rattle.domain_state.specs.History.{GoesOn}
 use Rattle.domain_state.specs.Opening.{IsStartOf}
 use Rattle.domain_state.proofs.StartRoom.{start_room}
-use Rattle.command_core.specs.Wanting.{MayLackPages}
-use Rattle.command_core.proofs.OpenPages.{held_or_free, open_is, open_of}
+use Rattle.domain_state.specs.Short.{MayLackPages}
+use Rattle.domain_state.proofs.OpenPages.{held_or_free, open_is, open_of}
 
 module _ (pages : Pages) (frame : Frame) (sizes : List ℕ) (memory : DomainMemory) (entries : List Entry) (job : Option Command) (settled : IsSettled memory) (none : NoneWaits memory.space) where
   none_at : (k : ℕ) → IfSome (get_or memory.space.volumes k None) (λ v. v.waiting ≡ [])
@@ -40,7 +39,7 @@ module _ (pages : Pages) (frame : Frame) (sizes : List ℕ) (memory : DomainMemo
   pub lacks : ∥ GoesOn pages frame sizes memory entries job ∥₁ → (all : FilesetMap) (more : ℕ) → free_in memory < more → MayLackPages pages frame sizes entries job all more
   lacks held all more few start is point comes same = ⊎_elim
       (λ less. less)
-      (λ (most : peak point + more ≤ open_pages point.state). absurd (nothing (∥∥₁_map held (λ goes. too_many goes most))))
+      (λ (most : peak point + more ≤ open_pages point.state). absurd (∥∥₁_elim held (λ x y. absurd x) (λ goes. too_many goes most)))
       (cases_lt (open_pages point.state) (peak point + more))
     where
       too_many : GoesOn pages frame sizes memory entries job → peak point + more ≤ open_pages point.state → ⊥

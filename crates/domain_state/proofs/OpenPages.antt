@@ -9,17 +9,17 @@ use Rattle.std.specs.FinMap as map
 use Rattle.page_store.specs.Pages.{Pages}
 use Rattle.page_ways.specs.Frame.{frame_in}
 use Rattle.deferred_delete.specs.Standing.{Files}
-use Rattle.free_space.specs.Spaces.{free_pages, kept_spaces, volume_of}
-use Rattle.free_space.specs.VolumeSpace.{VolumeSpace}
+use Rattle.domain_memory.specs.Spaces.{free_pages, kept_spaces, volume_of}
+use Rattle.domain_memory.specs.VolumeSpace.{VolumeSpace}
 use Rattle.fileset_model.specs.Filesets.{FilesetMap}
 use Rattle.history_model.specs.Room.{open_pages}
 use Rattle.history_model.specs.State.{Member, State}
 use Rattle.domain_memory.specs.Held.{held_if_open}
 use Rattle.domain_memory.specs.Memory.{StandsFor, kept_in}
 use Rattle.domain_memory.specs.declared.memory.DomainMemory.{DomainMemory}
-use Rattle.domain_stages.specs.Domain.{DomainNow}
-use Rattle.domain_stages.specs.Holders.{AreHeldAt}
-use Rattle.domain_stages.specs.Chains.{IndexesAt}
+use Rattle.domain_standing.specs.Domain.{DomainNow}
+use Rattle.domain_standing.specs.Holders.{AreHeldAt}
+use Rattle.domain_standing.specs.Chains.{IndexesAt}
 use Rattle.domain_state.specs.Opening.{IsMemberAs, IsStartOf}
 use Rattle.domain_state.proofs.MemberSums.{open_sum, opened_pages, row_sum}
 
