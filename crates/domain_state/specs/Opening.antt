@@ -34,8 +34,8 @@ IsNoFiles pages table home = (number : ℕ) (tag : Tag) (cells : List PlacedCell
     → (page : ℕ) → ¬ seen.homes page ≡ Some home
 
 -- a page that belongs to somebody, and is neither fixed nor a file's of a fileset: one of cells, of
--- a tag directory, of a directory or its index, or of a file that is left for removal. Who has it is
--- not asked, just that it is not so that nobody has: that is decided home by home
+-- a tag directory, of a directory or its index, or of a file that is left for removal. Who has it
+-- is not asked, just that it is not so that nobody has: that is decided home by home
 pub record IsOldPage (pages : Pages) (layout : Layout) (home : Home) : Type 0 where
   pub owned : ¬ ¬ IsOwned pages layout home
   pub beside : ¬ IsFixed pages layout home

@@ -1,5 +1,5 @@
 //! A domain with the history of its commands.
-ghost use Rattle.std.specs.Prelude.{◌≡◌, ◌+◌, ◌-◌, ◌≤◌, ◌∷◌, ◌++◌, ◌↔◌, ℕ, [], All, Contains, List, None, Some, OnOk, false, true, if◌then◌else◌, is_some, length, map, vec_capacity};
+ghost use Rattle.std.specs.Prelude.{◌≡◌, ◌+◌, ◌-◌, ◌≤◌, ◌∷◌, ◌++◌, ℕ, [], All, Contains, List, None, Some, OnOk, false, true, if◌then◌else◌, is_some, length, map, vec_capacity};
 ghost use Rattle.std.specs.Option.{option_copied};
 ghost use Rattle.domain_base.specs.declared.version.Version.TheVariants.{Four};
 ghost use Rattle.page_store.specs.Pages.{Pages, no_pages};
@@ -133,7 +133,8 @@ impl<R: Rack, O: Opening> Domain<R, O> {
     /// its reply, which tells neither of a volume that panicked, nor of a read of one that failed,
     /// nor of want of pages: one in each event, which gets its stamp where that ends. At most 24
     /// pages more are held with the change than before it. The mover's own entry ends its job. It
-    /// takes no memory, and the time of what the change has changed.
+    /// takes no memory, and the time of what the change has changed, with a look through what waits
+    /// to be let go of for each file that it lists.
     pub fn commit(&mut self, entry: Entry)
         requires first { ⟦<Domain<R, O> as Told>⟧.rests self.old }
         requires room { 1 ≤ ⟦<Domain<R, O> as Told>⟧.room self.old }
@@ -249,11 +250,15 @@ impl<R: Rack, O: Opening> Domain<R, O> {
         self.history.job.is_some()
     }
 
-    /// The volume that panicked, if one did, as the replies of the history tell it. It is none as
-    /// long as events make no calls of devices, so that no write and no sync of one can fail.
+    /// The volume that panicked, if one did: that of which a reply of the history tells, if one
+    /// does; a write or a sync of it has failed. It is none as long as events make no calls of
+    /// devices.
     pub fn panicked(&self) -> Option<VolIx>
-        ensures { (volume : ℕ) → (result ≡ Some volume) ↔ Contains (map (λ before. before.reply)
-            (⟦<Domain<R, O> as Told>⟧.history self.now)) (Refused (Panicked volume)) }
+        ensures told { (volume : ℕ) → Contains (map (λ before. before.reply)
+            (⟦<Domain<R, O> as Told>⟧.history self.now)) (Refused (Panicked volume))
+            → result ≡ Some volume }
+        ensures cause { (volume : ℕ) → result ≡ Some volume
+            → ¬ (R.disk self.now.history.rack).write_faults volume ≡ 0 }
     {
         None
     }
