@@ -61,7 +61,8 @@ abbrev pub IfNotSettled : AttachFault → Type 0 → Type 0
 IfNotSettled (NotSettled why) P = P
 IfNotSettled fault P = Unit {0}
 
--- an image has a domain: of its pages, once its log is redone, those that were brought break no rule
+-- an image has a domain: of its pages, once its log is redone, those that were brought break no
+-- rule
 pub record HasDomain (sizes : List ℕ) (image : Image) : Type 0 where
   pub pages : Pages
   pub frame : Frame
@@ -75,16 +76,16 @@ pub record IsUnfitDomain (sizes : List ℕ) (image : Image) (why : Unfit) : Type
   pub domain : HasDomain sizes image
   pub unfit : HasUnfitCause domain.pages domain.frame why
 
--- an image may be attached as these filesets with this anchor: it means them, at none of its places is
--- it seen first that there is no domain, it has no cause why it is not attached, and what is recovered
--- of it has that anchor and no group, so that nothing has to be settled
-pub record IsAttachable (sizes : List ℕ) (image : Image) (anchor : Anchor) (all : FilesetMap) : Type 0
-  where
-    pub means : Means sizes image all
-    pub is_domain : (vol at : ℕ) → ¬ IsNoDomain sizes image vol at
-    pub fits : (why : Unfit) → ¬ IsUnfitDomain sizes image why
-    pub rests : (found : Redone) → IsRecovered sizes image found
-        → HasNoGroups found × (found.anchor ≡ anchor)
+-- an image may be attached as these filesets with this anchor: it means them, at none of its places
+-- is it seen first that there is no domain, it has no cause why it is not attached, and what is
+-- recovered of it has that anchor and no group, so that nothing has to be settled
+pub record IsAttachable (sizes : List ℕ) (image : Image) (anchor : Anchor) (all : FilesetMap)
+    : Type 0 where
+  pub means : Means sizes image all
+  pub is_domain : (vol at : ℕ) → ¬ IsNoDomain sizes image vol at
+  pub fits : (why : Unfit) → ¬ IsUnfitDomain sizes image why
+  pub rests : (found : Redone) → IsRecovered sizes image found
+      → HasNoGroups found × (found.anchor ≡ anchor)
 
 -- ** What it is
 

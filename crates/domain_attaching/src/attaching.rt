@@ -1,5 +1,5 @@
 //! Attaching a domain.
-ghost use Rattle.std.specs.Prelude.{◌≡◌, IfErr, IfOk};
+ghost use Rattle.std.specs.Prelude.{IfErr, IfOk};
 ghost use Rattle.disk_label.specs.Fault.{HasPassed};
 ghost use Rattle.domain_layout.specs.Read.{Means};
 ghost use Rattle.fileset_model.specs.Filesets.{FilesetMap};
