@@ -31,7 +31,8 @@ impl DomainMemory {
     /// directories say their parents with it and books are theirs. The bits of its bitmaps say
     /// which pages are used, and what the change left to be let go of is on the list; slots, cells
     /// and tags that came free with it are free. It takes no memory, and the time of what the
-    /// change has changed.
+    /// change has changed, with a look through what waits to be let go of for each file that it
+    /// lists.
     pub fn keep(&mut self)
         requires staged { ∥ IsStagedForSome self.old ∥₁ }
         requires back { ∥ MayGoBack self.old ∥₁ }

@@ -80,8 +80,8 @@ TakesOfFiles group tag at space space_now old new slot = TakesOut group slot.fil
 abbrev pub MayBeKeptForAny : DomainMemory → Type 0
 MayBeKeptForAny memory = (all : FilesetMap) × MayBeKept memory all
 
--- of memory pages and free space change alone, and what the change has listed; what was kept of them
--- and of the list stays
+-- of memory pages and free space change alone, and what the change has listed; what was kept of
+-- them and of the list stays
 pub record TakesTag (old new : DomainMemory) : Type 0 where
   pub slots : new.slots.items ≡ old.slots.items
   pub before : before_of new.pages ≡ before_of old.pages

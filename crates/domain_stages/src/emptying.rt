@@ -1,6 +1,6 @@
 //! What is being removed from slots: tags of it that are taken out of use, and slots that come
 //! free.
-ghost use Rattle.std.specs.Prelude.{◌≡◌, ◌<◌, ◌≤◌, ◌⊎◌, ℕ, true, false, None, Contains, IfNone, IfOk, IfSome, IsSome, IsSomeAnd, MatchBool, OnErr, OnOk, length, slice_get, slice_set, []};
+ghost use Rattle.std.specs.Prelude.{◌≡◌, ◌<◌, ◌≤◌, ◌⊎◌, ℕ, true, false, None, Contains, IfNone, IfOk, IfSome, IsSomeAnd, MatchBool, OnErr, OnOk, length, slice_get, slice_set, []};
 ghost use Rattle.domain_base.specs.declared.place.Home.{Home as HomeOf};
 ghost use Rattle.domain_base.specs.declared.place.Tag.{Tag as TagOf};
 ghost use Rattle.bitfile_core.specs.Changes.{IsLive};
