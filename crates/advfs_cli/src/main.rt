@@ -1,4 +1,4 @@
-//! The program: runs scripts over new filesets, makes domains in images, and verifies these.
+//! The program: it runs scripts over new filesets, makes domains in images, and verifies images.
 #![tactic(auto)]
 
 use advfs_run::program;

@@ -1,4 +1,4 @@
-//! The program once more, run on the example script of an operator's day.
+//! The program again, run on the example script of an operator's day.
 #![tactic(auto)]
 
 use advfs_run::program;

@@ -1,4 +1,4 @@
-//! The program once more, run on a script with a bad line: it prints nothing, and ends with the
+//! The program again, run on a script with a bad line: it prints nothing, and ends with the
 //! number of that status.
 #![tactic(auto)]
 

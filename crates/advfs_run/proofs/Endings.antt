@@ -5,13 +5,13 @@ use Rattle.std.proofs.lemmas.List.{append-nil}
 use Rattle.std.proofs.lemmas.List.Elements.{All-nil}
 use Rattle.std.specs.Io.KnownBytes.{Appends}
 use Rattle.std.specs.List.{flat_map}
-use Rattle.domain_base.specs.declared.version.Version.{Version}
-use Rattle.volume_disk.specs.Disk.{Disk}
-use Rattle.fileset_model.specs.declared.entry.Entry.{Entry}
-use Rattle.history_text.specs.History.{history_text}
-use Rattle.script_text.specs.Turns.{turn_of, turns_of}
-use Rattle.script_text.specs.declared.script.Section.{Section}
-use Rattle.domain_runs.specs.Runs.{AreStampedWithin, BeginsNot, ClosesAs, WriteFailed}
+use Rattle.domain_attaching.specs.domain_base.declared.version.Version.{Version}
+use Rattle.domain_attaching.specs.volume_disk.Disk.{Disk}
+use Rattle.domain_attaching.specs.fileset_values.declared.entry.Entry.{Entry}
+use Rattle.run_parts.specs.script_text.History.{history_text}
+use Rattle.run_parts.specs.script_text.Turns.{turn_of, turns_of}
+use Rattle.run_parts.specs.script_text.declared.script.Section.{Section}
+use Rattle.advfs_run.specs.Runs.{AreStampedWithin, BeginsNot, ClosesAs, WriteFailed}
 use Rattle.run_parts.specs.Reading.{Follows, GetsNoScript, HasRead}
 use Rattle.run_parts.specs.Transfer.{AppendsFront}
 use Rattle.run_parts.proofs.Reading.{Follows-from_answers, IsNoLonger-from_short}

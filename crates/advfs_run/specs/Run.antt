@@ -1,16 +1,16 @@
 -- How a run ends, by what its words ask for.
 use Rattle.std.specs.Prelude.{◌≡◌, ◌≢◌, ◌⊎◌, ◌≤◌, ℕ, Option, Result, Ok, Err, List, []}
-use Rattle.domain_base.specs.Limits.{min_first_volume_pages}
-use Rattle.domain_base.specs.declared.version.Version.TheVariants.{Four}
-use Rattle.volume_disk.specs.Disk.{Disk, Tells, volume_pages}
-use Rattle.volume_disk.specs.Run.{LeavesOnly, OnlyReads, Touches}
-use Rattle.fileset_model.specs.declared.entry.Entry.{Entry}
-use Rattle.history_text.specs.History.{history_text}
-use Rattle.domain_making.specs.Making.{AreSlotsReady, IsNoneOrEmpty, IsOnFirst, pages_in_use}
-use Rattle.script_text.specs.declared.script.Script.{Script}
-use Rattle.script_text.specs.declared.script.Section.{Section}
-use Rattle.domain_runs.specs.Settling.{StaysReadSince}
-use Rattle.domain_runs.specs.Runs.{BeginsNot, HasFailed, LeadsFromNew, MakesNone, RunsFrom, WriteFailed, WritesPassed}
+use Rattle.domain_attaching.specs.domain_base.Limits.{min_first_volume_pages}
+use Rattle.domain_attaching.specs.domain_base.declared.version.Version.TheVariants.{Four}
+use Rattle.domain_attaching.specs.volume_disk.Disk.{Disk, Tells, volume_pages}
+use Rattle.domain_attaching.specs.volume_disk.Run.{LeavesOnly, OnlyReads, Touches}
+use Rattle.domain_attaching.specs.fileset_values.declared.entry.Entry.{Entry}
+use Rattle.run_parts.specs.script_text.History.{history_text}
+use Rattle.domain_attaching.specs.domain_making.Making.{AreSlotsReady, IsNoneOrEmpty, IsOnFirst, pages_in_use}
+use Rattle.run_parts.specs.script_text.declared.script.Script.{Script}
+use Rattle.run_parts.specs.script_text.declared.script.Section.{Section}
+use Rattle.domain_attaching.specs.Settling.{StaysReadSince}
+use Rattle.advfs_run.specs.Runs.{BeginsNot, HasFailed, LeadsFromNew, MakesNone, RunsFrom, WriteFailed, WritesPassed}
 use Rattle.run_parts.specs.Answering.{SameByNumber}
 use Rattle.run_parts.specs.Made.{MakeEnds}
 use Rattle.run_parts.specs.Reading.{HasRead, IsScript}

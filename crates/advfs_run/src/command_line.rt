@@ -1,5 +1,5 @@
 //! The program around `run`: its words, the rack that they ask for, standard input and output, and
-//! the number with which it ends.
+//! the exit number.
 ghost use Rattle.std.specs.Prelude.{◌≡◌, ◌⊎◌, ℕ, false, [], ◌∷◌, IfOk, List, Ok, map, length, string_bytes};
 ghost use Rattle.run_parts.specs.Usage.{FitsForm, form_of};
 ghost use Rattle.run_parts.specs.declared.words.Form.TheVariants.{Run, Try};
@@ -7,18 +7,17 @@ ghost use Rattle.std.specs.Process.{exit_status};
 ghost use Rattle.memory_disk.specs.Memory.{memory_disk, started};
 ghost use Rattle.run_parts.specs.Exit.{exit_number};
 ghost use Rattle.run_parts.specs.declared.status.Status.{Status as StatusOf};
-ghost use Rattle.file_rack.specs.Files.{file_disk};
+ghost use Rattle.memory_disk.specs.Files.{file_disk};
 
+use crate::NoGate;
 use crate::running::run;
-use domain_base::OutOfMemory;
-use domain_base::limits::PAGE_BYTES;
-use domain_runs::NoGate;
-use file_rack::FileRack;
-use memory_disk::MemoryRack;
+use domain_attaching::OutOfMemory;
+use domain_attaching::limits::PAGE_BYTES;
+use memory_disk::{FileRack, MemoryRack};
 use run_parts::{
-    Form, HELP, ReaderSource, Source, Status, VERSION, WriterSink, form_asked, write_all, zeros,
+    Form, HELP, ReaderSource, ScriptFault, Source, Status, VERSION, WriterSink, form_asked,
+    write_all, zeros,
 };
-use script_text::ScriptFault;
 use std::alloc::Global;
 use std::env::FillError;
 use std::fs::{File, OpenOptions};
@@ -26,10 +25,10 @@ use std::process::ExitCode;
 use std::rt::{Env, Files};
 use std::{io, str};
 
-/// The bytes that a word of the command line may have.
+/// How many bytes a word of the command line may have at most.
 const WORD_BYTES: usize = 131_072;
 
-/// The words after the program's name. One that is no text, or too long for any form, is given as
+/// The words after the program's name. A word that is not UTF-8, or too long for any form, becomes
 /// an empty word, which no form has.
 fn words_given(rt: &impl Env, alloc: Global) -> Result<Vec<String>, OutOfMemory> {
     let mut buffer = zeros(alloc, WORD_BYTES)?;
@@ -55,8 +54,8 @@ fn text_asked(words: &[String]) -> Option<&'static str> {
     }
 }
 
-/// A new rack in memory with one volume of so many pages. Nothing is pending and nothing counted on
-/// it, and no call of it fails.
+/// A new rack in memory with one volume of `pages` pages of 8,192 bytes. Nothing is pending on it,
+/// no call has been counted yet, and no call fails. An error is returned only if memory runs out.
 pub fn new_rack(alloc: Global, pages: u32) -> Result<MemoryRack, OutOfMemory>
     ensures { IfOk result (λ rack. memory_disk rack
         ≡ started (pages ∷ []) (λ _ _. 0) [] false) }
@@ -68,11 +67,11 @@ pub fn new_rack(alloc: Global, pages: u32) -> Result<MemoryRack, OutOfMemory>
 enum Outcome {
     /// A run ended.
     Ended(Status),
-    /// The file could not be opened that stands behind so many words.
+    /// The file that is named after `word` words could not be opened.
     Closed { word: usize, error: io::Error },
 }
 
-/// A rack whose volume is a file, of which the whole pages count.
+/// A rack whose volume is a file. Only the whole pages of the file count.
 fn rack_of(alloc: Global, file: File) -> io::Result<FileRack>
     ensures { IfOk result (λ rack. length (file_disk rack).sizes ≡ 1) }
 {
@@ -81,7 +80,7 @@ fn rack_of(alloc: Global, file: File) -> io::Result<FileRack>
     Ok(FileRack::new(vec![in alloc; file]?, vec![in alloc; pages]?))
 }
 
-/// Opens an image, to be written but where it is only verified.
+/// Opens an image: for reading and writing, or for reading alone if it is only verified.
 fn open_image(
     rt: &impl Files<File = File>,
     alloc: Global,
@@ -95,7 +94,7 @@ fn open_image(
     rack_of(alloc, file)
 }
 
-/// The word behind so many others, or an empty one.
+/// The word after `word` others, or an empty one if there are no more.
 fn word_at(words: &[String], word: usize) -> &str {
     match words.get(word) {
         Some(name) => name.as_str(),
@@ -127,7 +126,8 @@ fn start_on_image<S: Source>(
 /// The word that names the script of `run`.
 const SCRIPT_WORD: usize = 1;
 
-/// Runs a script over an image: one in a file, or of standard input where its name is a hyphen.
+/// Runs a script over an image. The script is read from a file, or from standard input if its name
+/// is a hyphen.
 fn start_script(
     rt: &(impl Input + Print + Files<File = File>),
     alloc: Global,
@@ -151,7 +151,7 @@ fn start_script(
     start_on_image(rt, alloc, words, Form::Run, &mut source)
 }
 
-/// Runs a script of standard input over a new domain in memory, on a volume of so many pages.
+/// Runs a script from standard input over a new domain in memory, on a volume of `pages` pages.
 fn start_new(
     rt: &(impl Input + Print),
     alloc: Global,
@@ -193,18 +193,18 @@ fn print_text(rt: &impl Print, text: &str) -> Status {
     }
 }
 
-/// The number of the status, with which the program ends.
+/// The exit code with which the program ends for a status.
 pub fn exit_code(status: Status) -> ExitCode
     ensures { exit_status result ≡ exit_number status }
 {
     ExitCode::from(status.exit_number())
 }
 
-/// The number with which the program ends where a file could not be opened.
+/// The exit number if a file could not be opened.
 const CLOSED: u8 = 12;
 
-/// Tells on standard error how a run ended, where it did not end well, and of a bad script what its
-/// numbers mean.
+/// Tells on standard error how a run ended, unless it ended well. For a bad script it also tells
+/// what the numbers mean.
 fn tell(rt: &impl Eprint, status: Status) -> io::Result<()> {
     match status {
         Status::Ok => Ok(()),
@@ -221,8 +221,8 @@ fn tell_closed(rt: &impl Eprint, name: &str, error: &io::Error) -> io::Result<()
     eprintln!(rt; "advfs: {name} cannot be opened: {error}")
 }
 
-/// The whole program, with the number with which it ends: that of a status, or 12 where a script or
-/// an image could not be opened that the words name.
+/// The whole program. It ends with the number of a status, or with 12 if a script or an image that
+/// the words name could not be opened.
 pub fn program(
     rt: &(impl Env + Input + Print + Eprint + Files<File = File>),
     alloc: Global,

@@ -1,16 +1,16 @@
-//! The whole of a run: the words, the script, its commands over a domain, and the printing; a
-//! domain that is made; and an image that is verified.
+//! The whole of a run: the words, the script, its commands over a domain, and the printing. Also
+//! the making of a domain, and the verifying of an image.
 ghost use Rattle.std.specs.Prelude.{◌≡◌, ◌≢◌, ◌≤◌, ℕ, [], List, All, Err, IfErr, IfOk, MatchResult, Ok, flat_map, map, string_bytes};
 ghost use Rattle.std.specs.Io.KnownBytes.{Appends, Consumes};
-ghost use Rattle.domain_base.specs.Counts.{HasRisen};
-ghost use Rattle.history_text.specs.History.{history_text};
-ghost use Rattle.script_text.specs.Turns.{turn_of, turns_of};
-ghost use Rattle.domain_runs.specs.Ending.{IsServed};
-ghost use Rattle.domain_runs.specs.Quiet.{TellNoFault};
+ghost use Rattle.domain_attaching.specs.domain_base.Counts.{HasRisen};
+ghost use Rattle.run_parts.specs.script_text.History.{history_text};
+ghost use Rattle.run_parts.specs.script_text.Turns.{turn_of, turns_of};
+ghost use Rattle.client_commands.specs.name_commands.Ending.{IsServed};
+ghost use Rattle.advfs_run.specs.Quiet.{TellNoFault};
 ghost use Rattle.run_parts.specs.Reading.{GetsNoScript, HasRead};
 ghost use Rattle.run_parts.specs.Transfer.{AppendsFront};
 ghost use Rattle.run_parts.specs.Usage.{FitsForm, form_of};
-ghost use Rattle.domain_runs.specs.Runs.{AreStampedWithin, ClosesAs};
+ghost use Rattle.advfs_run.specs.Runs.{AreStampedWithin, ClosesAs};
 ghost use Rattle.advfs_run.specs.Run.{
   EndsFor,
   HasReadFor,
@@ -32,17 +32,15 @@ ghost use Rattle.advfs_run.specs.Run.{
   VerifyEndsFor,
 };
 
-use domain_base::Version;
-use domain_runs::{Gate, Ran, run_new, run_on};
-use fileset_model::Entry;
+use crate::{Gate, Ran, run_new, run_on};
+use domain_attaching::{Entry, Rack, Version};
 use run_parts::{
-    Form, Sink, Source, Status, form_asked, in_order, make, print_history, take_script, verify,
+    Form, Section, Sink, Source, Status, form_asked, in_order, make, print_history, take_script,
+    verify,
 };
-use script_text::Section;
 use std::alloc::Global;
-use volume_disk::Rack;
 
-/// How a run ended, with the rack that it was given and the history of its commands.
+/// How a run ended: its status, the rack that it was given, and the history of its commands.
 #[derive(Drop)]
 pub struct Ended<R> {
     pub status: Status,
@@ -51,7 +49,7 @@ pub struct Ended<R> {
 }
 
 impl<R> Ended<R> {
-    /// The end of one in which no command was answered.
+    /// The end of a run in which no command was answered.
     fn unanswered(alloc: Global, status: Status, rack: R) -> Ended<R>
         ensures status { result.status ≡ status }
         ensures rack { result.rack ≡ rack }
@@ -82,7 +80,7 @@ fn take_sections<S: Source>(alloc: Global, source: &mut S) -> Result<Vec<Section
     Ok(sections)
 }
 
-/// Answers the commands of sections over a new domain, or over the one that the rack has.
+/// Answers the commands of sections over a new domain, or over the domain that the rack holds.
 fn answer<R: Rack, G: Gate>(
     alloc: Global,
     form: Form,
@@ -136,8 +134,8 @@ fn print_ran<R: Rack, K: Sink>(alloc: Global, ran: Ran<R>, sink: &mut K) -> Ende
     }
 }
 
-/// Reads a script, answers its commands over a new domain or the one that the rack has, and prints
-/// the history.
+/// Reads a script, answers its commands over a new domain or the domain that the rack holds, and
+/// prints the history.
 fn run_script<S: Source, R: Rack, K: Sink, G: Gate>(
     alloc: Global,
     form: Form,
@@ -182,10 +180,10 @@ fn run_script<S: Source, R: Rack, K: Sink, G: Gate>(
 
 /// Does what the words ask for. `try` and `run` read a script, answer each of its commands over a
 /// domain, and print the history: `try` over a new domain of version 4 that is made on the rack's
-/// volume, `run` over the domain that the rack has. The domain is closed ahead of the printing. The
-/// gate is passed before each turn of a client and after its last, with the client's number less
-/// one. `mkfdmn` makes an empty domain on the rack's volume, and prints nothing. `verify` prints
-/// the faults of the domain there, which it only reads.
+/// volume, `run` over the domain that the rack has. The domain is closed before the history is
+/// printed. The gate is passed before each turn of a client and after its last, with the client's
+/// number less one. `mkfdmn` makes an empty domain on the rack's volume and prints nothing.
+/// `verify` prints the faults of the domain on the rack, and writes nothing to it.
 pub fn run<S: Source, R: Rack + Send, K: Sink, G: Gate + Sync>(
     alloc: Global,
     words: &[String],
@@ -196,12 +194,12 @@ pub fn run<S: Source, R: Rack + Send, K: Sink, G: Gate + Sync>(
 ) -> Ended<R>
     requires { IfOk (form_of (map string_bytes words.now)) (FitsForm (R.disk rack).sizes) }
 
-    // What was read, and that the history has each command of the script once, in order.
+    // What was read. The history has each command of the script once, in order.
     ensures read { (read : List ℕ) × Consumes (S.left script.old) (S.left script.new) read
         × HasReadFor (form_of (map string_bytes words.now)) (S.left script.new) read
         result.status result.history.items }
 
-    // The history is legal, from what the rack had to what it has.
+    // The history is legal: it leads from what the rack held to what it holds.
     ensures legal { RunsFor (form_of (map string_bytes words.now)) (R.disk rack)
         (R.disk result.rack) result.status result.history.items }
     ensures stamps { AreStampedWithin (R.disk rack) (R.disk result.rack) result.history.items }
@@ -209,13 +207,13 @@ pub fn run<S: Source, R: Rack + Send, K: Sink, G: Gate + Sync>(
     // No reply tells of a volume: no command is answered as if a call of a device had failed.
     ensures quiet { TellNoFault result.history.items }
 
-    // The text that is printed of a history.
+    // The text that is printed for a history.
     ensures printed { IsTold (form_of (map string_bytes words.now)) result.status
         → Appends (K.held sink.old) (K.held sink.new) (history_text result.history.items) }
     ensures printed_front { PrintsFor (form_of (map string_bytes words.now))
         (K.held sink.old) (K.held sink.new) result.history.items }
 
-    // The faults that are printed of an image, and the domain that is made.
+    // The faults that are printed for an image, and the domain that is made.
     ensures verified { VerifyEndsFor (form_of (map string_bytes words.now)) (R.disk rack)
         (R.disk result.rack) result.status (K.held sink.old) (K.held sink.new) }
     ensures made { MakeEndsFor (form_of (map string_bytes words.now)) (R.disk rack)

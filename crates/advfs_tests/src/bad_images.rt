@@ -4,7 +4,7 @@ use crate::images::{
     zero_image,
 };
 use crate::rows::FRONT;
-use domain_base::limits::PAGE_BYTES;
+use advfs_run::limits::PAGE_BYTES;
 use std::alloc::Global;
 use std::test::Fail;
 

@@ -1,7 +1,7 @@
 //! How many pages of an image a command changes, however large its file or directory is.
 use crate::images::{Image, MAKE, bytes_of, calls_of, run_on, run_script, zero_image};
 use crate::rows::FRONT;
-use domain_base::limits::PAGE_BYTES;
+use advfs_run::limits::PAGE_BYTES;
 use std::alloc::Global;
 use std::test::Fail;
 

@@ -1,5 +1,4 @@
-use advfs_run::{PrintError, ReadError, Status, Unattached};
-use script_text::{FaultKind, ScriptFault};
+use advfs_run::{FaultKind, PrintError, ReadError, ScriptFault, Status, Unattached};
 use std::test::Fail;
 
 static KINDS: [(FaultKind, &str); 8] = [

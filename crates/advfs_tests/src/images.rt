@@ -1,16 +1,15 @@
 //! Images in which domains are made, and that are verified.
 ghost use Rattle.std.specs.Prelude.{◌≡◌, length, true};
-ghost use Rattle.memory_disk.specs.Memory.{memory_disk};
-ghost use Rattle.volume_disk.specs.Disk.{AreBlocks};
+ghost use Rattle.advfs_run.specs.memory_disk.Memory.{memory_disk};
+ghost use Rattle.advfs_run.specs.volume_disk.Disk.{AreBlocks};
 
 use crate::outcome::{told, words_of};
-use advfs_run::{Ended, Form, MemorySink, MemorySource, NoGate, form_asked, run};
-use domain_base::VolIx;
-use domain_base::limits::PAGE_BYTES;
-use memory_disk::MemoryRack;
+use advfs_run::limits::PAGE_BYTES;
+use advfs_run::{
+    Ended, Form, MemoryRack, MemorySink, MemorySource, NoGate, Rack, VolIx, form_asked, run,
+};
 use std::alloc::{AllocError, Global};
 use std::test::Fail;
-use volume_disk::Rack;
 
 /// A rack of one volume.
 #[derive(Drop)]

@@ -1,9 +1,7 @@
 //! Scripts over new domains and over filesets without volumes: what the plain program for these
 //! answers is printed.
 use crate::rows::{outcome_of, script_of};
-use fileset_model::{Actor, Command, Entry, Filesets};
-use plain_filesets::apply;
-use script_text::{Section, history_line, read_script};
+use advfs_run::{Actor, Command, Entry, Filesets, Section, apply, history_line, read_script};
 use std::alloc::Global;
 use std::test::Fail;
 

@@ -1,10 +1,11 @@
 //! One run over sources and sinks in memory, and how it comes out.
 
 ghost use Rattle.std.specs.Prelude.{◌∷◌, [], IfOk};
-ghost use Rattle.run_parts.specs.Usage.{FitsForm};
+ghost use Rattle.advfs_run.specs.run_parts.Usage.{FitsForm};
 
-use advfs_run::{Ended, Form, Gate, MemorySink, MemorySource, NoGate, form_asked, new_rack, run};
-use memory_disk::MemoryRack;
+use advfs_run::{
+    Ended, Form, Gate, MemoryRack, MemorySink, MemorySource, NoGate, form_asked, new_rack, run,
+};
 use std::alloc::{AllocError, Global};
 
 /// What a run is given, and how it comes out: a line with the status and the exit number, and then

@@ -1,20 +1,20 @@
 -- What is looked for, and the layout in which it is found.
 use Rattle.std.proofs.Common.{◌≡◌, ◌<◌, ℕ, Bool, true, false, Option, Some, None, slice_get, refl, sym, subst, arith}
 use mathlib.Core.Bool.{false≢true}
-use Rattle.page_store.specs.Pages.{Pages}
-use Rattle.cell_links.specs.declared.links.CellLinks.{CellLinks}
-use Rattle.chain_faults.specs.Links.{AreLinks}
-use Rattle.fileset_table.specs.Table.{IsTable, Table}
-use Rattle.fileset_table.specs.declared.slot.SlotItem.{SlotItem}
-use Rattle.domain_layout.proofs.NoTables.{none_of_tables}
-use Rattle.domain_layout.specs.CellRules.{of_clone}
-use Rattle.domain_layout.specs.Faults.{HasNoFault, HasNoTablesFault}
-use Rattle.domain_layout.specs.Layout.{Layout}
-use Rattle.domain_layout.specs.Owners.{frame_of}
-use Rattle.domain_layout.specs.Reached.{Frame}
-use Rattle.filesets_reading.specs.declared.tables.DomainTables.{DomainTables}
-use Rattle.filesets_reading.proofs.Ways.{within_of}
-use Rattle.fileset_shapes.specs.Shapes.{IsDomain}
+use Rattle.no_faults.specs.page_store.Pages.{Pages}
+use Rattle.no_faults.specs.cell_chains.declared.links.CellLinks.{CellLinks}
+use Rattle.no_faults.specs.cell_faults.Links.{AreLinks}
+use Rattle.no_faults.specs.fileset_table.Table.{IsTable, Table}
+use Rattle.no_faults.specs.fileset_table.declared.slot.SlotItem.{SlotItem}
+use Rattle.no_faults.proofs.OfDomainLayout.NoTables.{none_of_tables}
+use Rattle.no_faults.specs.domain_layout.CellRules.{of_clone}
+use Rattle.no_faults.specs.domain_layout.Faults.{HasNoFault, HasNoTablesFault}
+use Rattle.no_faults.specs.domain_layout.Layout.{Layout}
+use Rattle.no_faults.specs.domain_layout.Owners.{frame_of}
+use Rattle.no_faults.specs.domain_layout.Reached.{Frame}
+use Rattle.no_faults.specs.filesets_reading.declared.tables.DomainTables.{DomainTables}
+use Rattle.no_faults.proofs.OfFilesetsReading.Ways.{within_of}
+use Rattle.no_faults.specs.fileset_shapes.Shapes.{IsDomain}
 use Rattle.attached_domain.specs.Causes.{HasCause, HasClone, HasSign, IsCause}
 use Rattle.attached_domain.specs.Signs.{ItemSays, SlotSays}
 use Rattle.attached_domain.specs.declared.signs.Sign.{Sign}

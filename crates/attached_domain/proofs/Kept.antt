@@ -3,21 +3,21 @@ use Rattle.std.proofs.Common.{◌≡◌, ◌∙◌, ℕ, Bool, true, false, cond
 use Rattle.std.proofs.lemmas.Bool.{eq-eqb, eqb-true}
 use Rattle.std.specs.Option.{option_and_then, option_map, option_map_or}
 use Rattle.std.specs.Prelude.{◌&&◌, not}
-use Rattle.domain_base.specs.Limits.{file_pages}
-use Rattle.domain_base.specs.declared.place.CellAt.{CellAt}
-use Rattle.domain_base.specs.declared.place.Kind.TheVariants.{Directory, File}
-use Rattle.page_store.specs.Pages.{Pages}
-use Rattle.record_table.specs.declared.record.Record.{Record}
-use Rattle.record_table.specs.declared.record.Record.TheVariants as written
-use Rattle.bmt_mcells.specs.Cell.{Cell, record_of}
-use Rattle.bmt_mcells.specs.Chain.{LinksFrom, PlacedCell, StandsAt}
-use Rattle.extent_maps.specs.Runs.{home_at}
-use Rattle.extent_records.specs.Writing.{places_before}
-use Rattle.bitfile_cells.specs.Files.{places_of}
-use Rattle.bitfile_core.specs.Files.{attributes_in, attributes_of, first_record, is_removed, keep_in, keep_of}
-use Rattle.bitfile_core.specs.declared.attributes.Attributes.{Attributes}
-use Rattle.domain_layout.specs.Seen.{SeenFile, kept_by, seen_in}
-use Rattle.layout_laws.proofs.OnePage.{some_same}
+use Rattle.no_faults.specs.domain_base.Limits.{file_pages}
+use Rattle.no_faults.specs.domain_base.declared.place.CellAt.{CellAt}
+use Rattle.no_faults.specs.domain_base.declared.place.Kind.TheVariants.{Directory, File}
+use Rattle.no_faults.specs.page_store.Pages.{Pages}
+use Rattle.no_faults.specs.cell_records.declared.record.Record.{Record}
+use Rattle.no_faults.specs.cell_records.declared.record.Record.TheVariants as written
+use Rattle.no_faults.specs.metadata_cells.Cell.{Cell, record_of}
+use Rattle.no_faults.specs.metadata_cells.Chain.{LinksFrom, PlacedCell, StandsAt}
+use Rattle.no_faults.specs.extent_maps.Runs.{home_at}
+use Rattle.no_faults.specs.extent_records.Writing.{places_before}
+use Rattle.no_faults.specs.file_chains.Files.{places_of}
+use Rattle.no_faults.specs.fileset_files.Files.{attributes_in, attributes_of, first_record, is_removed, keep_in, keep_of}
+use Rattle.no_faults.specs.fileset_files.declared.attributes.Attributes.{Attributes}
+use Rattle.no_faults.specs.domain_layout.Seen.{SeenFile, kept_by, seen_in}
+use Rattle.no_faults.proofs.OfDomainLayout.OnePage.{some_same}
 use Rattle.attached_domain.specs.Signs.{say_cut, says_cut}
 
 none_some : {X : Type 0} {P : Type 0} (x : X) → None ≡ Some x → P

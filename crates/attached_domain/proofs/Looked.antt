@@ -3,22 +3,22 @@ use Rattle.std.proofs.Common.{◌≡◌, ◌∙◌, ◌↔◌, ℕ, ◌+◌, ◌
 use Rattle.std.proofs.lemmas.Bool.{cases_lt}
 use mathlib.Core.Bool.{false≢true}
 use Rattle.std.proofs.lemmas.Option.{slice_get_cases}
-use Rattle.domain_base.specs.declared.place.Home.{Home}
-use Rattle.domain_base.specs.declared.place.Tag.{Tag}
-use Rattle.page_store.specs.Pages.{Pages}
-use Rattle.tag_dirs.specs.Directory.{IsDirectory}
-use Rattle.tag_dirs.specs.declared.dir.TagPlace.{TagPlace}
-use Rattle.fileset_table.specs.Page.{IsTablePage}
-use Rattle.fileset_table.specs.Table.{IsTable}
-use Rattle.fileset_table.specs.declared.slot.SlotItem.{SlotItem}
-use Rattle.domain_layout.specs.Layout.{AreTagPlaces, IsLayout, Layout, first_tag_of}
-use Rattle.domain_layout.specs.Reached.{Frame}
-use Rattle.layout_laws.proofs.OnePage.{one_of, some_same}
-use Rattle.filesets_reading.specs.Tables.{AreTablesOf}
-use Rattle.filesets_reading.specs.declared.tables.DomainTables.{DomainTables}
-use Rattle.filesets_reading.proofs.Ways.{within_of}
-use Rattle.fileset_shapes.specs.Tags.{IsUsed, ListsOnce}
-use Rattle.row_paths.proofs.AllLed.{at_contains}
+use Rattle.no_faults.specs.domain_base.declared.place.Home.{Home}
+use Rattle.no_faults.specs.domain_base.declared.place.Tag.{Tag}
+use Rattle.no_faults.specs.page_store.Pages.{Pages}
+use Rattle.no_faults.specs.tag_dirs.Directory.{IsDirectory}
+use Rattle.no_faults.specs.tag_dirs.declared.dir.TagPlace.{TagPlace}
+use Rattle.no_faults.specs.fileset_table.Page.{IsTablePage}
+use Rattle.no_faults.specs.fileset_table.Table.{IsTable}
+use Rattle.no_faults.specs.fileset_table.declared.slot.SlotItem.{SlotItem}
+use Rattle.no_faults.specs.domain_layout.Layout.{AreTagPlaces, IsLayout, Layout, first_tag_of}
+use Rattle.no_faults.specs.domain_layout.Reached.{Frame}
+use Rattle.no_faults.proofs.OfDomainLayout.OnePage.{one_of, some_same}
+use Rattle.no_faults.specs.filesets_reading.Tables.{AreTablesOf}
+use Rattle.no_faults.specs.filesets_reading.declared.tables.DomainTables.{DomainTables}
+use Rattle.no_faults.proofs.OfFilesetsReading.Ways.{within_of}
+use Rattle.no_faults.specs.fileset_shapes.Tags.{IsUsed, ListsOnce}
+use Rattle.no_faults.proofs.OfDirectoryRows.AllLed.{at_contains}
 use Rattle.attached_domain.specs.Signs.{IsSaidIn, ItemSays, LeadsSo, SlotSays, TagSays, asks}
 use Rattle.attached_domain.specs.declared.signs.Sign.{Sign}
 

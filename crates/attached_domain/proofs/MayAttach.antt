@@ -1,40 +1,40 @@
 -- Pages in which all is found so that no rule asks may be attached.
 use Rattle.std.proofs.Common.{◌≡◌, ◌∙◌, ℕ, ◌<◌, ◌≤◌, Bool, true, false, List, [], Option, Some, None, length, slice_get, refl, sym, ap, subst, arith, ⊎_elim}
 use Rattle.std.proofs.lemmas.Option.{slice_get_cases}
-use Rattle.domain_base.specs.Limits.{file_pages}
-use Rattle.domain_base.specs.Version.{most_pages}
-use Rattle.domain_base.specs.declared.place.CellAt.{CellAt}
-use Rattle.domain_base.specs.declared.place.Home.{Home}
-use Rattle.domain_base.specs.declared.place.Kind.TheVariants.{Directory}
-use Rattle.domain_base.specs.declared.place.Tag.{Tag}
-use Rattle.page_store.specs.Pages.{Pages}
-use Rattle.bmt_mcells.specs.Cell.{Cell}
-use Rattle.bmt_mcells.specs.Chain.{LinksFrom, PlacedCell, StandsAt}
-use Rattle.tag_dirs.specs.Directory.{IsDirectoryAt, cell_of}
-use Rattle.tag_dirs.specs.declared.dir.TagPlace.{TagPlace}
-use Rattle.tag_dirs.proofs.Reading.{same_directory}
-use Rattle.bitfile_core.specs.Files.{keep_of}
-use Rattle.fileset_table.specs.Table.{Table}
-use Rattle.fileset_table.specs.declared.slot.FilesetEntry.{FilesetEntry}
-use Rattle.fileset_table.specs.declared.slot.SlotItem.{SlotItem}
-use Rattle.fileset_table.specs.declared.slot.SlotItem.TheVariants as slot
-use Rattle.log_recovery.specs.Range.{IsLogInside}
-use Rattle.log_ring.specs.Homes.{IsMember, member_of}
-use Rattle.attached_list.specs.Marks.{HasBitmaps}
-use Rattle.attached_list.specs.Keeping.{KeepDirectories}
-use Rattle.domain_layout.specs.CellRules.{of_clone}
-use Rattle.domain_layout.specs.DirectoryRules.{Has, IsInItem, IsInOriginal}
-use Rattle.domain_layout.specs.Layout.{AreTagPlaces, IsLayout, Layout, first_tag_of}
-use Rattle.domain_layout.specs.Reached.{Frame, IsWithin}
-use Rattle.domain_layout.specs.Seen.{SeenFile}
-use Rattle.layout_laws.proofs.OnePage.{one_of, some_same}
-use Rattle.filesets_reading.specs.Tables.{AreTablesOf}
-use Rattle.filesets_reading.specs.declared.tables.DomainTables.{DomainTables}
-use Rattle.fileset_shapes.specs.Files.{IsWhole}
-use Rattle.fileset_shapes.specs.Shapes.{IsDomain}
-use Rattle.fileset_shapes.proofs.SeenShapes.{whole}
-use Rattle.attached_list.specs.Attached.{TagsStay}
-use Rattle.attached_memory.specs.Read.{MayBeAttached}
+use Rattle.no_faults.specs.domain_base.Limits.{file_pages}
+use Rattle.no_faults.specs.domain_base.Version.{most_pages}
+use Rattle.no_faults.specs.domain_base.declared.place.CellAt.{CellAt}
+use Rattle.no_faults.specs.domain_base.declared.place.Home.{Home}
+use Rattle.no_faults.specs.domain_base.declared.place.Kind.TheVariants.{Directory}
+use Rattle.no_faults.specs.domain_base.declared.place.Tag.{Tag}
+use Rattle.no_faults.specs.page_store.Pages.{Pages}
+use Rattle.no_faults.specs.metadata_cells.Cell.{Cell}
+use Rattle.no_faults.specs.metadata_cells.Chain.{LinksFrom, PlacedCell, StandsAt}
+use Rattle.no_faults.specs.tag_dirs.Directory.{IsDirectoryAt, cell_of}
+use Rattle.no_faults.specs.tag_dirs.declared.dir.TagPlace.{TagPlace}
+use Rattle.no_faults.proofs.OfTagDirs.Reading.{same_directory}
+use Rattle.no_faults.specs.fileset_files.Files.{keep_of}
+use Rattle.no_faults.specs.fileset_table.Table.{Table}
+use Rattle.no_faults.specs.fileset_table.declared.slot.FilesetEntry.{FilesetEntry}
+use Rattle.no_faults.specs.fileset_table.declared.slot.SlotItem.{SlotItem}
+use Rattle.no_faults.specs.fileset_table.declared.slot.SlotItem.TheVariants as slot
+use Rattle.no_faults.specs.log_recovery.Range.{IsLogInside}
+use Rattle.no_faults.specs.log_ring.Homes.{IsMember, member_of}
+use Rattle.no_faults.specs.domain_standing.Marks.{HasBitmaps}
+use Rattle.no_faults.specs.domain_standing.Keeping.{KeepDirectories}
+use Rattle.no_faults.specs.domain_layout.CellRules.{of_clone}
+use Rattle.no_faults.specs.domain_layout.DirectoryRules.{Has, IsInItem, IsInOriginal}
+use Rattle.no_faults.specs.domain_layout.Layout.{AreTagPlaces, IsLayout, Layout, first_tag_of}
+use Rattle.no_faults.specs.domain_layout.Reached.{Frame, IsWithin}
+use Rattle.no_faults.specs.domain_layout.Seen.{SeenFile}
+use Rattle.no_faults.proofs.OfDomainLayout.OnePage.{one_of, some_same}
+use Rattle.no_faults.specs.filesets_reading.Tables.{AreTablesOf}
+use Rattle.no_faults.specs.filesets_reading.declared.tables.DomainTables.{DomainTables}
+use Rattle.no_faults.specs.fileset_shapes.Files.{IsWhole}
+use Rattle.no_faults.specs.fileset_shapes.Shapes.{IsDomain}
+use Rattle.no_faults.proofs.OfFilesetShapes.SeenShapes.{whole}
+use Rattle.no_faults.specs.Attached.{TagsStay}
+use Rattle.attached_domain.specs.Read.{MayBeAttached}
 use Rattle.attached_domain.specs.Causes.{MayBeRead}
 use Rattle.attached_domain.specs.Fits.{Fits}
 use Rattle.attached_domain.specs.Signs.{SlotSays, asks, say}

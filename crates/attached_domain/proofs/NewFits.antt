@@ -1,27 +1,27 @@
 -- The rules read nothing of a domain that was just made for which it is not attached.
 use Rattle.std.proofs.Common.{◌≡◌, ◌∙◌, ℕ, false, Option, Some, None, IsSomeAnd, slice_get, refl, sym, ap, subst}
 use Rattle.std.specs.Option.{option_and_then}
-use Rattle.domain_base.specs.declared.place.CellAt.{CellAt}
-use Rattle.domain_base.specs.declared.place.Home.{Home}
-use Rattle.domain_base.specs.declared.place.Tag.{Tag}
-use Rattle.page_store.specs.Pages.{Pages}
-use Rattle.bmt_mcells.specs.Cell.{Cell}
-use Rattle.bmt_mcells.specs.declared.head.CellKind.TheVariants.{Primary, Volume}
-use Rattle.fileset_table.specs.Page.{IsTablePage}
-use Rattle.fileset_table.specs.Table.{IsNewTable, Table}
-use Rattle.fileset_table.specs.declared.slot.SlotItem.{SlotItem}
-use Rattle.fileset_table.specs.declared.slot.SlotItem.TheVariants as slot
-use Rattle.fileset_table.proofs.Unique.{table_unique}
-use Rattle.domain_layout.specs.CellRules.{IsUsed, of_clone}
-use Rattle.domain_layout.specs.Faults.{SaysTable}
-use Rattle.domain_layout.specs.Layout.{first_tag_of}
-use Rattle.domain_layout.specs.Reached.{Frame}
-use Rattle.domain_layout.specs.TagRules.{HasEntry, quota_of}
-use Rattle.layout_laws.specs.NewDomain.{IsNew, IsNewCells, IsNewTablePage, firsts, on_first}
-use Rattle.layout_laws.proofs.NewCells.{used_is}
-use Rattle.layout_laws.proofs.NewDomain.{cells}
-use Rattle.layout_laws.proofs.NewTags.{all_free}
-use Rattle.layout_laws.proofs.OnePage.{HasOne, one_of, some_same}
+use Rattle.no_faults.specs.domain_base.declared.place.CellAt.{CellAt}
+use Rattle.no_faults.specs.domain_base.declared.place.Home.{Home}
+use Rattle.no_faults.specs.domain_base.declared.place.Tag.{Tag}
+use Rattle.no_faults.specs.page_store.Pages.{Pages}
+use Rattle.no_faults.specs.metadata_cells.Cell.{Cell}
+use Rattle.no_faults.specs.metadata_cells.declared.head.CellKind.TheVariants.{Primary, Volume}
+use Rattle.no_faults.specs.fileset_table.Page.{IsTablePage}
+use Rattle.no_faults.specs.fileset_table.Table.{IsNewTable, Table}
+use Rattle.no_faults.specs.fileset_table.declared.slot.SlotItem.{SlotItem}
+use Rattle.no_faults.specs.fileset_table.declared.slot.SlotItem.TheVariants as slot
+use Rattle.no_faults.proofs.OfFilesetTable.Unique.{table_unique}
+use Rattle.no_faults.specs.domain_layout.CellRules.{IsUsed, of_clone}
+use Rattle.no_faults.specs.domain_layout.Faults.{SaysTable}
+use Rattle.no_faults.specs.domain_layout.Layout.{first_tag_of}
+use Rattle.no_faults.specs.domain_layout.Reached.{Frame}
+use Rattle.no_faults.specs.domain_layout.TagRules.{HasEntry, quota_of}
+use Rattle.no_faults.specs.domain_layout.NewDomain.{IsNew, IsNewCells, IsNewTablePage, firsts, on_first}
+use Rattle.no_faults.proofs.OfDomainLayout.NewCells.{used_is}
+use Rattle.no_faults.proofs.OfDomainLayout.NewDomain.{cells}
+use Rattle.no_faults.proofs.OfDomainLayout.NewTags.{all_free}
+use Rattle.no_faults.proofs.OfDomainLayout.OnePage.{HasOne, one_of, some_same}
 use Rattle.attached_domain.proofs.NoCause.{ReadsFit}
 
 none_some : {P X : Type 0} (x : X) → None ≡ Some x → P

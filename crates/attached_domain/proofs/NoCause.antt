@@ -1,30 +1,30 @@
 -- Where the rules read nothing of pages for which a domain is not attached, other pages that agree with them on tables have no cause.
 use Rattle.std.proofs.Common.{◌≡◌, ◌∙◌, ℕ, true, false, List, Option, Some, None, slice_get, refl, sym, ap}
 use mathlib.Core.Bool.{false≢true}
-use Rattle.domain_base.specs.declared.place.CellAt.{CellAt}
-use Rattle.domain_base.specs.declared.place.Home.{Home}
-use Rattle.domain_base.specs.declared.place.Tag.{Tag}
-use Rattle.page_store.specs.Pages.{Pages}
-use Rattle.bmt_mcells.specs.Cell.{Cell}
-use Rattle.bmt_mcells.specs.declared.head.CellKind.TheVariants.{Primary}
-use Rattle.tag_dirs.specs.Directory.{cell_of}
-use Rattle.tag_dirs.specs.declared.dir.TagPlace.{TagPlace}
-use Rattle.fileset_table.specs.Table.{Table}
-use Rattle.fileset_table.specs.declared.slot.FilesetEntry.{FilesetEntry}
-use Rattle.fileset_table.specs.declared.slot.SlotItem.{SlotItem}
-use Rattle.fileset_table.specs.declared.slot.SlotItem.TheVariants as slot
-use Rattle.domain_layout.specs.CellRules.{IsUsed, of_clone, say_removed}
-use Rattle.domain_layout.specs.Faults.{HasNoTablesFault}
-use Rattle.domain_layout.specs.Layout.{AreTagPlaces, IsLayout, Layout, first_tag_of}
-use Rattle.domain_layout.specs.Owners.{frame_of}
-use Rattle.domain_layout.specs.Reached.{Frame, tags_way}
-use Rattle.domain_layout.specs.TagRules.{HasEntry, HasTags}
-use Rattle.layout_laws.specs.Alike.{AgreeOnCells, AgreeOnTags}
-use Rattle.layout_laws.proofs.CellsAlike.{bytes_alike, leads_alike, place_alike, read, turned_cells, used_alike}
-use Rattle.layout_laws.proofs.Named.{EntryThere, entry_there, first_there}
-use Rattle.layout_laws.proofs.OwnedOnce.{used_on}
-use Rattle.attached_list.specs.Attached.{HaveQuotasToGo}
-use Rattle.attached_list.specs.Sources.{HasSource, SaySource}
+use Rattle.no_faults.specs.domain_base.declared.place.CellAt.{CellAt}
+use Rattle.no_faults.specs.domain_base.declared.place.Home.{Home}
+use Rattle.no_faults.specs.domain_base.declared.place.Tag.{Tag}
+use Rattle.no_faults.specs.page_store.Pages.{Pages}
+use Rattle.no_faults.specs.metadata_cells.Cell.{Cell}
+use Rattle.no_faults.specs.metadata_cells.declared.head.CellKind.TheVariants.{Primary}
+use Rattle.no_faults.specs.tag_dirs.Directory.{cell_of}
+use Rattle.no_faults.specs.tag_dirs.declared.dir.TagPlace.{TagPlace}
+use Rattle.no_faults.specs.fileset_table.Table.{Table}
+use Rattle.no_faults.specs.fileset_table.declared.slot.FilesetEntry.{FilesetEntry}
+use Rattle.no_faults.specs.fileset_table.declared.slot.SlotItem.{SlotItem}
+use Rattle.no_faults.specs.fileset_table.declared.slot.SlotItem.TheVariants as slot
+use Rattle.no_faults.specs.domain_layout.CellRules.{IsUsed, of_clone, say_removed}
+use Rattle.no_faults.specs.domain_layout.Faults.{HasNoTablesFault}
+use Rattle.no_faults.specs.domain_layout.Layout.{AreTagPlaces, IsLayout, Layout, first_tag_of}
+use Rattle.no_faults.specs.domain_layout.Owners.{frame_of}
+use Rattle.no_faults.specs.domain_layout.Reached.{Frame, tags_way}
+use Rattle.no_faults.specs.domain_layout.TagRules.{HasEntry, HasTags}
+use Rattle.no_faults.specs.domain_layout.Alike.{AgreeOnCells, AgreeOnTags}
+use Rattle.no_faults.proofs.OfDomainLayout.CellsAlike.{bytes_alike, leads_alike, place_alike, read, turned_cells, used_alike}
+use Rattle.no_faults.proofs.OfDomainLayout.Named.{EntryThere, entry_there, first_there}
+use Rattle.no_faults.proofs.OfDomainLayout.OwnedOnce.{used_on}
+use Rattle.no_faults.specs.Attached.{HaveQuotasToGo}
+use Rattle.no_faults.specs.domain_standing.Sources.{HasSource, SaySource}
 use Rattle.attached_domain.specs.Causes.{HasSign, IsCause}
 use Rattle.attached_domain.specs.Signs.{asks, say, say_cut}
 use Rattle.attached_domain.specs.declared.signs.Sign.{Sign}

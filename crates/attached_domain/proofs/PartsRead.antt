@@ -1,34 +1,34 @@
 -- What is read of a domain beside its pages is what these say.
 use Rattle.std.proofs.Common.{◌≡◌, ◌∙◌, ℕ, ◌≤◌, List, Option, Some, None, IsSome, IsSomeAnd, slice_get, refl, sym, ap, subst, arith}
-use Rattle.domain_base.specs.Limits.{max_volume_pages_4}
-use Rattle.domain_base.specs.Version.{most_pages}
-use Rattle.domain_base.specs.declared.place.Home.{Home}
-use Rattle.domain_base.specs.declared.version.Version.{Version}
-use Rattle.domain_base.specs.declared.version.Version.TheVariants.{Four, Three}
-use Rattle.page_store.specs.Pages.{Pages}
-use Rattle.tag_dirs.specs.Directory.{IsDirectoryAt}
-use Rattle.cell_links.specs.declared.links.CellLinks.{CellLinks}
-use Rattle.chain_faults.specs.Links.{AreLinks}
-use Rattle.fileset_table.specs.Page.{IsTablePage}
-use Rattle.fileset_table.specs.Table.{IsTable, Table}
-use Rattle.fileset_table.specs.declared.slot.FilesetEntry.{FilesetEntry}
-use Rattle.fileset_table.specs.declared.slot.SlotItem.TheVariants as slot
-use Rattle.domain_layout.proofs.NoTables.{none_of_tables}
-use Rattle.domain_layout.specs.Faults.{SaysTable}
-use Rattle.domain_layout.specs.Layout.{IsLayout, Layout}
-use Rattle.domain_layout.specs.Owners.{frame_of}
-use Rattle.domain_layout.specs.Reached.{Frame}
-use Rattle.log_ring.specs.Homes.{IsMember, member_of}
-use Rattle.layout_laws.proofs.OnePage.{one_of}
-use Rattle.filesets_reading.specs.Good.{AreGood}
-use Rattle.domain_parts.specs.Slots.{kept_book, places_in, slot_in}
-use Rattle.domain_parts.specs.declared.slots.SlotFiles.{SlotFiles}
-use Rattle.filesets_reading.specs.Tables.{AreTablesOf}
-use Rattle.filesets_reading.specs.declared.tables.DomainTables.{DomainTables}
-use Rattle.attached_books.specs.Books.{IsBookOfSlot}
-use Rattle.attached_memory.specs.Read.{IsReadAs}
-use Rattle.attached_memory.specs.Slots.{AreReadSlots}
-use Rattle.attached_memory.proofs.SlotsRead.{numbered, settled, their_pages}
+use Rattle.no_faults.specs.domain_base.Limits.{max_volume_pages_4}
+use Rattle.no_faults.specs.domain_base.Version.{most_pages}
+use Rattle.no_faults.specs.domain_base.declared.place.Home.{Home}
+use Rattle.no_faults.specs.domain_base.declared.version.Version.{Version}
+use Rattle.no_faults.specs.domain_base.declared.version.Version.TheVariants.{Four, Three}
+use Rattle.no_faults.specs.page_store.Pages.{Pages}
+use Rattle.no_faults.specs.tag_dirs.Directory.{IsDirectoryAt}
+use Rattle.no_faults.specs.cell_chains.declared.links.CellLinks.{CellLinks}
+use Rattle.no_faults.specs.cell_faults.Links.{AreLinks}
+use Rattle.no_faults.specs.fileset_table.Page.{IsTablePage}
+use Rattle.no_faults.specs.fileset_table.Table.{IsTable, Table}
+use Rattle.no_faults.specs.fileset_table.declared.slot.FilesetEntry.{FilesetEntry}
+use Rattle.no_faults.specs.fileset_table.declared.slot.SlotItem.TheVariants as slot
+use Rattle.no_faults.proofs.OfDomainLayout.NoTables.{none_of_tables}
+use Rattle.no_faults.specs.domain_layout.Faults.{SaysTable}
+use Rattle.no_faults.specs.domain_layout.Layout.{IsLayout, Layout}
+use Rattle.no_faults.specs.domain_layout.Owners.{frame_of}
+use Rattle.no_faults.specs.domain_layout.Reached.{Frame}
+use Rattle.no_faults.specs.log_ring.Homes.{IsMember, member_of}
+use Rattle.no_faults.proofs.OfDomainLayout.OnePage.{one_of}
+use Rattle.no_faults.specs.filesets_reading.Good.{AreGood}
+use Rattle.no_faults.specs.domain_memory.Slots.{kept_book, places_in, slot_in}
+use Rattle.no_faults.specs.domain_memory.declared.slots.SlotFiles.{SlotFiles}
+use Rattle.no_faults.specs.filesets_reading.Tables.{AreTablesOf}
+use Rattle.no_faults.specs.filesets_reading.declared.tables.DomainTables.{DomainTables}
+use Rattle.attached_domain.specs.Books.{IsBookOfSlot}
+use Rattle.attached_domain.specs.Read.{IsReadAs}
+use Rattle.attached_domain.specs.Slots.{AreReadSlots}
+use Rattle.attached_domain.proofs.SlotsRead.{numbered, settled, their_pages}
 use Rattle.attached_domain.specs.Causes.{MayBeRead}
 use Rattle.attached_domain.specs.Fits.{Fits}
 use Rattle.attached_domain.specs.Parts.{AreParts, GetTheirBooks}

@@ -1,30 +1,30 @@
 -- Memory that was read stands for the filesets that its pages have.
 use Rattle.std.proofs.Common.{◌≡◌, ◌∙◌, ℕ, List, Option, Some, None, IsSomeAnd, slice_get, sym, ap, subst}
-use Rattle.domain_base.specs.declared.place.Home.{Home}
-use Rattle.page_store.specs.Pages.{Pages}
-use Rattle.fileset_model.specs.Filesets.{FilesetMap}
-use Rattle.fileset_table.specs.Page.{IsTablePage}
-use Rattle.fileset_table.specs.Table.{Table}
-use Rattle.fileset_table.specs.declared.slot.FilesetEntry.{FilesetEntry}
-use Rattle.fileset_table.specs.declared.slot.SlotItem.TheVariants as slot
-use Rattle.fileset_table.proofs.Unique.{table_unique}
-use Rattle.staged_pages.specs.Store.{before_of}
-use Rattle.domain_layout.specs.Filled.{AreFilled}
-use Rattle.domain_layout.specs.Layout.{IsLayout, Layout}
-use Rattle.domain_layout.specs.Owners.{frame_of}
-use Rattle.domain_layout.specs.Reached.{Frame}
-use Rattle.domain_layout.specs.Read.{ReadsFrom, contents_of}
-use Rattle.domain_layout.specs.Shape.{AreShapesOf, Shapes}
-use Rattle.attached_list.specs.Standing.{AreBooksOf}
-use Rattle.domain_parts.specs.Slots.{kept_book, slot_in}
-use Rattle.domain_parts.specs.declared.slots.SlotFiles.{SlotFiles}
-use Rattle.domain_memory.specs.Memory.{StandsFor, books_in, kept_in, with_was}
-use Rattle.domain_memory.specs.Staged.{IsSettled, MayGoBack}
-use Rattle.domain_memory.specs.declared.memory.DomainMemory.{DomainMemory}
-use Rattle.attached_books.specs.Books.{IsBookOfSlot}
-use Rattle.attached_books.proofs.AllBooks.{all_books}
-use Rattle.attached_memory.specs.Read.{IsReadMemory, MayBeAttached}
-use Rattle.attached_memory.proofs.ReadMemory.{goes_back, settled, stands_for}
+use Rattle.no_faults.specs.domain_base.declared.place.Home.{Home}
+use Rattle.no_faults.specs.page_store.Pages.{Pages}
+use Rattle.no_faults.specs.fileset_model.Filesets.{FilesetMap}
+use Rattle.no_faults.specs.fileset_table.Page.{IsTablePage}
+use Rattle.no_faults.specs.fileset_table.Table.{Table}
+use Rattle.no_faults.specs.fileset_table.declared.slot.FilesetEntry.{FilesetEntry}
+use Rattle.no_faults.specs.fileset_table.declared.slot.SlotItem.TheVariants as slot
+use Rattle.no_faults.proofs.OfFilesetTable.Unique.{table_unique}
+use Rattle.no_faults.specs.staged_pages.Store.{before_of}
+use Rattle.no_faults.specs.domain_layout.Filled.{AreFilled}
+use Rattle.no_faults.specs.domain_layout.Layout.{IsLayout, Layout}
+use Rattle.no_faults.specs.domain_layout.Owners.{frame_of}
+use Rattle.no_faults.specs.domain_layout.Reached.{Frame}
+use Rattle.no_faults.specs.domain_layout.Read.{ReadsFrom, contents_of}
+use Rattle.no_faults.specs.domain_layout.Shape.{AreShapesOf, Shapes}
+use Rattle.no_faults.specs.domain_standing.Standing.{AreBooksOf}
+use Rattle.no_faults.specs.domain_memory.Slots.{kept_book, slot_in}
+use Rattle.no_faults.specs.domain_memory.declared.slots.SlotFiles.{SlotFiles}
+use Rattle.no_faults.specs.domain_memory.Memory.{StandsFor, books_in, kept_in, with_was}
+use Rattle.no_faults.specs.domain_memory.Staged.{IsSettled, MayGoBack}
+use Rattle.no_faults.specs.domain_memory.declared.memory.DomainMemory.{DomainMemory}
+use Rattle.attached_domain.specs.Books.{IsBookOfSlot}
+use Rattle.attached_domain.proofs.AllBooks.{all_books}
+use Rattle.attached_domain.specs.Read.{IsReadMemory, MayBeAttached}
+use Rattle.attached_domain.proofs.ReadMemory.{goes_back, settled, stands_for}
 
 -- a home has one table at most
 one_table : (pages : Pages) (layout : Layout) → IsLayout pages layout → (home : Home) → layout.anchor.table ≡ Some home

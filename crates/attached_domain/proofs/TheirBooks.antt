@@ -2,15 +2,15 @@
 use Rattle.std.proofs.Common.{◌≡◌, ◌∙◌, ℕ, zero, suc, ◌+◌, ◌<◌, ◌≤◌, true, false, List, [], ◌∷◌, length, get_or, set, slice_get, Option, Some, None, refl, sym, subst, arith, ⊎_elim}
 use Rattle.std.proofs.lemmas.Bool.{cases_eq, cases_lt}
 use Rattle.std.proofs.lemmas.List.{length-set, get_or-set_same, get_or-set_other}
-use Rattle.page_store.specs.Pages.{Pages}
-use Rattle.fileset_table.specs.Table.{Table}
-use Rattle.fileset_table.specs.declared.slot.FilesetEntry.{FilesetEntry}
-use Rattle.fileset_table.specs.declared.slot.SlotItem.TheVariants as slot
-use Rattle.quota_book.specs.Book.{KeptBook}
-use Rattle.domain_parts.specs.Slots.{slot_in}
-use Rattle.domain_parts.specs.declared.slots.SlotFiles.{SlotFiles}
-use Rattle.domain_parts.proofs.SlotsChanged.{slot_at}
-use Rattle.attached_books.specs.Books.{IsBookOfSlot}
+use Rattle.no_faults.specs.page_store.Pages.{Pages}
+use Rattle.no_faults.specs.fileset_table.Table.{Table}
+use Rattle.no_faults.specs.fileset_table.declared.slot.FilesetEntry.{FilesetEntry}
+use Rattle.no_faults.specs.fileset_table.declared.slot.SlotItem.TheVariants as slot
+use Rattle.no_faults.specs.quota_book.Book.{KeptBook}
+use Rattle.no_faults.specs.domain_memory.Slots.{slot_in}
+use Rattle.no_faults.specs.domain_memory.declared.slots.SlotFiles.{SlotFiles}
+use Rattle.no_faults.proofs.OfDomainMemory.SlotsChanged.{slot_at}
+use Rattle.attached_domain.specs.Books.{IsBookOfSlot}
 use Rattle.attached_domain.specs.Parts.{GetTheirBooks, GetsItsBook}
 
 same_entry : (a b : FilesetEntry) → Some (slot.Original a) ≡ Some (slot.Original b) → a ≡ b

@@ -1,22 +1,22 @@
 -- What a domain is read of, and why it is not attached.
 use Rattle.std.specs.Prelude.{◌≡◌, ◌≤◌, ℕ, true, Some, slice_get}
-use Rattle.domain_base.specs.Version.{most_pages}
-use Rattle.domain_base.specs.declared.place.CellAt.{CellAt}
-use Rattle.domain_base.specs.declared.place.Home.{Home}
-use Rattle.page_store.specs.Pages.{Pages}
-use Rattle.log_recovery.specs.Range.{IsLogInside}
-use Rattle.log_ring.specs.Homes.{IsMember, member_of}
-use Rattle.fileset_table.specs.declared.slot.SlotItem.{SlotItem}
-use Rattle.attached_list.specs.Marks.{HasBitmaps}
-use Rattle.domain_layout.specs.CellRules.{of_clone}
-use Rattle.domain_layout.specs.Faults.{HasNoFault}
-use Rattle.domain_layout.specs.Layout.{IsLayout, Layout}
-use Rattle.domain_layout.specs.Owners.{frame_of}
-use Rattle.domain_layout.specs.Reached.{Frame, IsWithin}
-use Rattle.filesets_reading.specs.Good.{IsNamed}
-use Rattle.fileset_shapes.specs.Found.{HasAllPages}
-use Rattle.attached_list.specs.Attached.{HaveQuotasToGo}
-use Rattle.attached_list.specs.Sources.{HasSource}
+use Rattle.no_faults.specs.domain_base.Version.{most_pages}
+use Rattle.no_faults.specs.domain_base.declared.place.CellAt.{CellAt}
+use Rattle.no_faults.specs.domain_base.declared.place.Home.{Home}
+use Rattle.no_faults.specs.page_store.Pages.{Pages}
+use Rattle.no_faults.specs.log_recovery.Range.{IsLogInside}
+use Rattle.no_faults.specs.log_ring.Homes.{IsMember, member_of}
+use Rattle.no_faults.specs.fileset_table.declared.slot.SlotItem.{SlotItem}
+use Rattle.no_faults.specs.domain_standing.Marks.{HasBitmaps}
+use Rattle.no_faults.specs.domain_layout.CellRules.{of_clone}
+use Rattle.no_faults.specs.domain_layout.Faults.{HasNoFault}
+use Rattle.no_faults.specs.domain_layout.Layout.{IsLayout, Layout}
+use Rattle.no_faults.specs.domain_layout.Owners.{frame_of}
+use Rattle.no_faults.specs.domain_layout.Reached.{Frame, IsWithin}
+use Rattle.no_faults.specs.filesets_reading.Good.{IsNamed}
+use Rattle.no_faults.specs.fileset_shapes.Found.{HasAllPages}
+use Rattle.no_faults.specs.Attached.{HaveQuotasToGo}
+use Rattle.no_faults.specs.domain_standing.Sources.{HasSource}
 use Rattle.attached_domain.specs.Signs.{ItemSays}
 use Rattle.attached_domain.specs.declared.signs.Sign.{Sign}
 use Rattle.attached_domain.specs.declared.signs.Sign.TheVariants.{Cut, Removed}

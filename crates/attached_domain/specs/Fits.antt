@@ -1,12 +1,12 @@
 -- What no rule asks, and the pages of a domain that is attached have.
 use Rattle.std.specs.Prelude.{◌≡◌, ℕ, false, slice_get}
-use Rattle.page_store.specs.Pages.{Pages}
-use Rattle.domain_layout.specs.CellRules.{of_clone}
-use Rattle.domain_layout.specs.Layout.{Layout}
-use Rattle.domain_layout.specs.Owners.{frame_of}
-use Rattle.filesets_reading.specs.declared.tables.DomainTables.{DomainTables}
-use Rattle.attached_list.specs.Attached.{HaveQuotasToGo}
-use Rattle.attached_list.specs.Sources.{HaveNoSource}
+use Rattle.no_faults.specs.page_store.Pages.{Pages}
+use Rattle.no_faults.specs.domain_layout.CellRules.{of_clone}
+use Rattle.no_faults.specs.domain_layout.Layout.{Layout}
+use Rattle.no_faults.specs.domain_layout.Owners.{frame_of}
+use Rattle.no_faults.specs.filesets_reading.declared.tables.DomainTables.{DomainTables}
+use Rattle.no_faults.specs.Attached.{HaveQuotasToGo}
+use Rattle.no_faults.specs.domain_standing.Sources.{HaveNoSource}
 use Rattle.attached_domain.specs.Signs.{SlotSays}
 use Rattle.attached_domain.specs.declared.signs.Sign.TheVariants.{Cut, Removed}
 

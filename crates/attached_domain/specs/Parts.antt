@@ -1,15 +1,15 @@
 -- What is read of a domain beside its pages.
 use Rattle.std.specs.Prelude.{◌≡◌, ℕ, List, Option, Some, IfSome, IsSome, length, slice_get}
-use Rattle.page_store.specs.Pages.{Pages}
-use Rattle.fileset_table.specs.Table.{Table}
-use Rattle.fileset_table.specs.declared.slot.FilesetEntry.{FilesetEntry}
-use Rattle.fileset_table.specs.declared.slot.SlotItem.TheVariants as slot
-use Rattle.domain_layout.specs.Layout.{Layout}
-use Rattle.domain_layout.specs.Reached.{Frame}
-use Rattle.domain_parts.specs.Slots.{HasNumber, kept_book, places_in, slot_in}
-use Rattle.domain_parts.specs.declared.slots.SlotFiles.{SlotFiles}
-use Rattle.attached_books.specs.Books.{IsBookOfSlot}
-use Rattle.attached_memory.specs.Read.{IsReadAs, IsSettledSlot, MayBeAttached}
+use Rattle.no_faults.specs.page_store.Pages.{Pages}
+use Rattle.no_faults.specs.fileset_table.Table.{Table}
+use Rattle.no_faults.specs.fileset_table.declared.slot.FilesetEntry.{FilesetEntry}
+use Rattle.no_faults.specs.fileset_table.declared.slot.SlotItem.TheVariants as slot
+use Rattle.no_faults.specs.domain_layout.Layout.{Layout}
+use Rattle.no_faults.specs.domain_layout.Reached.{Frame}
+use Rattle.no_faults.specs.domain_memory.Slots.{HasNumber, kept_book, places_in, slot_in}
+use Rattle.no_faults.specs.domain_memory.declared.slots.SlotFiles.{SlotFiles}
+use Rattle.attached_domain.specs.Books.{IsBookOfSlot}
+use Rattle.attached_domain.specs.Read.{IsReadAs, IsSettledSlot, MayBeAttached}
 use Rattle.attached_domain.specs.declared.parts.DomainParts.{DomainParts}
 
 -- an original's book is what its slot was last kept with

@@ -1,20 +1,20 @@
 -- What first cells say to which tags lead.
 use Rattle.std.specs.Prelude.{◌≡◌, ◌==◌, ◌&&◌, ◌<◌, ℕ, Bool, true, false, not, List, Some, slice_get}
 use Rattle.std.specs.Option.{option_map_or}
-use Rattle.domain_base.specs.Limits.{file_pages}
-use Rattle.domain_base.specs.declared.place.CellAt.{CellAt}
-use Rattle.domain_base.specs.declared.place.Tag.{Tag}
-use Rattle.page_store.specs.Pages.{Pages}
-use Rattle.record_table.specs.declared.record.Record.{Record}
-use Rattle.record_table.specs.declared.record.Record.TheVariants as written
-use Rattle.bmt_mcells.specs.Cell.{Cell, record_of}
-use Rattle.bmt_mcells.specs.Chain.{StandsAt}
-use Rattle.tag_dirs.specs.Directory.{cell_of}
-use Rattle.tag_dirs.specs.declared.dir.TagPlace.{TagPlace}
-use Rattle.fileset_table.specs.Table.{is_original}
-use Rattle.fileset_table.specs.declared.slot.SlotItem.{SlotItem}
-use Rattle.domain_layout.specs.CellRules.{say_removed}
-use Rattle.filesets_reading.specs.declared.tables.DomainTables.{DomainTables}
+use Rattle.no_faults.specs.domain_base.Limits.{file_pages}
+use Rattle.no_faults.specs.domain_base.declared.place.CellAt.{CellAt}
+use Rattle.no_faults.specs.domain_base.declared.place.Tag.{Tag}
+use Rattle.no_faults.specs.page_store.Pages.{Pages}
+use Rattle.no_faults.specs.cell_records.declared.record.Record.{Record}
+use Rattle.no_faults.specs.cell_records.declared.record.Record.TheVariants as written
+use Rattle.no_faults.specs.metadata_cells.Cell.{Cell, record_of}
+use Rattle.no_faults.specs.metadata_cells.Chain.{StandsAt}
+use Rattle.no_faults.specs.tag_dirs.Directory.{cell_of}
+use Rattle.no_faults.specs.tag_dirs.declared.dir.TagPlace.{TagPlace}
+use Rattle.no_faults.specs.fileset_table.Table.{is_original}
+use Rattle.no_faults.specs.fileset_table.declared.slot.SlotItem.{SlotItem}
+use Rattle.no_faults.specs.domain_layout.CellRules.{say_removed}
+use Rattle.no_faults.specs.filesets_reading.declared.tables.DomainTables.{DomainTables}
 use Rattle.attached_domain.specs.declared.signs.Sign.{Sign}
 use Rattle.attached_domain.specs.declared.signs.Sign.TheVariants.{Cut, Removed}
 

@@ -1,16 +1,13 @@
-//! The books of originals, each in its slot.
+//! Reading the books of originals, each into its slot.
 ghost use Rattle.std.specs.Prelude.{◌≡◌, OnOk, length};
-ghost use Rattle.page_ways.specs.Frame.{frame_in};
-ghost use Rattle.fileset_shapes.specs.Shapes.{IsDomain};
+ghost use Rattle.no_faults.specs.page_ways.Frame.{frame_in};
+ghost use Rattle.no_faults.specs.fileset_shapes.Shapes.{IsDomain};
 ghost use Rattle.attached_domain.specs.Parts.{GetTheirBooks, GetsItsBook};
 
-use attached_books::read_slot_book;
-use domain_base::{FilesetNo, OutOfMemory};
-use domain_parts::SlotFiles;
-use fileset_table::SlotItem;
-use filesets_reading::DomainTables;
-use page_store::MetaPages;
-use page_ways::DomainFrame;
+use crate::read_slot_book;
+use no_faults::{
+    DomainFrame, DomainTables, FilesetNo, MetaPages, OutOfMemory, SlotFiles, SlotItem,
+};
 use std::alloc::Global;
 
 /// Reads the book of the original in a slot, if it has one.

@@ -1,25 +1,23 @@
 //! The memory of a domain that is attached.
 ghost use Rattle.std.specs.Prelude.{◌≡◌, IfErr, IfOk, Some};
-ghost use Rattle.domain_base.specs.declared.place.Home.{Home};
-ghost use Rattle.fileset_model.specs.Filesets.{FilesetMap};
-ghost use Rattle.staged_pages.specs.Store.{before_of, pages_of};
-ghost use Rattle.page_ways.specs.Frame.{frame_in};
-ghost use Rattle.domain_layout.specs.Read.{ReadsFrom};
-ghost use Rattle.domain_memory.specs.Memory.{StandsFor};
-ghost use Rattle.domain_memory.specs.Staged.{IsSettled, MayGoBack};
+ghost use Rattle.no_faults.specs.domain_base.declared.place.Home.{Home};
+ghost use Rattle.no_faults.specs.fileset_model.Filesets.{FilesetMap};
+ghost use Rattle.no_faults.specs.staged_pages.Store.{before_of, pages_of};
+ghost use Rattle.no_faults.specs.page_ways.Frame.{frame_in};
+ghost use Rattle.no_faults.specs.domain_layout.Read.{ReadsFrom};
+ghost use Rattle.no_faults.specs.domain_memory.Memory.{StandsFor};
+ghost use Rattle.no_faults.specs.domain_memory.Staged.{IsSettled, MayGoBack};
 ghost use Rattle.attached_domain.specs.Causes.{IsUnfit, MayBeRead};
 
 use crate::parts::{DomainParts, read_parts};
+use crate::read_memory;
 use crate::unfit::Unfit;
-use attached_memory::read_memory;
-use domain_memory::DomainMemory;
-use page_ways::DomainFrame;
-use staged_pages::StagedPages;
+use no_faults::{DomainFrame, DomainMemory, StagedPages};
 use std::alloc::Global;
 
 /// The memory of a domain whose pages break no rule: it stands for the filesets that the pages
-/// have, with no change laid over it. A domain is not attached, though, that has a clone, or in
-/// which something is left to be done that no domain at work leaves so; each error says which.
+/// have, with no change laid over it. But a domain is not attached if it has a clone, or if
+/// something is left to be done in it that no working domain leaves undone; each error says which.
 pub fn read_domain(
     alloc: Global,
     pages: StagedPages,

@@ -1,24 +1,21 @@
-//! What no rule asks, and a domain that is attached has.
+//! Checks that no rule makes, but that a domain must pass to be attached.
 ghost use Rattle.std.specs.Prelude.{◌≡◌, ◌↔◌, ◌<◌, ℕ, IfErr, IsTrue, OnOk, slice_get, true};
-ghost use Rattle.domain_layout.specs.CellRules.{of_clone};
-ghost use Rattle.domain_layout.specs.Layout.{IsLayout, Layout};
-ghost use Rattle.domain_layout.specs.Owners.{frame_of};
-ghost use Rattle.page_ways.specs.Frame.{frame_in};
-ghost use Rattle.chain_faults.specs.Links.{AreLinks};
-ghost use Rattle.fileset_shapes.specs.Shapes.{IsDomain};
+ghost use Rattle.no_faults.specs.domain_layout.CellRules.{of_clone};
+ghost use Rattle.no_faults.specs.domain_layout.Layout.{IsLayout, Layout};
+ghost use Rattle.no_faults.specs.domain_layout.Owners.{frame_of};
+ghost use Rattle.no_faults.specs.page_ways.Frame.{frame_in};
+ghost use Rattle.no_faults.specs.cell_faults.Links.{AreLinks};
+ghost use Rattle.no_faults.specs.fileset_shapes.Shapes.{IsDomain};
 ghost use Rattle.attached_domain.specs.Causes.{IsUnfit};
 ghost use Rattle.attached_domain.specs.Fits.{Fits};
 
 use crate::signs::Sign;
 use crate::tags::some_slot_says;
 use crate::unfit::Unfit;
-use attached_list::{has_quotas_to_go, has_readers};
-use cell_links::CellLinks;
-use domain_base::FilesetNo;
-use fileset_table::{FilesetTable, SlotItem};
-use filesets_reading::DomainTables;
-use page_store::MetaPages;
-use page_ways::DomainFrame;
+use no_faults::{
+    CellLinks, DomainFrame, DomainTables, FilesetNo, FilesetTable, MetaPages, SlotItem,
+    has_quotas_to_go, has_readers,
+};
 use std::alloc::Global;
 
 /// Whether a slot has a clone.
@@ -46,7 +43,8 @@ fn has_clone(table: &FilesetTable) -> bool
     false
 }
 
-/// Looks for all that no rule asks and a domain that is attached has, and tells what is not so.
+/// Makes all checks that a domain must pass to be attached, beyond the rules. The error tells which
+/// one fails.
 pub(crate) fn look_at_all<M: MetaPages>(
     alloc: Global,
     pages: &M,

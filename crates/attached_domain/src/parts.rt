@@ -1,26 +1,22 @@
-//! What is read of a domain beside its pages.
+//! What is read of a domain besides its pages.
 ghost use Rattle.std.specs.Prelude.{IfErr, IfOk};
-ghost use Rattle.chain_faults.specs.Links.{AreLinks};
-ghost use Rattle.page_ways.specs.Frame.{frame_in};
+ghost use Rattle.no_faults.specs.cell_faults.Links.{AreLinks};
+ghost use Rattle.no_faults.specs.page_ways.Frame.{frame_in};
 ghost use Rattle.attached_domain.specs.Causes.{IsUnfit, MayBeRead};
 ghost use Rattle.attached_domain.specs.Parts.{AreParts};
 
 use crate::books::set_books;
 use crate::fits::look_at_all;
+use crate::read_slots;
 use crate::unfit::Unfit;
-use attached_memory::read_slots;
-use cell_faults::read_tables as read_cell_tables;
-use cell_links::CellLinks;
-use chain_faults::read_links;
-use domain_base::OutOfMemory;
-use domain_parts::SlotFiles;
-use fileset_table::FilesetTable;
-use filesets_reading::read_tables;
-use page_store::MetaPages;
-use page_ways::DomainFrame;
+use no_faults::from_filesets_reading::read_tables;
+use no_faults::{
+    CellLinks, DomainFrame, FilesetTable, MetaPages, OutOfMemory, SlotFiles, read_links,
+    read_tables as read_cell_tables,
+};
 use std::alloc::Global;
 
-/// What is read of a domain beside its pages: the fileset table, what each cell in use leads to,
+/// What is read of a domain besides its pages: the fileset table, what each cell in use leads to,
 /// and what is in the slots.
 #[derive(Drop)]
 pub(crate) struct DomainParts {
@@ -41,7 +37,7 @@ fn read_all_links<M: MetaPages>(
     read_links(alloc, pages, frame, &cells)
 }
 
-/// What is read of a domain beside its pages, where all is so that no rule asks.
+/// What is read of a domain besides its pages, if it passes the checks that no rule makes.
 pub(crate) fn read_parts<M: MetaPages>(
     alloc: Global,
     pages: &M,

@@ -1,16 +1,14 @@
 //! What is looked for in the first cells to which tags lead.
 ghost use Rattle.std.specs.Prelude.{◌≡◌, ◌↔◌, IfOk, IsTrue};
-ghost use Rattle.bmt_mcells.specs.Cell.{Cell};
-ghost use Rattle.bmt_mcells.specs.Chain.{StandsAt};
-ghost use Rattle.domain_layout.specs.CellRules.{say_removed};
+ghost use Rattle.no_faults.specs.metadata_cells.Cell.{Cell};
+ghost use Rattle.no_faults.specs.metadata_cells.Chain.{StandsAt};
+ghost use Rattle.no_faults.specs.domain_layout.CellRules.{say_removed};
 ghost use Rattle.attached_domain.specs.Signs.{SaysAt, asks, say_cut};
 
-use bmt_mcells::{find_record, read_used};
-use domain_base::limits::FILE_PAGES;
-use domain_base::{CellAt, OutOfMemory};
-use fileset_table::SlotItem;
-use page_store::MetaPages;
-use record_table::{Leftover, Record};
+use no_faults::from_domain_base::limits::FILE_PAGES;
+use no_faults::{
+    CellAt, Leftover, MetaPages, OutOfMemory, Record, SlotItem, find_record, read_used,
+};
 use std::alloc::Global;
 
 /// What a first cell to which a tag leads may say of its file, though no rule is broken.
@@ -22,8 +20,8 @@ pub(crate) enum Sign {
     Cut,
 }
 
-/// Whether a sign is looked for in what is in a slot: a file that is to be removed in each, and a
-/// directory that is to be cut in an original, whose set of files has it.
+/// Whether a sign is looked for in what is in a slot. A file that is to be removed is looked for in
+/// each, and a directory that is to be cut only in an original, whose set of files has it.
 pub(crate) fn is_asked(sign: Sign, item: &SlotItem) -> bool
     ensures { result ≡ asks sign item.now }
 {
@@ -56,7 +54,7 @@ fn is_cut<M: MetaPages>(pages: &M, at: &CellAt) -> bool
     }
 }
 
-/// Whether a cell in use stands at a place, and says so.
+/// Whether a cell in use stands at a place and has the sign.
 pub(crate) fn says<M: MetaPages>(
     alloc: Global,
     pages: &M,

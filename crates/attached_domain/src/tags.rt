@@ -1,20 +1,17 @@
-//! First cells to which the tags of a domain lead.
+//! Looking for signs in the first cells to which the tags of a domain lead.
 ghost use Rattle.std.specs.Prelude.{◌↔◌, IfOk, IsTrue};
-ghost use Rattle.tag_dirs.specs.Directory.{IsDirectory};
-ghost use Rattle.page_ways.specs.Frame.{frame_in};
-ghost use Rattle.filesets_reading.specs.Tables.{AreTablesOf};
+ghost use Rattle.no_faults.specs.tag_dirs.Directory.{IsDirectory};
+ghost use Rattle.no_faults.specs.page_ways.Frame.{frame_in};
+ghost use Rattle.no_faults.specs.filesets_reading.Tables.{AreTablesOf};
 ghost use Rattle.attached_domain.specs.Signs.{IsSaidIn, LeadsSo, SlotSays, TagSays};
 
 use crate::signs::{Sign, is_asked, says};
-use domain_base::{FilesetNo, OutOfMemory, Tag};
-use fileset_shapes::used_tags;
-use filesets_reading::DomainTables;
-use page_store::MetaPages;
-use page_ways::DomainFrame;
+use no_faults::{
+    DomainFrame, DomainTables, FilesetNo, MetaPages, OutOfMemory, Tag, TagDir, used_tags,
+};
 use std::alloc::Global;
-use tag_dirs::TagDir;
 
-/// Whether a tag leads to a cell that says so.
+/// Whether a tag leads to a cell with the sign.
 fn leads_so<M: MetaPages>(
     alloc: Global,
     pages: &M,
@@ -31,7 +28,7 @@ fn leads_so<M: MetaPages>(
     }
 }
 
-/// Whether some tag of a tag directory leads to a cell that says so.
+/// Whether some tag of a tag directory leads to a cell with the sign.
 fn some_tag_says<M: MetaPages>(
     alloc: Global,
     pages: &M,
@@ -50,8 +47,8 @@ fn some_tag_says<M: MetaPages>(
     Ok(false)
 }
 
-/// Whether it is looked for in what is in a slot, and some tag of that leads to a cell that says
-/// so.
+/// Whether the sign is looked for in what is in a slot, and some tag of that leads to a cell with
+/// it.
 fn slot_says<M: MetaPages>(
     alloc: Global,
     pages: &M,
@@ -70,7 +67,7 @@ fn slot_says<M: MetaPages>(
     some_tag_says(alloc, pages, sign, &tables.tags[number.number() as usize])
 }
 
-/// Whether it is so of some slot.
+/// Whether in some slot the sign is looked for and some tag leads to a cell with it.
 pub(crate) fn some_slot_says<M: MetaPages>(
     alloc: Global,
     pages: &M,

@@ -2,7 +2,7 @@
 ghost use Rattle.std.specs.Prelude.{◌≡◌};
 ghost use Rattle.attached_domain.specs.declared.unfit.Unfit.TheVariants.{OutOfMemory as NoMemoryLeft};
 
-use domain_base::OutOfMemory;
+use no_faults::OutOfMemory;
 use std::error::Error;
 use std::fmt;
 
@@ -11,17 +11,17 @@ use std::fmt;
 pub enum Unfit {
     /// A slot of the fileset table has a clone.
     Cloned,
-    /// A file is read through another one, though no slot has a clone: it is of what is being
-    /// removed, or is to be removed.
+    /// A file is read through another one, though no slot has a clone. It belongs to what is being
+    /// removed, or is itself to be removed.
     ReadThrough,
     /// What is being removed names quota cells that are not the first ones of its fileset.
     WrongQuotas,
-    /// A tag leads to a file of which all is to be removed.
+    /// A tag leads to a file that is to be removed whole.
     RemovedFile,
     /// A tag of an original leads to a directory that is to be cut: it keeps fewer pages than a file
     /// can have.
     CutDirectory,
-    /// No memory could be had.
+    /// Memory ran out.
     OutOfMemory,
 }
 

@@ -1,8 +1,8 @@
 -- The first record of a kind, looked for record by record.
 use Rattle.std.proofs.Common.{◌≡◌, ◌==◌, ◌∙◌, ℕ, zero, suc, ◌+◌, true, false, List, [], ◌∷◌, drop, Some, None, if◌then◌else◌, slice_get, add-one, sym, ap}
-use Rattle.record_table.specs.declared.record.Record.{Record}
-use Rattle.record_table.specs.Records.{kind_of}
-use Rattle.bmt_mcells.specs.Cell.{record_of}
+use Rattle.page_ways.specs.cell_records.declared.record.Record.{Record}
+use Rattle.page_ways.specs.cell_records.Records.{kind_of}
+use Rattle.page_ways.specs.metadata_cells.Cell.{record_of}
 
 -- the records in front of a place have none of the kind
 abbrev pub IsBehind : ℕ → List Record → ℕ → Type 0

@@ -2,15 +2,15 @@
 use Rattle.std.proofs.Common.{◌≡◌, ◌==◌, ◌∙◌, ◌⊎◌, ◌↔◌, inl, inr, ℕ, ◌+◌, ◌<◌, ◌≤◌, Bool, true, false, List, [], ◌∷◌, ◌++◌, Option, Some, None, Contains, slice_get, if◌then◌else◌, refl, sym, ap, subst, arith, ⊎_elim}
 use Rattle.std.proofs.lemmas.Bool.{cases_lt}
 use Rattle.std.proofs.lemmas.List.Elements.{Contains-append_left, Contains-push, Contains-push_cases}
-use Rattle.domain_base.specs.declared.place.Home.{Home}
-use Rattle.page_store.specs.Pages.{Pages}
-use Rattle.bmt_mcells.specs.CellPage.{next_of}
-use Rattle.domain_layout.specs.CellRules.{IsNoCellsPage}
-use Rattle.domain_layout.specs.Reached.{Frame, IsRead, IsUnread, Reaches, begins, cells_way, goes_on}
+use Rattle.page_ways.specs.domain_base.declared.place.Home.{Home}
+use Rattle.page_ways.specs.page_store.Pages.{Pages}
+use Rattle.page_ways.specs.metadata_cells.CellPage.{next_of}
+use Rattle.page_ways.specs.domain_layout.CellRules.{IsNoCellsPage}
+use Rattle.page_ways.specs.domain_layout.Reached.{Frame, IsRead, IsUnread, Reaches, begins, cells_way, goes_on}
 use Rattle.page_ways.specs.Walk.{AreRead}
 use Rattle.cell_faults.specs.Tables.{AreTables, AreTablesBelow, IsNoneBelow, IsThere}
 use Rattle.cell_faults.specs.declared.tables.CellsPage.{CellsPage}
-use Rattle.log_ring.specs.Homes.{IsMember}
+use Rattle.page_ways.specs.log_ring.Homes.{IsMember}
 
 next_vol : (b : Bool) (home onto : Home) (page : List ℕ) → (if b then None else Some (record { vol = home.vol; page = next_of page })) ≡ Some onto → onto.vol ≡ home.vol
 next_vol true home onto page leads = let e : None ≡ Some onto = leads in absurd (cc)

@@ -2,16 +2,16 @@
 use Rattle.std.proofs.Common.{◌≡◌, ◌∙◌, ◌↔◌, ◌≤◌, ℕ, Bool, true, false, not, IsTrue, List, length, nat_eq, refl, sym, ap, subst}
 use Rattle.std.specs.List.{AllByRecursion, list_all}
 use mathlib.Core.Bool.{false≢true}
-use Rattle.domain_base.specs.Page.{zero_bytes}
-use Rattle.domain_base.specs.declared.place.CellAt.{CellAt}
-use Rattle.domain_base.specs.declared.version.Version.{Version}
-use Rattle.page_store.specs.Pages.{Pages}
-use Rattle.record_table.specs.Records.{kind_of, last_kind}
-use Rattle.bmt_mcells.specs.Cell.{Cell, IsFreeCell}
-use Rattle.bmt_mcells.specs.CellPage.{cell_of}
-use Rattle.bmt_mcells.specs.Chain.{StandsAt}
-use Rattle.bmt_mcells.proofs.OneByOne.{are_zeros, zeros_are}
-use Rattle.bmt_mcells.proofs.Unique.{one_stands}
+use Rattle.page_ways.specs.domain_base.Page.{zero_bytes}
+use Rattle.page_ways.specs.domain_base.declared.place.CellAt.{CellAt}
+use Rattle.page_ways.specs.domain_base.declared.version.Version.{Version}
+use Rattle.page_ways.specs.page_store.Pages.{Pages}
+use Rattle.page_ways.specs.cell_records.Records.{kind_of, last_kind}
+use Rattle.page_ways.specs.metadata_cells.Cell.{Cell, IsFreeCell}
+use Rattle.page_ways.specs.metadata_cells.CellPage.{cell_of}
+use Rattle.page_ways.specs.metadata_cells.Chain.{StandsAt}
+use Rattle.page_ways.proofs.OfMetadataCells.OneByOne.{are_zeros, zeros_are}
+use Rattle.page_ways.proofs.OfMetadataCells.Unique.{one_stands}
 use Rattle.cell_faults.specs.Pages.{HasNoCell}
 
 -- zeros are a free cell

@@ -2,7 +2,7 @@
 use Rattle.std.proofs.Common.{◌≡◌, ◌∙◌, ◌⊎◌, ◌↔◌, inl, inr, ℕ, ◌+◌, ◌<◌, List, [], ◌∷◌, ◌++◌, Some, Contains, slice_get, sym, ap, subst, arith, ⊎_elim}
 use Rattle.std.proofs.lemmas.Bool.{cases_lt}
 use Rattle.std.proofs.lemmas.List.Elements.{Contains-append_left, Contains-push, Contains-push_cases}
-use Rattle.domain_base.specs.declared.place.Home.{Home}
+use Rattle.page_ways.specs.domain_base.declared.place.Home.{Home}
 use Rattle.cell_faults.specs.declared.tables.CellsPage.{CellsPage}
 
 some_same : {X : Type 0} (a b : X) → Some a ≡ Some b → a ≡ b

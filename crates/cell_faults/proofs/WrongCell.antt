@@ -3,15 +3,15 @@ use Rattle.std.proofs.Common.{◌≡◌, ◌&&◌, ◌∙◌, ◌<◌, ◌+◌, 
 use Rattle.std.specs.Option.{option_and_then}
 use Rattle.std.proofs.lemmas.Bool.{cases_lt}
 use Rattle.std.proofs.lemmas.Bool.Decides.{nat_tests}
-use Rattle.domain_base.specs.declared.place.CellAt.{CellAt}
-use Rattle.domain_base.specs.declared.place.Home.{Home}
-use Rattle.domain_base.specs.declared.version.Version.{Version}
-use Rattle.page_store.specs.Pages.{Pages}
-use Rattle.bmt_mcells.specs.Cell.{Cell, IsCell, IsFreeCell}
-use Rattle.bmt_mcells.specs.CellPage.{cell_at, cell_of, is_cell_page}
-use Rattle.bmt_mcells.specs.Chain.{StandsAt}
-use Rattle.domain_layout.specs.CellRules.{HasWrongCell, IsCellsPage}
-use Rattle.domain_layout.specs.Reached.{Frame}
+use Rattle.page_ways.specs.domain_base.declared.place.CellAt.{CellAt}
+use Rattle.page_ways.specs.domain_base.declared.place.Home.{Home}
+use Rattle.page_ways.specs.domain_base.declared.version.Version.{Version}
+use Rattle.page_ways.specs.page_store.Pages.{Pages}
+use Rattle.page_ways.specs.metadata_cells.Cell.{Cell, IsCell, IsFreeCell}
+use Rattle.page_ways.specs.metadata_cells.CellPage.{cell_at, cell_of, is_cell_page}
+use Rattle.page_ways.specs.metadata_cells.Chain.{StandsAt}
+use Rattle.page_ways.specs.domain_layout.CellRules.{HasWrongCell, IsCellsPage}
+use Rattle.page_ways.specs.domain_layout.Reached.{Frame}
 use Rattle.cell_faults.specs.Pages.{HasNoCell}
 
 -- a cell of the page at a home

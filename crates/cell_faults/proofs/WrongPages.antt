@@ -1,11 +1,11 @@
 -- Pages of cells that are wrong, put into a set one by one.
 use Rattle.std.proofs.Common.{◌≡◌, ◌∙◌, ◌⊎◌, ◌↔◌, inl, inr, ℕ, ◌+◌, ◌<◌, List, get_or, length, Contains, Some, sym, subst, arith, ⊎_elim}
 use Rattle.std.proofs.lemmas.Bool.{cases_lt}
-use Rattle.domain_base.specs.declared.place.Home.{Home}
-use Rattle.page_store.specs.Pages.{Pages}
-use Rattle.fileset_table.specs.Table.{Table}
-use Rattle.domain_layout.specs.CellRules.{HasWrongCell, HasWrongHeader, IsCellsPage}
-use Rattle.domain_layout.specs.Reached.{Frame}
+use Rattle.page_ways.specs.domain_base.declared.place.Home.{Home}
+use Rattle.page_ways.specs.page_store.Pages.{Pages}
+use Rattle.page_ways.specs.fileset_table.Table.{Table}
+use Rattle.page_ways.specs.domain_layout.CellRules.{HasWrongCell, HasWrongHeader, IsCellsPage}
+use Rattle.page_ways.specs.domain_layout.Reached.{Frame}
 use Rattle.cell_faults.specs.Pages.{IsWrongHeader}
 use Rattle.cell_faults.specs.Rules.{HasWrongPlace, IsLocalFault, IsWrongAmong, IsWrongThere}
 use Rattle.cell_faults.specs.Tables.{AreTables}

@@ -2,19 +2,19 @@
 use Rattle.std.proofs.Common.{◌≡◌, ◌∙◌, ◌↔◌, inl, inr, ◌+◌, ◌<◌, ◌≤◌, ℕ, Bool, false, IsTrue, List, Some, refl, sym, ap, subst, arith, ⊎_elim}
 use Rattle.std.proofs.lemmas.Bool.{cases_lt}
 use mathlib.Core.Bool.{false≢true}
-use Rattle.domain_base.specs.declared.place.CellAt.{CellAt}
-use Rattle.domain_base.specs.declared.place.Home.{Home}
-use Rattle.page_store.specs.Pages.{Pages}
-use Rattle.record_table.specs.Fields.{number_at}
-use Rattle.bmt_mcells.specs.Cell.{Cell, kind_number}
-use Rattle.bmt_mcells.specs.CellPage.{cell_at, cell_of, home_of}
-use Rattle.bmt_mcells.specs.Chain.{StandsAt}
-use Rattle.bmt_mcells.specs.declared.head.CellKind.{CellKind}
-use Rattle.bmt_mcells.specs.declared.head.CellKind.TheVariants.{Chain, Primary, Quota, Volume}
-use Rattle.bmt_mcells.proofs.Unique.{one_stands}
-use Rattle.fileset_table.specs.Table.{Table}
-use Rattle.domain_layout.specs.CellRules.{IsCellsPage, IsFirstPlace, IsLink, IsPlace, IsUsed, Link, SaysVolume, next_in}
-use Rattle.domain_layout.specs.Reached.{Frame}
+use Rattle.page_ways.specs.domain_base.declared.place.CellAt.{CellAt}
+use Rattle.page_ways.specs.domain_base.declared.place.Home.{Home}
+use Rattle.page_ways.specs.page_store.Pages.{Pages}
+use Rattle.page_ways.specs.cell_records.Fields.{number_at}
+use Rattle.page_ways.specs.metadata_cells.Cell.{Cell, kind_number}
+use Rattle.page_ways.specs.metadata_cells.CellPage.{cell_at, cell_of, home_of}
+use Rattle.page_ways.specs.metadata_cells.Chain.{StandsAt}
+use Rattle.page_ways.specs.metadata_cells.declared.head.CellKind.{CellKind}
+use Rattle.page_ways.specs.metadata_cells.declared.head.CellKind.TheVariants.{Chain, Primary, Quota, Volume}
+use Rattle.page_ways.proofs.OfMetadataCells.Unique.{one_stands}
+use Rattle.page_ways.specs.fileset_table.Table.{Table}
+use Rattle.page_ways.specs.domain_layout.CellRules.{IsCellsPage, IsFirstPlace, IsLink, IsPlace, IsUsed, Link, SaysVolume, next_in}
+use Rattle.page_ways.specs.domain_layout.Reached.{Frame}
 use Rattle.cell_faults.specs.Rules.{HasWrongPlace, IsStrayVolume, IsWrongAt, IsWrongUsed, records_fit}
 use Rattle.cell_faults.proofs.WrongCell.{cell_said, on}
 

@@ -1,3 +1,33 @@
+pub mod Read
 pub mod Pages
 pub mod Rules
 pub mod Tables
+pub mod Holes
+pub mod Links
+pub mod ChainPages
+pub use Rattle.cell_chains.specs as cell_chains
+pub use Rattle.page_ways.specs.cell_records
+pub use Rattle.page_ways.specs.directory_pages
+pub use Rattle.page_ways.specs.directory_rows
+pub use Rattle.page_ways.specs.disk_label
+pub use Rattle.page_ways.specs.domain_base
+pub use Rattle.page_ways.specs.domain_layout
+pub use Rattle.page_ways.specs.extent_maps
+pub use Rattle.page_ways.specs.extent_records
+pub use Rattle.page_ways.specs.file_chains
+pub use Rattle.page_ways.specs.file_release
+pub use Rattle.page_ways.specs.fileset_files
+pub use Rattle.page_ways.specs.fileset_model
+pub use Rattle.page_ways.specs.fileset_table
+pub use Rattle.page_ways.specs.fileset_values
+pub use Rattle.page_ways.specs.free_space
+pub use Rattle.page_ways.specs.log_recovery
+pub use Rattle.page_ways.specs.log_ring
+pub use Rattle.page_ways.specs.metadata_cells
+pub use Rattle.page_ways.specs.name_space
+pub use Rattle.page_ways.specs.page_store
+pub use Rattle.page_ways.specs as page_ways
+pub use Rattle.page_ways.specs.sorted_sets
+pub use Rattle.page_ways.specs.tag_dirs
+pub use Rattle.page_ways.specs.volume_disk
+pub use Rattle.page_ways.specs.word_forms

@@ -1,14 +1,14 @@
 -- What is wrong with one page of cells.
 use Rattle.std.specs.Prelude.{◌≡◌, ◌⊎◌, ◌≤◌, ℕ, List}
 use Rattle.std.specs.List.{AllByRecursion}
-use Rattle.domain_base.specs.declared.place.CellAt.{CellAt}
-use Rattle.domain_base.specs.declared.version.Version.{Version}
-use Rattle.page_store.specs.Pages.{Pages}
-use Rattle.record_table.specs.Fields.{number_at}
-use Rattle.record_table.specs.Records.{kind_of, last_kind}
-use Rattle.bmt_mcells.specs.Cell.{Cell, IsFreeCell}
-use Rattle.bmt_mcells.specs.CellPage.{cell_of, free_cells, index_of}
-use Rattle.bmt_mcells.specs.Chain.{StandsAt}
+use Rattle.page_ways.specs.domain_base.declared.place.CellAt.{CellAt}
+use Rattle.page_ways.specs.domain_base.declared.version.Version.{Version}
+use Rattle.page_ways.specs.page_store.Pages.{Pages}
+use Rattle.page_ways.specs.cell_records.Fields.{number_at}
+use Rattle.page_ways.specs.cell_records.Records.{kind_of, last_kind}
+use Rattle.page_ways.specs.metadata_cells.Cell.{Cell, IsFreeCell}
+use Rattle.page_ways.specs.metadata_cells.CellPage.{cell_of, free_cells, index_of}
+use Rattle.page_ways.specs.metadata_cells.Chain.{StandsAt}
 
 -- it has another index than its place, or another count of free cells than it has
 abbrev pub IsWrongHeader : List ℕ → ℕ → Type 0

@@ -1,22 +1,22 @@
 -- Which records a cell in use may have, by its kind.
 use Rattle.std.specs.Prelude.{◌≡◌, ◌⊎◌, ◌&&◌, ◌||◌, ℕ, Bool, true, false, not, List, Contains, Option}
 use Rattle.std.specs.Option.{option_map_or}
-use Rattle.record_table.specs.Fields.{number_at}
-use Rattle.record_table.specs.declared.record.Record.{Record}
-use Rattle.domain_base.specs.declared.place.CellAt.{CellAt}
-use Rattle.domain_base.specs.declared.place.Home.{Home}
-use Rattle.page_store.specs.Pages.{Pages}
-use Rattle.bmt_mcells.specs.Cell.{Cell, record_of}
-use Rattle.bmt_mcells.specs.declared.head.CellKind.{CellKind}
-use Rattle.bmt_mcells.specs.declared.head.CellKind.TheVariants.{Chain, Primary, Quota, Volume}
-use Rattle.bmt_mcells.specs.declared.used.UsedCell.{UsedCell}
-use Rattle.fileset_table.specs.Table.{Table}
-use Rattle.fileset_table.specs.declared.slot.SlotItem.{SlotItem}
-use Rattle.bmt_mcells.specs.CellPage.{cell_of, home_of}
-use Rattle.domain_layout.specs.Reached.{Frame}
+use Rattle.page_ways.specs.cell_records.Fields.{number_at}
+use Rattle.page_ways.specs.cell_records.declared.record.Record.{Record}
+use Rattle.page_ways.specs.domain_base.declared.place.CellAt.{CellAt}
+use Rattle.page_ways.specs.domain_base.declared.place.Home.{Home}
+use Rattle.page_ways.specs.page_store.Pages.{Pages}
+use Rattle.page_ways.specs.metadata_cells.Cell.{Cell, record_of}
+use Rattle.page_ways.specs.metadata_cells.declared.head.CellKind.{CellKind}
+use Rattle.page_ways.specs.metadata_cells.declared.head.CellKind.TheVariants.{Chain, Primary, Quota, Volume}
+use Rattle.page_ways.specs.metadata_cells.declared.used.UsedCell.{UsedCell}
+use Rattle.page_ways.specs.fileset_table.Table.{Table}
+use Rattle.page_ways.specs.fileset_table.declared.slot.SlotItem.{SlotItem}
+use Rattle.page_ways.specs.metadata_cells.CellPage.{cell_of, home_of}
+use Rattle.page_ways.specs.domain_layout.Reached.{Frame}
 use Rattle.cell_faults.specs.Pages.{IsWrongHeader}
 use Rattle.cell_faults.specs.declared.tables.CellsPage.{CellsPage}
-use Rattle.domain_layout.specs.CellRules.{HasWrongCell, HasWrongHeader, IsCellsPage, IsFirstPlace, IsNoCellsPage, IsWrongFirst, IsWrongLater, IsWrongVolumeCell, SaysVolume, are_limits, has_its_kinds, has_kind, is_chain_records, is_good_first, keeps_well, of_clone, of_original}
+use Rattle.page_ways.specs.domain_layout.CellRules.{HasWrongCell, HasWrongHeader, IsCellsPage, IsFirstPlace, IsNoCellsPage, IsWrongFirst, IsWrongLater, IsWrongVolumeCell, SaysVolume, are_limits, has_its_kinds, has_kind, is_chain_records, is_good_first, keeps_well, of_clone, of_original}
 
 -- the cell that was read
 abbrev pub cell_in : UsedCell → Cell

@@ -1,11 +1,11 @@
 -- The pages of cells of a domain's members, read.
 use Rattle.std.specs.Prelude.{◌↔◌, ◌+◌, ◌<◌, ℕ, List, Contains}
-use Rattle.domain_base.specs.declared.place.Home.{Home}
-use Rattle.page_store.specs.Pages.{Pages}
-use Rattle.domain_layout.specs.CellRules.{IsCellsPage, IsNoCellsPage}
-use Rattle.domain_layout.specs.Reached.{Frame, IsUnread, cells_way}
+use Rattle.page_ways.specs.domain_base.declared.place.Home.{Home}
+use Rattle.page_ways.specs.page_store.Pages.{Pages}
+use Rattle.page_ways.specs.domain_layout.CellRules.{IsCellsPage, IsNoCellsPage}
+use Rattle.page_ways.specs.domain_layout.Reached.{Frame, IsUnread, cells_way}
 use Rattle.cell_faults.specs.declared.tables.CellsPage.{CellsPage}
-use Rattle.log_ring.specs.Homes.{IsMember}
+use Rattle.page_ways.specs.log_ring.Homes.{IsMember}
 
 -- a page of cells is read at its place
 abbrev pub IsThere : Pages → Frame → CellsPage → Type 0

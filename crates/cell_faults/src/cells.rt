@@ -1,20 +1,19 @@
 //! Whether a cell is free or in use.
 ghost use Rattle.std.specs.Prelude.{◌≡◌, ◌↔◌, ◌<◌, ◌≤◌, IfOk, IsTrue, length};
 ghost use Rattle.std.specs.List.{AllByRecursion};
-ghost use Rattle.record_table.specs.Fields.{number_at};
-ghost use Rattle.record_table.specs.Records.{kind_of, last_kind};
-ghost use Rattle.bmt_mcells.specs.Cell.{IsFreeCell};
-ghost use Rattle.bmt_mcells.specs.CellPage.{cell_of};
-ghost use Rattle.domain_layout.specs.CellRules.{HasWrongCell};
+ghost use Rattle.page_ways.specs.cell_records.Fields.{number_at};
+ghost use Rattle.page_ways.specs.cell_records.Records.{kind_of, last_kind};
+ghost use Rattle.page_ways.specs.metadata_cells.Cell.{IsFreeCell};
+ghost use Rattle.page_ways.specs.metadata_cells.CellPage.{cell_of};
+ghost use Rattle.page_ways.specs.domain_layout.CellRules.{HasWrongCell};
 ghost use Rattle.page_ways.specs.Frame.{frame_in};
 ghost use Rattle.cell_faults.specs.Pages.{HasNoCell};
 ghost use Rattle.cell_faults.specs.Tables.{IsCellsHome};
 
-use bmt_mcells::{RecordList, read_used};
-use domain_base::{CellAt, Home, OutOfMemory, Page, Version};
-use page_store::MetaPages;
-use page_ways::DomainFrame;
-use record_table::{are_zeros, last_kind_of, u8_at};
+use page_ways::{
+    CellAt, DomainFrame, Home, MetaPages, OutOfMemory, Page, RecordList, Version, are_zeros,
+    last_kind_of, read_used, u8_at,
+};
 use std::alloc::Global;
 
 /// The 292 bytes of a cell of a page.
@@ -43,7 +42,7 @@ pub(crate) fn kind_number(page: &Page, cell: u8) -> u8
     u8_at(bytes_of(page, cell), 15)
 }
 
-/// Whether a version has all the kinds of the records: dense extents are none in version 3.
+/// Whether a version has all the kinds of the records. Version 3 has no dense extents.
 fn are_known(records: &RecordList, version: Version) -> bool
     ensures { IsTrue result ↔ AllByRecursion (λ r. kind_of r ≤ last_kind version) records.now }
 {
@@ -54,7 +53,7 @@ fn are_known(records: &RecordList, version: Version) -> bool
         .all(|record| record.kind() <= last)
 }
 
-/// Whether no cell that the version has stands at a place, free or in use.
+/// Whether no cell that the version knows stands at a place, free or in use.
 fn has_no_cell<M: MetaPages>(
     alloc: Global,
     pages: &M,
@@ -75,7 +74,7 @@ fn has_no_cell<M: MetaPages>(
     })
 }
 
-/// Whether a cell of a page of cells is neither free nor one in use that the version has.
+/// Whether some cell of a page of cells is neither free nor a cell in use that the version knows.
 pub fn has_wrong_cell<M: MetaPages>(
     alloc: Global,
     pages: &M,

@@ -1,11 +1,9 @@
 //! What a page of cells begins with.
 ghost use Rattle.std.specs.Prelude.{◌≡◌, ◌↔◌, IsTrue};
-ghost use Rattle.bmt_mcells.specs.CellPage.{free_cells};
+ghost use Rattle.page_ways.specs.metadata_cells.CellPage.{free_cells};
 ghost use Rattle.cell_faults.specs.Pages.{IsWrongHeader};
 
-use bmt_mcells::is_free_cell;
-use domain_base::Page;
-use record_table::{u16_at, u32_at};
+use page_ways::{Page, is_free_cell, u16_at, u32_at};
 
 /// How many cells of a page have the kind of a free one.
 fn count_free(page: &Page) -> usize
@@ -15,7 +13,7 @@ fn count_free(page: &Page) -> usize
 }
 
 /// Whether a page of cells at a place of its volume's table, from 0, says another place, another
-/// count of free cells than it has, or no zero behind it.
+/// number of free cells than it has, or no zero after that.
 pub fn has_wrong_header(page: &Page, place: usize) -> bool
     ensures { IsTrue result ↔ IsWrongHeader page.now place }
 {

@@ -1,9 +1,9 @@
 //! The pages at which a rule of one page of cells, or of one cell, is broken.
 ghost use Rattle.std.specs.Prelude.{◌↔◌, ◌⊎◌, Contains, IfOk, IsTrue, OnOk};
-ghost use Rattle.domain_base.specs.declared.place.Home.{Home};
-ghost use Rattle.domain_layout.specs.CellRules.{IsCellsPage};
+ghost use Rattle.page_ways.specs.domain_base.declared.place.Home.{Home};
+ghost use Rattle.page_ways.specs.domain_layout.CellRules.{IsCellsPage};
 ghost use Rattle.page_ways.specs.Frame.{frame_in};
-ghost use Rattle.home_sets.specs.Members.{IsIn};
+ghost use Rattle.page_ways.specs.sorted_sets.Members.{IsIn};
 ghost use Rattle.cell_faults.specs.Rules.{IsLocalFault, IsWrongAmong, IsWrongThere};
 ghost use Rattle.cell_faults.specs.declared.tables.CellsPage.{CellsPage};
 ghost use Rattle.cell_faults.specs.Tables.{AreTables, IsThere};
@@ -12,11 +12,7 @@ use crate::cells::has_wrong_cell;
 use crate::headers::has_wrong_header;
 use crate::places::has_wrong_place;
 use crate::tables::{CellTables, CellsPage};
-use domain_base::{Home, OutOfMemory};
-use fileset_table::FilesetTable;
-use home_sets::HomeSet;
-use page_store::MetaPages;
-use page_ways::DomainFrame;
+use page_ways::{DomainFrame, FilesetTable, Home, HomeSet, MetaPages, OutOfMemory};
 use std::alloc::Global;
 
 /// Whether a rule of a page of cells, or of one cell of it, is broken.
@@ -43,7 +39,7 @@ fn is_wrong_page<M: MetaPages>(
     has_wrong_place(alloc, pages, frame, table, &page.home)
 }
 
-/// Puts those of the pages into a set at which a rule of a page, or of one cell of it, is broken.
+/// Puts into a set those of the pages at which a rule of a page, or of one cell of it, is broken.
 fn insert_wrong<M: MetaPages>(
     alloc: Global,
     pages: &M,
@@ -65,8 +61,8 @@ fn insert_wrong<M: MetaPages>(
     Ok(())
 }
 
-/// The pages at which a rule of one page of cells, or of one cell of it, is broken: of those that
-/// were read, and of those that cannot be.
+/// The pages at which a rule of one page of cells, or of one cell of it, is broken, among those
+/// that were read, with those that cannot be read.
 pub fn local_faults<M: MetaPages>(
     alloc: Global,
     pages: &M,

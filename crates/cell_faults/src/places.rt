@@ -1,21 +1,19 @@
 //! Whether the cell at a place, by itself, may stand there.
 ghost use Rattle.std.specs.Prelude.{◌<◌, ◌↔◌, ℕ, IfOk, IsTrue};
-ghost use Rattle.domain_layout.specs.CellRules.{IsCellsPage};
-ghost use Rattle.bmt_mcells.specs.CellPage.{home_of};
+ghost use Rattle.page_ways.specs.domain_layout.CellRules.{IsCellsPage};
+ghost use Rattle.page_ways.specs.metadata_cells.CellPage.{home_of};
 ghost use Rattle.page_ways.specs.Frame.{frame_in};
 ghost use Rattle.cell_faults.specs.Rules.{HasWrongPlace, IsStrayVolume, IsWrongAt, IsWrongUsed, cell_in};
 ghost use Rattle.cell_faults.specs.Tables.{IsCellsHome};
 
 use crate::cells::kind_number;
 use crate::rules::{is_first_place, records_fit, says_volume};
-use bmt_mcells::{UsedCell, read_used};
-use domain_base::{CellAt, Home, OutOfMemory, Page};
-use fileset_table::FilesetTable;
-use page_store::MetaPages;
-use page_ways::DomainFrame;
+use page_ways::{
+    CellAt, DomainFrame, FilesetTable, Home, MetaPages, OutOfMemory, Page, UsedCell, read_used,
+};
 use std::alloc::Global;
 
-/// Whether a cell has the kind of one that says a volume, and stands at no volume's first place.
+/// Whether a cell has the kind that says a volume, but does not stand at a volume's first place.
 fn is_stray_volume(frame: &DomainFrame, page: &Page, at: &CellAt) -> bool
     requires { at.now.cell < 28 }
     ensures { IsTrue result ↔ IsStrayVolume (frame_in frame.now) page.now at.now }
@@ -23,7 +21,7 @@ fn is_stray_volume(frame: &DomainFrame, page: &Page, at: &CellAt) -> bool
     kind_number(page, at.cell) == 4 && !is_first_place(frame, at)
 }
 
-/// Whether a cell in use is a volume's first one and does not say the volume, or has not the
+/// Whether a cell in use is a volume's first one and does not say the volume, or does not have the
 /// records that it may have.
 fn is_wrong_used(frame: &DomainFrame, table: &FilesetTable, at: &CellAt, used: &UsedCell) -> bool
     ensures { IsTrue result ↔ IsWrongUsed (frame_in frame.now) table.now at.now (cell_in used.now) }
@@ -31,9 +29,9 @@ fn is_wrong_used(frame: &DomainFrame, table: &FilesetTable, at: &CellAt, used: &
     (is_first_place(frame, at) && !says_volume(frame, at.vol, used)) || !records_fit(table, used)
 }
 
-/// Whether the cell at a place of a page of cells is none that may stand there: a volume's first
-/// cell that does not say the volume, another one of that kind, or one without the records that
-/// it may have.
+/// Whether the cell at a place of a page of cells may not stand there: it is a volume's first cell
+/// that does not say the volume, another one of that kind, or one without the records that it may
+/// have.
 fn is_wrong_at<M: MetaPages>(
     alloc: Global,
     pages: &M,
@@ -57,7 +55,7 @@ fn is_wrong_at<M: MetaPages>(
     })
 }
 
-/// Whether some cell of a page of cells is none that may stand there by itself.
+/// Whether some cell of a page of cells may, by itself, not stand there.
 pub fn has_wrong_place<M: MetaPages>(
     alloc: Global,
     pages: &M,

@@ -2,13 +2,13 @@
 ghost use Rattle.std.specs.Prelude.{◌≡◌, ◌∷◌, [], ◌↔◌, IsTrue, false, not};
 ghost use Rattle.std.specs.Option.{option_copied, option_map_or};
 ghost use Rattle.std.specs.List.{list_all};
-ghost use Rattle.record_table.specs.Records.{kind_of};
-ghost use Rattle.record_table.specs.declared.record.Record.TheVariants as written;
-ghost use Rattle.bmt_mcells.specs.Cell.{record_of};
-ghost use Rattle.bitfile_core.specs.Files.{is_first_kind as first_may_have};
-ghost use Rattle.domain_layout.specs.CellRules.{agree, are_limits as limits_alone, has_first_records as has_first, has_its_kinds as has_kinds, has_kind as has_one, is_chain_records as of_chain, keeps_well as keeps, say_removed, says_directory};
+ghost use Rattle.page_ways.specs.cell_records.Records.{kind_of};
+ghost use Rattle.page_ways.specs.cell_records.declared.record.Record.TheVariants as written;
+ghost use Rattle.page_ways.specs.metadata_cells.Cell.{record_of};
+ghost use Rattle.page_ways.specs.fileset_files.Files.{is_first_kind as first_may_have};
+ghost use Rattle.page_ways.specs.domain_layout.CellRules.{agree, are_limits as limits_alone, has_first_records as has_first, has_its_kinds as has_kinds, has_kind as has_one, is_chain_records as of_chain, keeps_well as keeps, say_removed, says_directory};
 
-use record_table::{Leftover, Record};
+use page_ways::{Leftover, Record};
 
 /// The first record of a kind.
 fn find_kind(records: &[Record], kind: u8) -> Option<&Record>
@@ -36,7 +36,7 @@ fn may_be_in_first(kind: u8) -> bool
     matches!(kind, 1 | 2 | 4 | 6 | 9 | 10 | 11 | 14)
 }
 
-/// Whether there are records alone that a first cell may have.
+/// Whether there are only records that a first cell may have.
 fn may_all_be_in_first(records: &[Record]) -> bool
     ensures { result ≡ list_all (λ r. first_may_have (kind_of r)) records.now }
 {
@@ -50,7 +50,8 @@ fn has_one_kind_of_extents(records: &[Record]) -> bool
     has_kind(records, 4) != has_kind(records, 14)
 }
 
-/// Whether there are attributes, one record of extents, and else only what a first cell may have.
+/// Whether there are attributes, one record of extents, and otherwise only what a first cell may
+/// have.
 pub(crate) fn has_first_records(records: &[Record]) -> bool
     ensures { result ≡ has_first records.now }
 {
@@ -77,8 +78,8 @@ fn is_directory(records: &[Record]) -> bool
     }
 }
 
-/// Whether there is what a file or directory of a clone has and one of an original has not, or the
-/// other way round, and a parent where there is a directory alone.
+/// Whether the record that only a file or directory of a clone has is there if and only if this is
+/// a clone's, and a parent if and only if this is a directory.
 pub(crate) fn has_its_kinds(records: &[Record], clone: bool) -> bool
     ensures { result ≡ has_kinds clone records.now }
 {
@@ -99,14 +100,14 @@ pub(crate) fn keeps_well(records: &[Record]) -> bool
     }
 }
 
-/// Whether there is one record of extents or holes alone.
+/// Whether there is only one record, of extents or holes.
 pub(crate) fn is_chain_records(records: &[Record]) -> bool
     ensures { result ≡ of_chain records.now }
 {
     records.len() == 1 && matches!(records[0].kind(), 3 | 5 | 13)
 }
 
-/// Whether there are limits alone.
+/// Whether there are only limits.
 pub(crate) fn are_limits(records: &[Record]) -> bool
     ensures { result ≡ limits_alone records.now }
 {
@@ -129,7 +130,7 @@ fn is_volume(record: &Record, volume: u32, size: u32, bitmap: u32) -> bool
     }
 }
 
-/// Whether there is such a record alone.
+/// Whether the only record says this volume, so many pages, and so many bitmap pages.
 pub(crate) fn is_volume_alone(records: &[Record], volume: u32, size: u32, bitmap: u32) -> bool
     ensures { IsTrue result ↔ (records.now ≡ written.Volume volume size bitmap ∷ []) }
 {

@@ -1,7 +1,7 @@
 //! Which records a cell may have in its fileset or on its volume.
 ghost use Rattle.std.specs.Prelude.{◌≡◌, ◌↔◌, IsTrue};
 ghost use Rattle.std.specs.Option.{option_copied};
-ghost use Rattle.domain_layout.specs.CellRules.{IsFirstPlace, SaysVolume, is_good_first as good_first, item_of as item_in};
+ghost use Rattle.page_ways.specs.domain_layout.CellRules.{IsFirstPlace, SaysVolume, is_good_first as good_first, item_of as item_in};
 ghost use Rattle.page_ways.specs.Frame.{frame_in};
 ghost use Rattle.cell_faults.specs.Rules.{cell_in, fit_fileset as fits, records_fit as fit};
 
@@ -9,11 +9,9 @@ use crate::records::{
     are_limits, has_first_records, has_its_kinds, is_chain_records, is_volume_alone, keeps_well,
     says_removed,
 };
-use bmt_mcells::{CellHead, CellKind, UsedCell};
-use domain_base::{CellAt, VolIx};
-use fileset_table::{FilesetTable, SlotItem};
-use page_ways::DomainFrame;
-use record_table::Record;
+use page_ways::{
+    CellAt, CellHead, CellKind, DomainFrame, FilesetTable, Record, SlotItem, UsedCell, VolIx,
+};
 
 /// What is in the slot that a head names.
 fn item_of<'a>(table: &'a FilesetTable, head: &CellHead) -> Option<&'a SlotItem>
@@ -23,7 +21,7 @@ fn item_of<'a>(table: &'a FilesetTable, head: &CellHead) -> Option<&'a SlotItem>
 }
 
 /// Whether the records are those that what is in a slot has in first cells. What is being removed,
-/// and no fileset, tells nothing of them.
+/// or an empty slot, asks nothing of them.
 fn fit_fileset(item: Option<&SlotItem>, records: &[Record]) -> bool
     ensures { result ≡ fits (option_copied item.entry) records.now }
 {
@@ -44,8 +42,8 @@ fn is_good_first(table: &FilesetTable, used: &UsedCell) -> bool
         && (says_removed(records) || fit_fileset(item_of(table, &used.head), records))
 }
 
-/// Whether a cell in use has the records that one of its kind may have. Of the kind that says a
-/// volume that is told by `says_volume`.
+/// Whether a cell in use has the records that one of its kind may have. For the kind that says a
+/// volume, `says_volume` tells it.
 pub(crate) fn records_fit(table: &FilesetTable, used: &UsedCell) -> bool
     ensures { result ≡ fit table.now used.now.head.kind (cell_in used.now) }
 {

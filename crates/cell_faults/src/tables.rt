@@ -1,14 +1,14 @@
 //! The pages of cells of each member.
 ghost use Rattle.std.specs.Prelude.{◌≡◌, ◌⊎◌, ◌↔◌, IfOk, OnOk, Some, Contains, slice_get};
-ghost use Rattle.domain_base.specs.declared.place.Home.{Home};
+ghost use Rattle.page_ways.specs.domain_base.declared.place.Home.{Home};
 ghost use Rattle.cell_faults.specs.declared.tables.CellsPage.{CellsPage};
 ghost use Rattle.cell_faults.specs.Tables.{AreTables, AreTablesBelow, AreTablesUpTo};
 ghost use Rattle.page_ways.specs.Frame.{frame_in};
-ghost use Rattle.log_ring.specs.Homes.{IsMember};
+ghost use Rattle.page_ways.specs.log_ring.Homes.{IsMember};
 
-use domain_base::{Home, OutOfMemory, VolIx};
-use page_store::MetaPages;
-use page_ways::{CellsWay, DomainFrame, ReadPages, read_pages};
+use page_ways::{
+    CellsWay, DomainFrame, Home, MetaPages, OutOfMemory, ReadPages, VolIx, read_pages,
+};
 use std::alloc::Global;
 
 /// A page of cells that is read: where it stands, and its place in its volume's table, from 0.
@@ -22,11 +22,11 @@ pub struct CellsPage {
 #[derive(Drop)]
 pub struct CellTables {
     pub read: Vec<CellsPage>,
-    /// Those that are come to and cannot be pages of cells.
+    /// The pages that are reached and cannot be pages of cells.
     pub unread: Vec<Home>,
 }
 
-/// Puts the pages of a table behind those of others.
+/// Appends the pages of a table to those of others.
 fn push_pages(homes: &[Home], read: &mut Vec<CellsPage>) -> Result<(), OutOfMemory>
     ensures { OnOk result ((page : CellsPage) → Contains read.new.items page
         ↔ (Contains read.old.items page ⊎ (slice_get homes.now page.place ≡ Some page.home))) }
@@ -37,7 +37,7 @@ fn push_pages(homes: &[Home], read: &mut Vec<CellsPage>) -> Result<(), OutOfMemo
     Ok(())
 }
 
-/// Reads the table of a member, and puts its pages behind those of others.
+/// Reads the table of a member, and appends its pages to those of others.
 fn read_table<M: MetaPages>(
     alloc: Global,
     pages: &M,

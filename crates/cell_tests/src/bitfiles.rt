@@ -1,13 +1,10 @@
 //! Files and directories in memory, changed by lines of text: a word for the call, a tag, and what
 //! it is given.
 ghost use Rattle.std.specs.Prelude.{◌≡◌, ◌≤◌, IsSome, IsTrue};
-ghost use Rattle.page_store.specs.Bitfiles.{IsDirectory, count_index};
+ghost use Rattle.free_cells.specs.page_store.Bitfiles.{IsDirectory, count_index};
 
-use bitfile_set::BitfileSet;
-use domain_base::limits::{FILE_PAGES, MAX_LINKS};
-use domain_base::{Kind, OutOfMemory, Page, Tag};
-use memory_store::MemoryBitfiles;
-use page_store::StoreFault;
+use free_cells::limits::{FILE_PAGES, MAX_LINKS};
+use free_cells::{BitfileSet, Kind, MemoryBitfiles, OutOfMemory, Page, StoreFault, Tag};
 use std::alloc::Global;
 use std::test::Fail;
 

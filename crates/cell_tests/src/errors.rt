@@ -1,4 +1,4 @@
-use page_store::StoreFault;
+use free_cells::StoreFault;
 use std::test::Fail;
 
 #[test]

@@ -1,20 +1,19 @@
 //! Free cells of pages in memory: handed out, written and taken back.
 ghost use Rattle.std.specs.Prelude.{◌≡◌, ◌∷◌, [], Contains, IfOk, IfSome, IsSomeAnd, OnOk, true, false};
-ghost use Rattle.domain_base.specs.declared.place.CellAt.{CellAt};
-ghost use Rattle.domain_base.specs.declared.place.Home.{Home};
-ghost use Rattle.page_store.specs.Pages.{same_home};
-ghost use Rattle.bmt_mcells.specs.CellPage.{HasPlace, IsEmptyPage, IsUsedAt, KeepsHeaders, KeepsWellFormed};
-ghost use Rattle.bmt_mcells.specs.Chain.{LeavesOthers, is_at};
+ghost use Rattle.free_cells.specs.domain_base.declared.place.CellAt.{CellAt};
+ghost use Rattle.free_cells.specs.domain_base.declared.place.Home.{Home};
+ghost use Rattle.free_cells.specs.page_store.Pages.{same_home};
+ghost use Rattle.free_cells.specs.metadata_cells.CellPage.{HasPlace, IsEmptyPage, IsUsedAt, KeepsHeaders, KeepsWellFormed};
+ghost use Rattle.free_cells.specs.metadata_cells.Chain.{LeavesOthers, is_at};
 ghost use Rattle.free_cells.specs.Belong.{Belong, LeadsTo};
 ghost use Rattle.free_cells.specs.Cells.{table_of};
 
 use crate::lines::is_told;
 use crate::writing::limits;
-use bmt_mcells::{CellHead, CellKind, empty_page, write_cell};
-use domain_base::{CellAt, FilesetNo, Home, OutOfMemory, VolIx};
-use free_cells::FreeCells;
-use memory_store::MemoryPages;
-use page_store::MetaPages;
+use free_cells::{
+    CellAt, CellHead, CellKind, FilesetNo, FreeCells, Home, MemoryPages, MetaPages, OutOfMemory,
+    VolIx, empty_page, write_cell,
+};
 use std::alloc::Global;
 use std::test::Fail;
 

@@ -4,13 +4,12 @@
 //! what comes of it.
 ghost use Rattle.std.specs.Prelude.{◌+◌, ◌≤◌, length};
 
-use bmt_mcells::{CellHead, CellKind, ChainFault, read_chain, read_head};
-use domain_base::limits::PAGE_BYTES;
-use domain_base::{CellAt, Home, OutOfMemory, Page, VolIx};
+use free_cells::limits::PAGE_BYTES;
+use free_cells::{
+    CellAt, CellHead, CellKind, ChainFault, Home, Leftover, MemoryPages, MetaPages, OutOfMemory,
+    Page, Record, VolIx, read_chain, read_head,
+};
 use hex::decode;
-use memory_store::MemoryPages;
-use page_store::MetaPages;
-use record_table::{Leftover, Record};
 use std::alloc::Global;
 use std::test::Fail;
 

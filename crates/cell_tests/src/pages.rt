@@ -1,8 +1,6 @@
 //! Pages in memory beside a plain list of the same.
 
-use domain_base::{Home, OutOfMemory, Page, VolIx};
-use memory_store::MemoryPages;
-use page_store::MetaPages;
+use free_cells::{Home, MemoryPages, MetaPages, OutOfMemory, Page, VolIx};
 use std::alloc::Global;
 use std::test::Fail;
 

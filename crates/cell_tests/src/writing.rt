@@ -1,20 +1,18 @@
 //! Cells that are written in place, and chains of them that are read back.
 ghost use Rattle.std.specs.Prelude.{◌≡◌, ◌<◌, ◌≤◌, IfOk, IfSome, IsTrue, length};
-ghost use Rattle.bmt_mcells.specs.Cell.{AreRecords, spellings};
-ghost use Rattle.bmt_mcells.specs.CellPage.{HasPlace, is_cell_page as begins};
+ghost use Rattle.free_cells.specs.metadata_cells.Cell.{AreRecords, spellings};
+ghost use Rattle.free_cells.specs.metadata_cells.CellPage.{HasPlace, is_cell_page as begins};
 
 use crate::lines::{cell_of, home_of, is_told, pages_of};
-use bmt_mcells::{CellHead, CellKind, ChainFault, RecordList, read_chain, write_cell};
 use byteorder::{ByteOrder, LittleEndian};
-use domain_base::{CellAt, FilesetNo, Home, OutOfMemory, Page, VolIx};
-use memory_store::MemoryPages;
-use page_store::MetaPages;
-use record_table::Record;
+use free_cells::{
+    CellAt, CellHead, CellKind, ChainFault, FilesetNo, Home, MemoryPages, MetaPages, OutOfMemory,
+    Page, Record, RecordList, VolIx, read_chain, write_cell,
+};
 use std::alloc::Global;
 use std::test::Fail;
 
 /// Whether the bytes begin as a page of cells does.
-#[tactic(auto, unfolding(record_table::specs::Fields::number_at))]
 fn is_cell_page(bytes: &[u8]) -> bool
     requires { 4 ≤ length bytes.now }
     ensures { result ≡ begins bytes.now }

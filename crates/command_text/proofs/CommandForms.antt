@@ -4,11 +4,11 @@ use Rattle.std.specs.List.{list_all}
 use Rattle.std.specs.Str.{bytes_eq}
 use Rattle.std.proofs.lemmas.Option.{option_and_then_some}
 use Rattle.std.proofs.lemmas.Slice.Eq.{bytes_eq-Decides}
-use Rattle.fileset_model.specs.declared.command.Command.{Command}
-use Rattle.fileset_model.specs.declared.command.Command.TheVariants.{Mkfset, Rmfset, Clonefset, Showfsets, Setquota, Showquota, Create, Mkdir, Write, Read, Truncate, Rename, Link, Links, Unlink, Rmdir, List as ListAt, Stat, Fsync, Chfile, Stripe, Sync, Cancel, Showfdmn, Showfile, Migrate, Balance, Addvol, Rmvol, ChvolA, Switchlog, Upgrade, Defragment}
-use Rattle.fileset_model.specs.declared.command.Owner.{Owner}
-use Rattle.fileset_model.specs.declared.command.Owner.TheVariants.{User, Group, Fileset}
-use Rattle.fileset_model.specs.declared.command.Place.{Place}
+use Rattle.word_forms.specs.fileset_values.declared.command.Command.{Command}
+use Rattle.word_forms.specs.fileset_values.declared.command.Command.TheVariants.{Mkfset, Rmfset, Clonefset, Showfsets, Setquota, Showquota, Create, Mkdir, Write, Read, Truncate, Rename, Link, Links, Unlink, Rmdir, List as ListAt, Stat, Fsync, Chfile, Stripe, Sync, Cancel, Showfdmn, Showfile, Migrate, Balance, Addvol, Rmvol, ChvolA, Switchlog, Upgrade, Defragment}
+use Rattle.word_forms.specs.fileset_values.declared.command.Owner.{Owner}
+use Rattle.word_forms.specs.fileset_values.declared.command.Owner.TheVariants.{User, Group, Fileset}
+use Rattle.word_forms.specs.fileset_values.declared.command.Place.{Place}
 use Rattle.command_text.specs.declared.verb.Verb.{Verb}
 use Rattle.command_text.specs.declared.verb.Verb.TheVariants as verb
 use Rattle.command_text.specs.Commands.{Optional, chfile, chvol, clonefset, command_of, made, migrate, migrate_to, no_word, one_word, optional, read, setquota, showquota, stripe, truncate, two_paths, write}

@@ -1,9 +1,9 @@
 -- The words of each command say that command.
 use Rattle.std.proofs.Common.{◌≡◌, ℕ, ◌+◌, ◌<◌, ◌^◌, true, eqb, Option, Some, None, List, [], ◌∷◌, length, codes, decimal, refl, arith}
 use Rattle.std.specs.List.{list_all, slice_split}
-use Rattle.fileset_model.specs.declared.command.Command.{Command}
-use Rattle.fileset_model.specs.declared.command.Command.TheVariants.{Mkfset, Rmfset, Clonefset, Showfsets, Setquota, Showquota, Create, Mkdir, Write, Read, Truncate, Rename, Link, Links, Unlink, Rmdir, List as ListAt, Stat, Fsync, Chfile, Stripe, Sync, Cancel, Showfdmn, Showfile, Migrate, Balance, Addvol, Rmvol, ChvolA, Switchlog, Upgrade, Defragment}
-use Rattle.fileset_model.specs.declared.command.Place.{Place}
+use Rattle.word_forms.specs.fileset_values.declared.command.Command.{Command}
+use Rattle.word_forms.specs.fileset_values.declared.command.Command.TheVariants.{Mkfset, Rmfset, Clonefset, Showfsets, Setquota, Showquota, Create, Mkdir, Write, Read, Truncate, Rename, Link, Links, Unlink, Rmdir, List as ListAt, Stat, Fsync, Chfile, Stripe, Sync, Cancel, Showfdmn, Showfile, Migrate, Balance, Addvol, Rmvol, ChvolA, Switchlog, Upgrade, Defragment}
+use Rattle.word_forms.specs.fileset_values.declared.command.Place.{Place}
 use Rattle.command_text.specs.declared.verb.Verb.{Verb}
 use Rattle.command_text.specs.declared.verb.Verb.TheVariants as verb
 use Rattle.command_text.specs.Commands.{chfile, chvol, clonefset, command_of, made, migrate, migrate_to, optional, read, row_of, setquota, showquota, stripe, takes, truncate, two_paths, verb_of, write}

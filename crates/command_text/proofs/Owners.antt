@@ -1,7 +1,7 @@
 -- Owners of quotas and switches are read back.
 use Rattle.std.proofs.Common.{◌≡◌, Bool, true, false, Some, decimal, refl, arith}
-use Rattle.fileset_model.specs.declared.command.Owner.{Owner}
-use Rattle.fileset_model.specs.declared.command.Owner.TheVariants.{User, Group, Fileset}
+use Rattle.word_forms.specs.fileset_values.declared.command.Owner.{Owner}
+use Rattle.word_forms.specs.fileset_values.declared.command.Owner.TheVariants.{User, Group, Fileset}
 use Rattle.command_text.specs.Texts.{owner_id, owner_kind, switch_text}
 use Rattle.word_forms.specs.Forms.{owner_of, switch_of}
 use Rattle.word_forms.specs.WellFormed.{IsOwner}

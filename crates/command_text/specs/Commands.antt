@@ -2,9 +2,9 @@
 use Rattle.std.specs.Prelude.{ℕ, ◌^◌, Bool, true, false, ◌==◌, if◌then◌else◌, Option, Some, None, option_map, find, List, [], ◌∷◌, codes}
 use Rattle.std.specs.List.{list_any}
 use Rattle.std.specs.Str.{bytes_eq}
-use Rattle.fileset_model.specs.declared.command.Command.{Command}
-use Rattle.fileset_model.specs.declared.command.Command.TheVariants.{Mkfset, Rmfset, Clonefset, Showfsets, Setquota, Showquota, Create, Mkdir, Write, Read, Truncate, Rename, Link, Links, Unlink, Rmdir, List as ListAt, Stat, Fsync, Chfile, Stripe, Sync, Cancel, Showfdmn, Showfile, Migrate, Balance, Addvol, Rmvol, ChvolA, Switchlog, Upgrade, Defragment}
-use Rattle.fileset_model.specs.declared.command.Place.{Place}
+use Rattle.word_forms.specs.fileset_values.declared.command.Command.{Command}
+use Rattle.word_forms.specs.fileset_values.declared.command.Command.TheVariants.{Mkfset, Rmfset, Clonefset, Showfsets, Setquota, Showquota, Create, Mkdir, Write, Read, Truncate, Rename, Link, Links, Unlink, Rmdir, List as ListAt, Stat, Fsync, Chfile, Stripe, Sync, Cancel, Showfdmn, Showfile, Migrate, Balance, Addvol, Rmvol, ChvolA, Switchlog, Upgrade, Defragment}
+use Rattle.word_forms.specs.fileset_values.declared.command.Place.{Place}
 use Rattle.command_text.specs.declared.verb.Verb.{Verb}
 use Rattle.command_text.specs.declared.verb.Verb.TheVariants as verb
 use Rattle.word_forms.specs.Forms.{◌>>=◌, passing, number_below, number_within, fileset_of, place_of, named_path_of, named_place_of, bytes_of, owner_of, switch_of}

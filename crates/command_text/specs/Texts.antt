@@ -1,11 +1,11 @@
 -- The text of commands, as histories write them.
 use Rattle.std.specs.Prelude.{ℕ, Bool, if◌then◌else◌, Option, Some, None, List, [], ◌∷◌, ◌++◌, codes, decimal}
-use Rattle.fileset_model.specs.declared.command.Actor.{Actor}
-use Rattle.fileset_model.specs.declared.command.Actor.TheVariants.{Client, Mover}
-use Rattle.fileset_model.specs.declared.command.Command.{Command}
-use Rattle.fileset_model.specs.declared.command.Command.TheVariants as command
-use Rattle.fileset_model.specs.declared.command.Owner.{Owner}
-use Rattle.fileset_model.specs.declared.command.Owner.TheVariants as owner
+use Rattle.word_forms.specs.fileset_values.declared.command.Actor.{Actor}
+use Rattle.word_forms.specs.fileset_values.declared.command.Actor.TheVariants.{Client, Mover}
+use Rattle.word_forms.specs.fileset_values.declared.command.Command.{Command}
+use Rattle.word_forms.specs.fileset_values.declared.command.Command.TheVariants as command
+use Rattle.word_forms.specs.fileset_values.declared.command.Owner.{Owner}
+use Rattle.word_forms.specs.fileset_values.declared.command.Owner.TheVariants as owner
 use Rattle.word_forms.specs.Runs.{bytes_text}
 use Rattle.word_forms.specs.Texts.{path_text, place_text, spaced}
 

@@ -6,11 +6,12 @@ ghost use Rattle.word_forms.specs.Forms.{fileset_of, named_place_of, number_belo
 ghost use Rattle.word_forms.specs.Read.{Gives};
 
 use crate::verb::Verb;
-use domain_base::limits::MAX_TRANSFER;
-use fileset_model::{Command, FilesetName, Owner, Place};
 use std::alloc::Global;
+use word_forms::from_fileset_values::Place;
+use word_forms::limits::MAX_TRANSFER;
 use word_forms::{
-    WordFault, bytes, fileset, named_path, named_place, number, number_within, place, small_number,
+    Command, FilesetName, Owner, WordFault, bytes, fileset, named_path, named_place, number,
+    number_within, place, small_number,
 };
 
 /// Whose a quota is, by two words.
@@ -30,7 +31,7 @@ fn owner(kind: &[u8], id: &[u8]) -> Option<Owner>
     }
 }
 
-/// Whether the word says `on`, where it is that or `off`.
+/// Whether the word says `on`, if it is `on` or `off`.
 #[tactic(auto, unfolding(word_forms::specs::Forms::switch_of))]
 fn switched(word: &[u8]) -> Option<bool>
     ensures { result ≡ switch_of word.now }
@@ -44,7 +45,7 @@ fn switched(word: &[u8]) -> Option<bool>
     }
 }
 
-/// Refuses another word than the option.
+/// Refuses any word other than the option.
 fn is_option(word: &[u8], option: &[u8]) -> Result<(), WordFault>
     ensures { MatchResult result (λ _. bytes_eq word.now option.now ≡ true)
         (λ fault. (fault ≡ WordFault.Malformed) × (bytes_eq word.now option.now ≡ false)) }
@@ -56,7 +57,7 @@ fn is_option(word: &[u8], option: &[u8]) -> Result<(), WordFault>
     }
 }
 
-/// The command whose first word is all.
+/// The command, if there are no further words.
 fn alone(words: &[&[u8]], command: Command) -> Result<Command, WordFault>
     ensures { Gives result (no_word command (map (λ word. word.now) words.now)) }
 {
@@ -378,7 +379,7 @@ fn chvol(words: &[&[u8]]) -> Result<Command, WordFault>
     Ok(Command::ChvolA { vol })
 }
 
-/// An option with its number, where the words begin with it, and the words behind.
+/// An option with its number, if the words begin with it, and the words after it.
 type Optional<'a, 'b> = (Option<u32>, &'a [&'b [u8]]);
 
 #[tactic(auto, unfolding(crate::specs::Commands::optional))]
@@ -427,7 +428,7 @@ fn migrate(alloc: Global, words: &[&[u8]]) -> Result<Command, WordFault>
     migrate_to(alloc, first, count, from, words)
 }
 
-/// The command that the words behind its first word say.
+/// The command that the words after its first word say.
 pub fn command(alloc: Global, verb: Verb, words: &[&[u8]]) -> Result<Command, WordFault>
     ensures { Gives result (command_of verb (map (λ word. word.now) words.now)) }
 {

@@ -79,8 +79,8 @@ impl Verb {
         Verb::Defragment,
     ];
 
-    /// The first word, how many words the line has at most, itself among them, and whether scripts
-    /// have it today. The others stand in histories alone.
+    /// The first word, the most words that the line has, counting itself, and whether scripts have
+    /// the command today. The others stand only in histories.
     fn row(self) -> (&'static str, usize, bool)
         ensures text { result.0.now ≡ (row_of self).text }
         ensures words { result.1 ≡ (row_of self).words }
@@ -137,7 +137,7 @@ impl Verb {
         self.text().as_bytes() == word
     }
 
-    /// Whether its line may have so many words, the first among them.
+    /// Whether its line may have `count` words, counting the first.
     #[tactic(auto, unfolding(crate::specs::Commands::takes))]
     pub fn takes(self, count: usize) -> bool
         ensures { result ≡ takes self count }
@@ -156,7 +156,7 @@ impl Verb {
     }
 }
 
-/// What a first word asks for, where it is known.
+/// What a first word asks for, if it is known.
 pub fn known_verb(word: &[u8]) -> Option<Verb>
     ensures { result ≡ verb_of word.now }
 {

@@ -3,9 +3,11 @@ ghost use Rattle.std.specs.Prelude.{◌≡◌, [], ◌∷◌, ◌++◌, OnOk, de
 ghost use Rattle.command_text.specs.Texts.{actor_text, command_text, option_words, owner_id, owner_kind};
 ghost use Rattle.word_forms.specs.Texts.{behind_spaces, place_text, spaced};
 
-use domain_base::OutOfMemory;
-use fileset_model::{Actor, Command, FilesetName, Owner, Path, Place};
-use word_forms::{push_bytes, push_number, push_path, push_place};
+use word_forms::from_fileset_values::Place;
+use word_forms::{
+    Actor, Command, FilesetName, OutOfMemory, Owner, Path, push_bytes, push_number, push_path,
+    push_place,
+};
 
 /// Adds who gave a command: `c` and the number of a client, or `m`.
 pub fn push_actor(out: &mut Vec<u8>, actor: Actor) -> Result<(), OutOfMemory>
@@ -21,7 +23,7 @@ pub fn push_actor(out: &mut Vec<u8>, actor: Actor) -> Result<(), OutOfMemory>
     Ok(())
 }
 
-/// Adds a text and a name behind it.
+/// Adds a text and a name after it.
 fn push_named(out: &mut Vec<u8>, text: &[u8], name: &FilesetName) -> Result<(), OutOfMemory>
     ensures { OnOk result (out.new.items ≡ out.old.items ++ text.now ++ name.now) }
 {
@@ -30,7 +32,7 @@ fn push_named(out: &mut Vec<u8>, text: &[u8], name: &FilesetName) -> Result<(), 
     Ok(())
 }
 
-/// Adds a text and a place behind it.
+/// Adds a text and a place after it.
 fn push_placed(out: &mut Vec<u8>, text: &[u8], place: &Place) -> Result<(), OutOfMemory>
     ensures { OnOk result (out.new.items ≡ out.old.items ++ text.now ++ place_text place.now) }
 {
@@ -67,7 +69,7 @@ fn owner_id(who: Owner) -> u32
     }
 }
 
-/// Adds the two words that say whose a quota is, each behind a space.
+/// Adds the two words that say whose a quota is, each after a space.
 fn push_owner(out: &mut Vec<u8>, who: Owner) -> Result<(), OutOfMemory>
     ensures { OnOk result (out.new.items
         ≡ out.old.items ++ behind_spaces (owner_kind who ∷ decimal (owner_id who) ∷ [])) }
@@ -226,7 +228,7 @@ fn push_stripe(out: &mut Vec<u8>, width: u8, place: &Place) -> Result<(), OutOfM
     Ok(())
 }
 
-/// Adds an option with its number, each behind a space, where it is given.
+/// Adds an option with its number, each after a space, if it is given.
 fn push_option(out: &mut Vec<u8>, name: &[u8], n: Option<u32>) -> Result<(), OutOfMemory>
     ensures { OnOk result (out.new.items
         ≡ out.old.items ++ behind_spaces (option_words name.now n)) }

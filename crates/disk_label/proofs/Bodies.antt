@@ -5,11 +5,11 @@ use Rattle.std.proofs.lemmas.List.{get_or-drop}
 use Rattle.std.specs.List.{flat_map}
 use Rattle.byteorder.specs.Endian.{little_number, little_bytes}
 use Rattle.byteorder.specs.Numbers.{little_number-reads_back}
-use Rattle.domain_base.specs.Page.{zero_bytes}
-use Rattle.domain_base.specs.Version.{bitmap_pages, number_of}
-use Rattle.domain_base.specs.declared.place.Home.{Home}
-use Rattle.domain_base.specs.declared.version.Version.{Version}
-use Rattle.domain_base.specs.declared.version.Version.TheVariants.{Three, Four}
+use Rattle.volume_disk.specs.domain_base.Page.{zero_bytes}
+use Rattle.volume_disk.specs.domain_base.Version.{bitmap_pages, number_of}
+use Rattle.volume_disk.specs.domain_base.declared.place.Home.{Home}
+use Rattle.volume_disk.specs.domain_base.declared.version.Version.{Version}
+use Rattle.volume_disk.specs.domain_base.declared.version.Version.TheVariants.{Three, Four}
 use Rattle.disk_label.specs.Body.{word_at, long_at, home_from, member_from, anchor_from}
 use Rattle.disk_label.specs.Label.{IsLabelOf, label_bytes}
 use Rattle.disk_label.specs.Words.{words_of, home_words, member_words, body_bytes}

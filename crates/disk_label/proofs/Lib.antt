@@ -5,3 +5,4 @@ pub mod OtherSlots
 pub mod Slots
 pub mod Steps
 pub mod Written
+pub mod OfVolumeDisk

@@ -1,7 +1,7 @@
 -- The three writes of an anchor, one after another.
 use Rattle.std.proofs.Common.{◌≡◌, ℕ, ◌+◌, ◌*◌, ◌<◌, ◌≤◌, List, length, get_or, Option, Some, refl, sym, ◌∙◌, ap, subst, inl, inr, arith}
 use Rattle.std.proofs.lemmas.List.{length-replicate}
-use Rattle.domain_base.specs.Gate.{closed, opened}
+use Rattle.volume_disk.specs.domain_base.Gate.{closed, opened}
 use Rattle.std.proofs.lemmas.Bool.{cases_eq}
 use Rattle.volume_disk.specs.Disk.{Disk, Moment, MayLeave, Tells, volume_pages}
 use Rattle.volume_disk.specs.Image.{AreBytes, Image}

@@ -2,7 +2,7 @@
 use Rattle.std.proofs.Common.{◌≡◌, ℕ, ◌+◌, ◌-◌, ◌*◌, ◌%◌, ◌<◌, ◌≤◌, List, ◌++◌, length, length-append, get_or, Option, Some, None, false, refl, sym, ◌∙◌, ap, subst, inl, inr, arith}
 use Rattle.std.proofs.lemmas.Bool.{cases_eq, cases_lt}
 use Rattle.std.proofs.lemmas.List.{get_or_append_left, get_or-append_right}
-use Rattle.domain_base.specs.Gate.{opened}
+use Rattle.volume_disk.specs.domain_base.Gate.{opened}
 use Rattle.volume_disk.specs.Disk.{Disk, Moment, MayLeave, Tells, volume_pages}
 use Rattle.volume_disk.specs.Image.{Image, IsIn, SameOutside, bytes_at}
 use Rattle.volume_disk.specs.Run.{MayLeaveTorn, LeavesOnly, OnlyWrites, Settles}

@@ -1,7 +1,7 @@
 -- The fields of an anchor's body, of which the first 112 bytes are in use.
 use Rattle.std.specs.Prelude.{◌&&◌, ◌^◌, ◌+◌, ◌*◌, ◌-◌, ◌≤◌, ℕ, nat_le, if◌then◌else◌, List, [], ◌∷◌, drop, slice_index_or, Option, Some, None}
 use Rattle.byteorder.specs.Endian.{little_number}
-use Rattle.domain_base.specs.declared.place.Home.{Home}
+use Rattle.volume_disk.specs.domain_base.declared.place.Home.{Home}
 use Rattle.disk_label.specs.declared.anchor.Anchor.{Anchor}
 use Rattle.disk_label.specs.declared.anchor.Member.{Member}
 

@@ -1,8 +1,8 @@
 -- The first pages of a volume, by what they are for. These places stand nowhere else.
 use Rattle.std.specs.Prelude.{◌+◌, ◌*◌, ℕ}
-use Rattle.domain_base.specs.Limits.{log_pages, page_bytes}
-use Rattle.domain_base.specs.Version.{bitmap_pages}
-use Rattle.domain_base.specs.declared.version.Version.{Version}
+use Rattle.volume_disk.specs.domain_base.Limits.{log_pages, page_bytes}
+use Rattle.volume_disk.specs.domain_base.Version.{bitmap_pages}
+use Rattle.volume_disk.specs.domain_base.declared.version.Version.{Version}
 use Rattle.disk_label.specs.declared.first_pages.FirstPages.{FirstPages}
 
 -- the page of a volume's label, and the one of its two anchors

@@ -3,9 +3,9 @@
 use Rattle.std.specs.List.{flat_map}
 use Rattle.std.specs.Prelude.{◌≡◌, ◌*◌, ◌≤◌, ℕ, List, [], ◌∷◌, ◌++◌, replicate, Option, Some, None}
 use Rattle.byteorder.specs.Endian.{little_bytes}
-use Rattle.domain_base.specs.Limits.{block_bytes, page_bytes}
-use Rattle.domain_base.specs.Version.{bitmap_pages, number_of}
-use Rattle.domain_base.specs.declared.version.Version.{Version}
+use Rattle.volume_disk.specs.domain_base.Limits.{block_bytes, page_bytes}
+use Rattle.volume_disk.specs.domain_base.Version.{bitmap_pages, number_of}
+use Rattle.volume_disk.specs.domain_base.declared.version.Version.{Version}
 use Rattle.volume_disk.specs.Image.{Image, bytes_at}
 use Rattle.disk_label.specs.Body.{word_at}
 use Rattle.disk_label.specs.FirstPages.{label_page}

@@ -6,3 +6,5 @@ pub mod Label
 pub mod Laws
 pub mod Slot
 pub mod Words
+pub use Rattle.volume_disk.specs.domain_base
+pub use Rattle.volume_disk.specs as volume_disk

@@ -1,6 +1,6 @@
 -- What a stop may leave of the domain's anchor, and what the calls on slots leave.
 use Rattle.std.specs.Prelude.{◌≡◌, ◌⊎◌, ◌+◌, ◌-◌, ◌*◌, ◌<◌, ◌≤◌, ℕ, false, List, Option, Some, None}
-use Rattle.domain_base.specs.Limits.{block_bytes, page_bytes}
+use Rattle.volume_disk.specs.domain_base.Limits.{block_bytes, page_bytes}
 use Rattle.volume_disk.specs.Disk.{Disk, MayLeave, Tells}
 use Rattle.volume_disk.specs.Image.{Image, IsIn, Places}
 use Rattle.volume_disk.specs.Run.{LeavesOnly, MayLeaveTorn, OnlyWrites, Settles, Touches}

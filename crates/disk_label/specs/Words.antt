@@ -3,9 +3,9 @@
 use Rattle.std.specs.List.{flat_map}
 use Rattle.std.specs.Prelude.{◌^◌, ◌%◌, ◌/◌, ℕ, List, [], ◌∷◌, ◌++◌, Option, Some, None}
 use Rattle.byteorder.specs.Endian.{little_bytes}
-use Rattle.domain_base.specs.Gate.{opened}
-use Rattle.domain_base.specs.Page.{zero_bytes}
-use Rattle.domain_base.specs.declared.place.Home.{Home}
+use Rattle.volume_disk.specs.domain_base.Gate.{opened}
+use Rattle.volume_disk.specs.domain_base.Page.{zero_bytes}
+use Rattle.volume_disk.specs.domain_base.declared.place.Home.{Home}
 use Rattle.disk_label.specs.declared.anchor.Anchor.{Anchor}
 use Rattle.disk_label.specs.declared.anchor.Member.{Member}
 

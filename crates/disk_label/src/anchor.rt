@@ -19,8 +19,8 @@ ghost use Rattle.std.specs.Prelude.{
 
 use crate::fields::{high, long, low, word};
 use byteorder::{ByteOrder, LittleEndian};
-use domain_base::limits::BLOCK_BYTES;
-use domain_base::{Home, VolIx};
+use volume_disk::limits::BLOCK_BYTES;
+use volume_disk::{Home, VolIx};
 
 /// The fields of a body that are in use, as numbers of four bytes.
 pub(crate) const BODY_WORDS: usize = 28;
@@ -39,7 +39,7 @@ pub struct Member {
 /// Where a domain's log and table are, and which volumes are its members.
 #[derive(Clone, Copy, Debug, PartialEq, Eq)]
 pub struct Anchor {
-    /// From 1, one more for each anchor.
+    /// The number of the anchor: 1 for the first, and one more for each later one.
     pub number: u64,
     /// The version of the layout: 3 or 4, unless the anchor is out of range.
     pub version: u32,
@@ -53,11 +53,11 @@ pub struct Anchor {
     pub start: u32,
     /// The number of that group.
     pub group: u64,
-    /// The home of the fileset table; None where the field names no volume from 1 to 8.
+    /// The home of the fileset table, or None if the field names no volume from 1 to 8.
     pub table: Option<Home>,
     /// The volumes by their number, from 1.
     pub members: [Member; 8],
-    /// 0 or 1, the slot of the volume in which the anchor stands or is to stand.
+    /// The slot of the volume in which the anchor stands or is to stand: 0 or 1.
     pub slot: u8,
 }
 
@@ -144,7 +144,7 @@ impl Anchor {
         ]
     }
 
-    /// Whether its log stands on a member, open or closed. The log has to be on one of the eight
+    /// Whether its log stands on a member, open or closed. The log must be on one of the eight
     /// volumes.
     pub fn has_log_member(&self) -> bool
         requires { (1 ≤ self.now.log_vol) × (self.now.log_vol ≤ 8) }
@@ -157,10 +157,10 @@ impl Anchor {
 
 ghost use Rattle.std.specs.List.{flat_map};
 ghost use Rattle.byteorder.specs.Endian.{little_bytes};
-ghost use Rattle.domain_base.specs.Page.{zero_bytes};
+ghost use Rattle.volume_disk.specs.domain_base.Page.{zero_bytes};
 ghost use Rattle.disk_label.specs.Body.{home_from, member_from};
 
-/// The body that begins with these numbers of four bytes, and is zero behind them.
+/// The body that begins with these numbers of four bytes, and is zero after them.
 fn written(words: &[u32; BODY_WORDS]) -> [u8; BODY_BYTES]
     ensures value { let zeros = zero_bytes (BODY_BYTES - 4 * BODY_WORDS) in
         result ≡ flat_map (little_bytes 4) words.now ++ zeros }
@@ -183,7 +183,7 @@ fn member_of(body: &[u8], i: usize) -> Member
     }
 }
 
-/// A home, and None where the number is no volume's.
+/// A home, or None if the number is no volume's.
 fn home_of(vol: u32, page: u32) -> Option<Home>
     ensures { result ≡ home_from vol page }
 {

@@ -1,13 +1,13 @@
 //! What may go wrong with anchors and their slots.
 
-use domain_base::VolIx;
 use std::error::Error;
 use std::fmt;
+use volume_disk::VolIx;
 
-/// Why there is no anchor to give.
+/// Why no anchor can be returned.
 #[derive(Clone, Copy, Debug, PartialEq, Eq)]
 pub enum AnchorFault {
-    /// None counts.
+    /// No anchor counts.
     NoAnchor,
     /// A read of this volume failed.
     Fault { vol: VolIx },

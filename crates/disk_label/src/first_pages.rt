@@ -1,8 +1,8 @@
 //! The first pages of a volume.
 ghost use Rattle.std.specs.Prelude.{◌≡◌};
 
-use domain_base::Version;
-use domain_base::limits::LOG_PAGES;
+use volume_disk::Version;
+use volume_disk::limits::LOG_PAGES;
 
 /// The page of a volume's label.
 pub const LABEL_PAGE: u32 = 0;
@@ -31,7 +31,8 @@ pub struct FirstPages {
 impl FirstPages {
     ghost use Rattle.disk_label.specs.FirstPages.{first_pages};
 
-    /// Those of a volume of so many pages of 8,192 bytes, made in this version of the layout.
+    /// The first pages of a volume of `pages` pages of 8,192 bytes, made in this version of the
+    /// layout.
     pub fn of(version: Version, pages: u32) -> Self
         ensures { result ≡ first_pages version pages }
     {

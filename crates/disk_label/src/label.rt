@@ -15,7 +15,7 @@ ghost use Rattle.std.specs.Prelude.{
   IfOk,
   OnOk,
 };
-ghost use Rattle.domain_base.specs.Version.{most_pages};
+ghost use Rattle.volume_disk.specs.domain_base.Version.{most_pages};
 ghost use Rattle.volume_disk.specs.Disk.{HasVolume, Tells, volume_pages};
 ghost use Rattle.volume_disk.specs.Image.{IsIn};
 ghost use Rattle.volume_disk.specs.Run.{
@@ -31,9 +31,8 @@ ghost use Rattle.disk_label.specs.Label.{IsLabelOf, label_block, label_bytes};
 use crate::fields::word;
 use crate::first_pages::LABEL_PAGE;
 use byteorder::{ByteOrder, LittleEndian};
-use domain_base::limits::{BLOCK_BYTES, BLOCKS_PER_PAGE, MAX_VOLUMES, PAGE_BYTES};
-use domain_base::{Version, VolIx};
-use volume_disk::{Rack, read_blocks, write_synced};
+use volume_disk::limits::{BLOCK_BYTES, BLOCKS_PER_PAGE, MAX_VOLUMES, PAGE_BYTES};
+use volume_disk::{Rack, Version, VolIx, read_blocks, write_synced};
 
 /// The first eight bytes of a label, `ADVFSLAB`, as two numbers of four bytes.
 const MAGIC: [u32; 2] = [0x4656_4441, 0x4241_4c53];
@@ -51,7 +50,7 @@ pub struct Label {
 }
 
 /// How many pages of 8,192 bytes of a volume a domain of this version uses: those that the rack
-/// has, up to the limit of the version. What lies beyond them is left alone.
+/// has, up to the limit of the version. Any pages beyond them are left alone.
 pub fn usable_pages<R: Rack>(rack: &R, vol: VolIx, version: Version) -> u32
     ensures { let pages = volume_pages (R.disk rack.now).sizes vol in
         result ≡ min pages (most_pages version) }
@@ -59,10 +58,10 @@ pub fn usable_pages<R: Rack>(rack: &R, vol: VolIx, version: Version) -> u32
     rack.pages(vol).min(version.max_volume_pages())
 }
 
-/// Writes the label of a volume of which so many pages of 8,192 bytes are in use, made in this
-/// version of the layout, and syncs it; what is not named is zero. It reads nothing. The volume has
-/// to be one of the rack with as many pages, at least one, and no more than the version allows. The
-/// error is the volume, of which a write or a sync failed.
+/// Writes the label of a volume that has `pages` pages of 8,192 bytes in use and was made in this
+/// version of the layout, and syncs it. What is not named is zero. It reads nothing. The volume
+/// must be one of the rack with at least that many pages. There must be at least one page in use,
+/// and no more than the version allows. The error is the volume, if its write or sync failed.
 pub fn write_label<R: Rack>(
     rack: &mut R,
     vol: VolIx,
@@ -93,9 +92,9 @@ pub fn write_label<R: Rack>(
     write_synced(rack, vol, BLOCKS_PER_PAGE * LABEL_PAGE, &page)
 }
 
-/// The label that a block holds of a volume of which the rack has so many pages. None comes where
-/// it holds none of that volume and of version 3 or 4, with the bitmap pages of its version and
-/// with no more pages than there are.
+/// The label that a block holds of a volume that has `available` pages in the rack. Returns None if
+/// the block holds no label of that volume and of version 3 or 4, with the bitmap pages of its
+/// version and with no more pages than there are.
 fn label_of(block: &[u8; BLOCK_BYTES], vol: VolIx, available: u32) -> Option<Label>
     ensures { IsLabelOf available vol block.now result }
 {
@@ -113,10 +112,10 @@ fn label_of(block: &[u8; BLOCK_BYTES], vol: VolIx, available: u32) -> Option<Lab
 }
 
 /// The pages of 8,192 bytes in use of a volume and the version in which it was made, as its label
-/// says. None comes where its page holds no label of version 3 or 4 and of this volume with the
-/// bitmap pages of that version, or one with more pages than the rack's volume has. How many pages
-/// a domain may use is not asked here: a label of version 3 with more than 65,536 pages is read. It
-/// reads one block, and none of a volume that has no page. The error is the volume, of which that
+/// says. Returns None if its page holds no label of version 3 or 4 and of this volume with the
+/// bitmap pages of that version, or holds one with more pages than the rack's volume has. This does
+/// not check how many pages a domain may use: a label of version 3 with more than 65,536 pages is
+/// read. It reads one block, or none if the volume has no page. The error is the volume, if that
 /// read failed.
 pub fn read_label<R: Rack>(rack: &mut R, vol: VolIx) -> Result<Option<Label>, VolIx>
     requires there { HasVolume (R.disk rack.old) vol }
@@ -136,8 +135,8 @@ pub fn read_label<R: Rack>(rack: &mut R, vol: VolIx) -> Result<Option<Label>, Vo
     Ok(label_of(&block, vol, available))
 }
 
-/// What `write_label` writes is what `read_label` answers: a label with the pages in use of a
-/// volume of the rack, which has as many.
+/// `read_label` returns what `write_label` writes: a label with the pages in use of a volume of the
+/// rack, which has that many.
 pub fn label_reads_back()
     ensures { (most vol : ℕ) (label : Label) → 1 ≤ vol → vol ≤ MAX_VOLUMES → label.pages < 2 ^ 32
         → label.pages ≤ most

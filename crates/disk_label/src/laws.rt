@@ -12,16 +12,16 @@ ghost use Rattle.disk_label.specs.Laws.{
 };
 ghost use Rattle.disk_label.specs.declared.anchor.Anchor.{Anchor};
 
-/// Laws of anchors. An anchor depends on the pages of anchors alone: images that agree there have
-/// the same one (`depends`). What `read_anchor` answers on a rack on which nothing is pending there
-/// is what each image has that a stop may leave (`shows`). And a slot that is ready stays so while
-/// each image agrees there with one that might have been left before (`stays`), as it does after
-/// calls that touch none of these pages (`beside`).
+/// Laws of anchors. An anchor depends only on the pages of anchors: images that agree there have
+/// the same one (`depends`). What `read_anchor` returns on a rack on which nothing is pending there
+/// is what each image has that a stop may leave (`shows`). And a slot that is ready stays ready as
+/// long as each image agrees there with one that might have been left before (`stays`), as it does
+/// after calls that touch none of these pages (`beside`).
 ///
 /// Such calls leave the anchor that each image had, at each moment (`keeps`), as `write_label`
 /// does. So does `close_gates`, once both slots of its volume are ready (`gates`): then the volume
-/// is not the anchor's own, and nothing that stands behind its gates counts for more, whatever
-/// these hold. That `ready_slot` leaves the anchor it says itself (`ReadiesSlot`).
+/// is not the anchor's own, and nothing that follows its gates still counts, whatever these hold.
+/// `ready_slot` itself says that it leaves the anchor (`ReadiesSlot`).
 pub fn anchor_laws()
     ensures depends { (old new : Image) → AnchorStays old new }
     ensures shows { (disk : Disk) (anchor : Option Anchor) → ShowsAnchor disk anchor }

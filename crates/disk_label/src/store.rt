@@ -15,7 +15,7 @@ ghost use Rattle.std.specs.Prelude.{
   IsTrue,
   OnOk,
 };
-ghost use Rattle.domain_base.specs.Gate.{closed, opened};
+ghost use Rattle.volume_disk.specs.domain_base.Gate.{closed, opened};
 ghost use Rattle.volume_disk.specs.Disk.{HasVolume, Tells, volume_pages};
 ghost use Rattle.volume_disk.specs.Gate.{IsOpenAt};
 ghost use Rattle.volume_disk.specs.Run.{
@@ -51,9 +51,8 @@ ghost use Rattle.disk_label.specs.Slot.{
 use crate::anchor::BODY_BYTES;
 use crate::first_pages::ANCHORS_PAGE;
 use crate::{Anchor, AnchorFault, SlotFault};
-use domain_base::VolIx;
-use domain_base::limits::{BLOCK_BYTES, BLOCKS_PER_PAGE, MAX_VOLUMES};
-use volume_disk::{Rack, close_gate, open_gate, read_blocks, read_gate, write_synced};
+use volume_disk::limits::{BLOCK_BYTES, BLOCKS_PER_PAGE, MAX_VOLUMES};
+use volume_disk::{Rack, VolIx, close_gate, open_gate, read_blocks, read_gate, write_synced};
 
 /// The blocks of a slot.
 const SLOT_BLOCKS: u32 = 8;
@@ -128,8 +127,8 @@ fn write_body<R: Rack>(
     write_synced(rack, vol, gate_block(slot) + 1, body)
 }
 
-/// The anchor in a slot of a volume, and None where none counts there. The body is read only behind
-/// an open gate.
+/// The anchor in a slot of a volume, or None if none counts there. The body is read only if its
+/// gate is open.
 fn read_slot<R: Rack>(rack: &mut R, vol: VolIx, slot: u8) -> Result<Option<Anchor>, VolIx>
     requires there { HasVolume (R.disk rack.old) vol }
     requires pages { 2 ≤ volume_pages (R.disk rack.old).sizes vol }
@@ -152,7 +151,7 @@ fn read_slot<R: Rack>(rack: &mut R, vol: VolIx, slot: u8) -> Result<Option<Ancho
     }
 }
 
-/// Looks at one slot more, after the best of those before it.
+/// Looks at one more slot, after the best of those before it.
 fn look_at<R: Rack>(rack: &mut R, place: u32, best: Option<Anchor>) -> Result<Option<Anchor>, VolIx>
     requires { place < 16 }
     ensures reads { OnlyReads (R.disk rack.old) (R.disk rack.new) }
@@ -171,7 +170,7 @@ fn look_at<R: Rack>(rack: &mut R, place: u32, best: Option<Anchor>) -> Result<Op
     Ok(greater(best, found))
 }
 
-/// Of two that were found one after the other, the second only if its number is higher.
+/// Of two anchors that were found one after the other, the second only if its number is higher.
 fn greater(best: Option<Anchor>, found: Option<Anchor>) -> Option<Anchor>
     ensures { result ≡ greater_of best found }
 {
@@ -188,13 +187,13 @@ fn greater(best: Option<Anchor>, found: Option<Anchor>) -> Option<Anchor>
     }
 }
 
-/// The domain's anchor. The volumes are looked through in their order, slot 0 of each ahead of slot
-/// 1; of what counts there the highest number wins, and where that is met more than once, the place
-/// where it was met first. It writes nothing. On a rack on which nothing is pending on the pages of
-/// anchors, each image that a stop may leave has the anchor that is answered, or none
-/// (`anchor_laws`).
+/// The domain's anchor. The volumes are looked through in their order, and on each slot 0 before
+/// slot 1. Of what counts there the highest number wins, and if that is met more than once, the
+/// place where it was met first. It writes nothing. On a rack on which nothing is pending on the
+/// pages of anchors, each image that a stop may leave has the anchor that is returned, or none
+/// (`domain_attaching`).
 ///
-/// `NoAnchor` comes where none counts, and `Fault` where a read of that volume failed.
+/// Fails with `NoAnchor` if no anchor counts, and with `Fault` if a read of that volume failed.
 pub fn read_anchor<R: Rack>(rack: &mut R) -> Result<Anchor, AnchorFault>
     ensures reads { OnlyReads (R.disk rack.old) (R.disk rack.new) }
     ensures anchor { let old = R.disk rack.old in IfOk result (λ anchor.
@@ -217,23 +216,23 @@ pub fn read_anchor<R: Rack>(rack: &mut R) -> Result<Anchor, AnchorFault>
     }
 }
 
-/// Makes slot 0 or 1 of a volume ready for the next anchor: overwrites with zeros, and syncs, the
-/// seven blocks behind its gate where that is closed, and writes nothing where it is open. A domain
-/// calls it once for each slot of the volume of its log: when it is opened, and when the log goes
-/// to another volume, before the first anchor there. No more is needed before later anchors, since
-/// each leaves the slot of the next one ready (`next` and `others` of `HasWritten`). What it does
-/// to one slot leaves each other slot as ready as it was, and what it wrote is synced. The volume
-/// has to be one of the rack, with two pages or more. The error says of which volume a call failed,
-/// and whether that was a read, or a write or a sync.
+/// Makes slot 0 or 1 of a volume ready for the next anchor. If its gate is closed, it overwrites
+/// the seven blocks after the gate with zeros and syncs them. If its gate is open, it writes
+/// nothing. A domain calls it once for each slot of the volume of its log: when it is opened, and
+/// when the log goes to another volume, before the first anchor there. No more is needed before
+/// later anchors, since each leaves the slot of the next one ready (`next` and `others` of
+/// `HasWritten`). What it does to one slot leaves each other slot as ready as it was, and what it
+/// wrote is synced. The volume must be one of the rack, with two pages or more. The error says on
+/// which volume a call failed, and whether it was a read, or a write or a sync.
 ///
 /// It is for a rack on which nothing is pending, since a read does not show what a stop may leave
-/// of bytes that are. So each volume is synced before a domain that was stopped by a failed write
-/// is opened on the same rack again. A new domain first closes both gates of its volume
-/// (`close_gates`), as an open gate may stand there from before.
+/// of pending bytes. So each volume is synced before a domain that a failed write stopped is opened
+/// on the same rack again. A new domain first closes both gates of its volume (`close_gates`), as
+/// an open gate may stand there from before.
 ///
-/// A write of an anchor that was cut short may have left a body with the next number behind the
+/// A write of an anchor that was cut short may have left a body with the next number after the
 /// closed gate. The next write begins by closing that gate once more, and a stop that tears this
-/// may open it: then that body would count.
+/// write may open it. Then that body would count.
 pub fn ready_slot<R: Rack>(rack: &mut R, vol: VolIx, slot: u8) -> Result<(), SlotFault>
     requires there { HasVolume (R.disk rack.old) vol }
     requires pages { 2 ≤ volume_pages (R.disk rack.old).sizes vol }
@@ -256,9 +255,9 @@ pub fn ready_slot<R: Rack>(rack: &mut R, vol: VolIx, slot: u8) -> Result<(), Slo
 }
 
 /// Closes both gates of a volume, one after the other, and syncs each. Then no image that a stop
-/// may leave has an anchor there that counts: a new domain begins so, as an open gate may stand
-/// there from before. The volume has to be one of the rack, with two pages or more. The error is
-/// the volume, of which a write or a sync failed.
+/// may leave has an anchor there that counts. A new domain begins with this, as an open gate may
+/// stand there from before. The volume must be one of the rack, with two pages or more. The error
+/// is the volume, if its write or sync failed.
 pub fn close_gates<R: Rack>(rack: &mut R, vol: VolIx) -> Result<(), VolIx>
     requires there { HasVolume (R.disk rack.old) vol }
     requires pages { 2 ≤ volume_pages (R.disk rack.old).sizes vol }
@@ -271,15 +270,15 @@ pub fn close_gates<R: Rack>(rack: &mut R, vol: VolIx) -> Result<(), VolIx>
 }
 
 /// Writes an anchor into the slot that it names: closes the gate, writes the body, and opens the
-/// gate, each on the disk before the next. It reads nothing. The anchor has to be the next one
-/// after that of the rack's contents, and its slot has to lie in the rack. The error is the volume,
-/// of which a write or a sync failed.
+/// gate, each on the disk before the next. It reads nothing. The anchor must be the next one after
+/// that of the rack's contents, and its slot must lie in the rack. The error is the volume, if its
+/// write or sync failed.
 ///
-/// What a stop may leave is said where the slot is ready (`IsReadyFor`). `ready_slot` makes it so,
-/// once for each slot of the volume when the domain is opened and when the log goes to another
-/// volume. No more is needed before later anchors: an anchor that is written makes the other slot
-/// of its volume ready where the anchor before it stands there (`next` of `HasWritten`), and leaves
-/// each other slot ready that was (`others`).
+/// The contract says what a stop may leave if the slot is ready (`IsReadyFor`). `ready_slot` makes
+/// it ready, once for each slot of the volume when the domain is opened and when the log goes to
+/// another volume. No more is needed before later anchors: writing an anchor makes the other slot
+/// of its volume ready if the anchor before it stands there (`next` of `HasWritten`), and leaves
+/// ready each other slot that was ready (`others`).
 pub fn write_anchor<R: Rack>(rack: &mut R, anchor: &Anchor) -> Result<(), VolIx>
     requires whole { IsWhole anchor.now }
     requires there { HasVolume (R.disk rack.old) anchor.now.log_vol }

@@ -1,17 +1,18 @@
 //! What stops and calls that fail leave of the domain's anchor, on racks in memory.
 ghost use Rattle.std.specs.Prelude.{◌≡◌, IsTrue, IfOk, None, Some, Option};
-ghost use Rattle.volume_disk.specs.Disk.{Tells};
-ghost use Rattle.volume_disk.specs.Run.{OnlyReads};
+ghost use Rattle.disk_label.specs.volume_disk.Disk.{Tells};
+ghost use Rattle.disk_label.specs.volume_disk.Run.{OnlyReads};
 ghost use Rattle.disk_label.specs.Anchor.{IsAnchor, IsNext};
 
 use crate::calls::{full, get, image, look, put};
 use crate::renewals::{is_whole, renew_twice};
-use disk_label::{Anchor, AnchorFault, Member, close_gates, read_anchor, ready_slot, write_anchor};
-use domain_base::{Home, OutOfMemory, VolIx};
+use disk_label::{
+    Anchor, AnchorFault, Home, Member, OutOfMemory, Rack, VolIx, close_gates, read_anchor,
+    ready_slot, write_anchor,
+};
 use memory_disk::MemoryRack;
 use std::alloc::Global;
 use std::test::Fail;
-use volume_disk::Rack;
 
 const NONE: Member = Member { pages: 0, state: 0 };
 

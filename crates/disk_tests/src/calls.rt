@@ -1,11 +1,10 @@
 //! Calls of a rack by plain numbers, whose answers are plain values.
 ghost use Rattle.std.specs.Prelude.{◌≡◌, true};
-ghost use Rattle.volume_disk.specs.Disk.{AreBlocks};
+ghost use Rattle.disk_label.specs.volume_disk.Disk.{AreBlocks};
 
-use domain_base::{OutOfMemory, VolIx};
+use disk_label::{OutOfMemory, Rack, VolIx};
 use memory_disk::MemoryRack;
 use std::alloc::Global;
-use volume_disk::Rack;
 
 /// How much a call writes.
 #[derive(Clone, Copy)]

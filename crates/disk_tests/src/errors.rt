@@ -1,8 +1,7 @@
 //! What errors of racks, anchors and slots say.
 
 use crate::renewals::RenewalFault;
-use disk_label::{AnchorFault, SlotFault};
-use domain_base::{Failed, VolIx};
+use disk_label::{AnchorFault, Failed, SlotFault, VolIx};
 use std::test::Fail;
 
 #[test]

@@ -1,14 +1,13 @@
 //! What racks of files do with files of the operating system.
 
 use crate::calls::{Call, Size, full, look, passes};
-use domain_base::{OutOfMemory, VolIx};
-use file_rack::FileRack;
+use disk_label::{OutOfMemory, Rack, VolIx};
+use memory_disk::FileRack;
 use std::alloc::Global;
 use std::fs::{File, OpenOptions};
 use std::os::unix::fs::FileExt;
 use std::test::Fail;
 use std::{env, fs, io};
-use volume_disk::Rack;
 
 /// A new file of so many pages of zeros in the folder for temporary files.
 fn new_file(rt: &HostRuntime, name: &str, pages: u32) -> io::Result<File> {

@@ -1,11 +1,9 @@
 //! Labels of both versions, and where the first pages of a volume stand.
 
 use crate::calls::get;
-use disk_label::{FirstPages, Label, read_label, usable_pages, write_label};
-use domain_base::{Version, VolIx};
+use disk_label::{FirstPages, Label, Rack, Version, VolIx, read_label, usable_pages, write_label};
 use memory_disk::MemoryRack;
 use std::test::Fail;
-use volume_disk::Rack;
 
 /// Writes a label for so many pages where its conditions hold, and reads it.
 fn labelled<R: Rack>(rack: &mut R, vol: u32, pages: u32, version: Version) -> Option<Label> {

@@ -1,10 +1,9 @@
 //! Which calls of a rack in memory pass, and what it holds after them.
 
 use crate::calls::{Call, Size, count_passes, full, image, look, passes};
-use domain_base::VolIx;
+use disk_label::{Rack, VolIx};
 use memory_disk::{FuseRack, MemoryRack};
 use std::test::Fail;
-use volume_disk::Rack;
 
 fn put(vol: u32, block: u32, byte: u8) -> Call {
     Call::Put {

@@ -1,15 +1,15 @@
 //! A caller of the anchors, which reads one and writes the next two.
 ghost use Rattle.std.specs.Prelude.{◌≡◌, ◌+◌, ◌-◌, ◌^◌, ◌<◌, ◌≤◌, Some, IfOk, IsTrue};
-ghost use Rattle.volume_disk.specs.Disk.{Tells};
+ghost use Rattle.disk_label.specs.volume_disk.Disk.{Tells};
 ghost use Rattle.disk_label.specs.Anchor.{IsNext, IsWhole};
 ghost use Rattle.disk_label.specs.Laws.{AreAnchorsSynced};
 ghost use Rattle.disk_label.specs.Slot.{HasAnchor};
 
-use disk_label::{Anchor, AnchorFault, SlotFault, read_anchor, ready_slot, write_anchor};
-use domain_base::VolIx;
+use disk_label::{
+    Anchor, AnchorFault, Rack, SlotFault, VolIx, read_anchor, ready_slot, write_anchor,
+};
 use std::error::Error;
 use std::fmt;
-use volume_disk::Rack;
 
 /// Why an anchor was not renewed.
 #[derive(Clone, Copy, Debug, PartialEq, Eq)]

@@ -1,17 +1,17 @@
 -- The memory of a domain, with the anchor that settles the log that was recovered.
 use Rattle.std.proofs.Common.{◌≡◌, ◌==◌, Bool, true, false, if◌then◌else◌, refl, sym, subst}
-use Rattle.disk_label.specs.declared.anchor.Anchor.{Anchor}
-use Rattle.log_recovery.specs.Readable.{restarted}
-use Rattle.log_recovery.specs.Settled.{settled_anchor}
-use Rattle.log_recovery.specs.declared.redone.Redone.{Redone}
-use Rattle.fileset_model.specs.Filesets.{FilesetMap}
-use Rattle.page_ways.specs.Frame.{frame_in}
-use Rattle.anchor_laws.specs.Same.{SameDomain}
-use Rattle.anchor_laws.proofs.Beside.{alone_with, marked_with, parents_with, sound_with, stands_with}
-use Rattle.domain_memory.specs.Memory.{StandsFor, kept_in}
-use Rattle.domain_memory.specs.Staged.{IsSettled, MayGoBack}
-use Rattle.domain_memory.specs.declared.memory.DomainMemory.{DomainMemory}
-use Rattle.staged_pages.specs.Store.{before_of}
+use Rattle.attached_domain.specs.disk_label.declared.anchor.Anchor.{Anchor}
+use Rattle.attached_domain.specs.log_recovery.Readable.{restarted}
+use Rattle.attached_domain.specs.log_recovery.Settled.{settled_anchor}
+use Rattle.attached_domain.specs.log_recovery.declared.redone.Redone.{Redone}
+use Rattle.attached_domain.specs.fileset_model.Filesets.{FilesetMap}
+use Rattle.attached_domain.specs.page_ways.Frame.{frame_in}
+use Rattle.domain_attaching.specs.Same.{SameDomain}
+use Rattle.domain_attaching.proofs.Beside.{alone_with, marked_with, parents_with, sound_with, stands_with}
+use Rattle.attached_domain.specs.domain_memory.Memory.{StandsFor, kept_in}
+use Rattle.attached_domain.specs.domain_memory.Staged.{IsSettled, MayGoBack}
+use Rattle.attached_domain.specs.domain_memory.declared.memory.DomainMemory.{DomainMemory}
+use Rattle.attached_domain.specs.staged_pages.Store.{before_of}
 use Rattle.domain_bringing.specs.Brought.{IsWholeDomain}
 use Rattle.domain_attaching.specs.Settling.{rested_anchor, with_anchor}
 

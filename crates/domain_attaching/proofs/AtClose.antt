@@ -2,33 +2,33 @@
 use Rattle.std.proofs.Common.{◌≡◌, ◌∙◌, ℕ, ◌+◌, ◌-◌, ◌%◌, ◌≤◌, List, [], length, Option, Some, None, IfSome, IsSome, IsSomeAnd, slice_get, refl, sym, ap, subst, arith, ⊎_elim}
 use Rattle.std.proofs.Math.Logic.{∥∥₁_elim, ∥∥₁_map, ∥∥₁_map₂}
 use Rattle.std.proofs.lemmas.Bool.{cases_eq, cases_lt}
-use Rattle.page_store.specs.Pages.{Pages}
-use Rattle.volume_disk.specs.Disk.{Disk, IsSettled, MayLeave, Tells, volume_pages}
-use Rattle.volume_disk.specs.Image.{Image, page_at}
-use Rattle.volume_disk.specs.Run.{Touches}
-use Rattle.volume_disk.proofs.Laws.{leaves-now, touches-wider}
-use Rattle.disk_label.specs.declared.anchor.Anchor.{Anchor}
-use Rattle.log_ring.specs.Groups.{HasLog, redone}
-use Rattle.log_ring.specs.Homes.{HasMembers, member_of}
-use Rattle.log_ring.specs.Laws.{IsElsewhere}
-use Rattle.log_ring.proofs.Staying.{log_stays}
-use Rattle.log_recovery.specs.Outcome.{HasGoodAnchor, HasRecovered}
-use Rattle.log_recovery.specs.Readable.{IsBehindAnchors}
-use Rattle.log_recovery.specs.declared.redone.Redone.{Redone}
-use Rattle.log_recovery.proofs.GoodAnchors.{keeps_good_anchor}
-use Rattle.fileset_model.specs.Filesets.{FilesetMap}
-use Rattle.page_ways.specs.Frame.{frame_in}
-use Rattle.staged_pages.specs.Store.{before_of, pages_of}
-use Rattle.domain_layout.specs.Owners.{frame_of}
-use Rattle.domain_layout.specs.Read.{Means}
-use Rattle.anchor_laws.specs.Domain.{DomainNow, layout_of}
-use Rattle.anchor_laws.proofs.OneMeaning.{reads_so}
-use Rattle.sound_laws.proofs.WholeDomain.{sound_faultless}
-use Rattle.domain_memory.specs.Memory.{StandsFor, kept_in}
-use Rattle.domain_memory.specs.Staged.{IsSettled as IsSettledMemory}
-use Rattle.domain_memory.specs.declared.memory.DomainMemory.{DomainMemory}
+use Rattle.attached_domain.specs.page_store.Pages.{Pages}
+use Rattle.attached_domain.specs.volume_disk.Disk.{Disk, IsSettled, MayLeave, Tells, volume_pages}
+use Rattle.attached_domain.specs.volume_disk.Image.{Image, page_at}
+use Rattle.attached_domain.specs.volume_disk.Run.{Touches}
+use Rattle.attached_domain.proofs.OfVolumeDisk.Laws.{leaves-now, touches-wider}
+use Rattle.attached_domain.specs.disk_label.declared.anchor.Anchor.{Anchor}
+use Rattle.attached_domain.specs.log_ring.Groups.{HasLog, redone}
+use Rattle.attached_domain.specs.log_ring.Homes.{HasMembers, member_of}
+use Rattle.attached_domain.specs.log_ring.LogLaws.{IsElsewhere}
+use Rattle.attached_domain.proofs.OfLogRing.Staying.{log_stays}
+use Rattle.attached_domain.specs.log_recovery.Outcome.{HasGoodAnchor, HasRecovered}
+use Rattle.attached_domain.specs.log_recovery.Readable.{IsBehindAnchors}
+use Rattle.attached_domain.specs.log_recovery.declared.redone.Redone.{Redone}
+use Rattle.attached_domain.proofs.OfLogRecovery.GoodAnchors.{keeps_good_anchor}
+use Rattle.attached_domain.specs.fileset_model.Filesets.{FilesetMap}
+use Rattle.attached_domain.specs.page_ways.Frame.{frame_in}
+use Rattle.attached_domain.specs.staged_pages.Store.{before_of, pages_of}
+use Rattle.attached_domain.specs.domain_layout.Owners.{frame_of}
+use Rattle.attached_domain.specs.domain_layout.Read.{Means}
+use Rattle.attached_domain.specs.domain_standing.Domain.{DomainNow, layout_of}
+use Rattle.attached_domain.proofs.OfDomainStanding.OneMeaning.{reads_so}
+use Rattle.attached_domain.proofs.OfNoFaults.WholeDomain.{sound_faultless}
+use Rattle.attached_domain.specs.domain_memory.Memory.{StandsFor, kept_in}
+use Rattle.attached_domain.specs.domain_memory.Staged.{IsSettled as IsSettledMemory}
+use Rattle.attached_domain.specs.domain_memory.declared.memory.DomainMemory.{DomainMemory}
 use Rattle.domain_bringing.specs.Brought.{HasDomainPages, IsGoodFrame}
-use Rattle.domain_bringing.specs.Looks.{AgreeWhereRulesLook}
+use Rattle.attached_domain.specs.domain_layout.Looks.{AgreeWhereRulesLook}
 use Rattle.domain_bringing.proofs.Means.{AreThoseOf, behind, those_mean}
 use Rattle.domain_bringing.proofs.Ranges.{good_frame, in_range}
 use Rattle.domain_state.specs.Rest.{IsAtRest}

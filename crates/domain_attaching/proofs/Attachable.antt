@@ -1,19 +1,19 @@
 -- What a domain that was closed, or was just made, leaves on its volumes is attachable.
 use Rattle.std.proofs.Common.{refl, sym, subst}
 use Rattle.std.specs.FinMap.{empty}
-use Rattle.volume_disk.specs.Disk.{Disk, MayLeave}
-use Rattle.volume_disk.specs.Image.{Image}
-use Rattle.disk_label.specs.declared.anchor.Anchor.{Anchor}
-use Rattle.log_ring.specs.Groups.{pages_in}
-use Rattle.fileset_model.specs.Filesets.{FilesetMap}
+use Rattle.attached_domain.specs.volume_disk.Disk.{Disk, MayLeave}
+use Rattle.attached_domain.specs.volume_disk.Image.{Image}
+use Rattle.attached_domain.specs.disk_label.declared.anchor.Anchor.{Anchor}
+use Rattle.attached_domain.specs.log_ring.Groups.{pages_in}
+use Rattle.attached_domain.specs.fileset_model.Filesets.{FilesetMap}
 use Rattle.attached_domain.proofs.NewFits.{new_fits}
 use Rattle.attached_domain.proofs.NoCause.{ReadsFit}
-use Rattle.anchor_laws.specs.Domain.{DomainNow}
-use Rattle.anchor_laws.specs.Standing.{StandsDomain}
-use Rattle.sound_laws.proofs.NoTable.{table_is}
-use Rattle.domain_memory.specs.Memory.{StandsFor, kept_in}
-use Rattle.domain_memory.specs.declared.memory.DomainMemory.{DomainMemory}
-use Rattle.domain_state.specs.Making.{IsEmptyDomain, IsMade}
+use Rattle.attached_domain.specs.domain_standing.Domain.{DomainNow}
+use Rattle.attached_domain.specs.domain_standing.Standing.{StandsDomain}
+use Rattle.attached_domain.proofs.OfNoFaults.NoTable.{table_is}
+use Rattle.attached_domain.specs.domain_memory.Memory.{StandsFor, kept_in}
+use Rattle.attached_domain.specs.domain_memory.declared.memory.DomainMemory.{DomainMemory}
+use Rattle.attached_domain.specs.domain_making.Making.{IsEmptyDomain, IsMade}
 use Rattle.domain_attaching.specs.Attaching.{IsAttachable}
 use Rattle.domain_attaching.specs.Closing.{IsClosed}
 use Rattle.domain_attaching.proofs.AtClose.{image_agrees, means_kept}

@@ -1,8 +1,8 @@
 -- Faults of bringing, and why a domain is unfit, as faults of attaching.
 use Rattle.std.proofs.Common.{◌≡◌, ℕ}
-use Rattle.page_store.specs.Pages.{Pages}
-use Rattle.volume_disk.specs.Disk.{Disk}
-use Rattle.domain_layout.specs.Reached.{Frame}
+use Rattle.attached_domain.specs.page_store.Pages.{Pages}
+use Rattle.attached_domain.specs.volume_disk.Disk.{Disk}
+use Rattle.attached_domain.specs.domain_layout.Reached.{Frame}
 use Rattle.attached_domain.specs.Causes.{HasCause as HasUnfitCause, IsUnfit}
 use Rattle.attached_domain.specs.declared.unfit.Unfit.{Unfit}
 use Rattle.attached_domain.specs.declared.unfit.Unfit.TheVariants as fitting

@@ -1,37 +1,37 @@
 -- The rules read nothing of a domain that stands for filesets for which it is not attached.
 use Rattle.std.proofs.Common.{◌≡◌, ◌∙◌, ℕ, false, List, [], ◌∷◌, Option, Some, None, IsSomeAnd, refl, sym, ap, subst}
 use Rattle.std.specs.Option.{option_and_then}
-use Rattle.domain_base.specs.Limits.{file_pages}
-use Rattle.domain_base.specs.declared.place.CellAt.{CellAt}
-use Rattle.domain_base.specs.declared.place.Home.{Home}
-use Rattle.domain_base.specs.declared.place.Kind.TheVariants.{Directory}
-use Rattle.domain_base.specs.declared.place.Tag.{Tag}
-use Rattle.bmt_mcells.specs.Cell.{Cell, IsFileset, kind_number}
-use Rattle.bmt_mcells.specs.Chain.{LinksFrom, PlacedCell}
-use Rattle.bmt_mcells.proofs.Unique.{one_stands}
-use Rattle.fileset_model.specs.Filesets.{FilesetMap}
-use Rattle.fileset_table.specs.declared.slot.FilesetEntry.{FilesetEntry}
-use Rattle.fileset_table.specs.declared.slot.SlotItem.TheVariants as slot
-use Rattle.domain_layout.specs.CellRules.{IsUsed, say_removed}
-use Rattle.domain_layout.specs.DirectoryRules.{Has}
-use Rattle.domain_layout.specs.Owners.{IsOnTable}
-use Rattle.domain_layout.specs.Seen.{SeenFile, seen_in}
-use Rattle.domain_layout.specs.TagRules.{HasEntry, quota_of}
-use Rattle.anchor_laws.specs.Chains.{AreQuotasOf}
-use Rattle.anchor_laws.specs.Domain.{DomainNow, item_in, layout_of}
-use Rattle.anchor_laws.specs.Sound.{StandsSound}
-use Rattle.anchor_laws.specs.Sources.{StandAlone}
-use Rattle.anchor_laws.specs.Standing.{StandsDomain}
-use Rattle.sound_laws.proofs.InChains.{IsChainOf, chain_is}
-use Rattle.sound_laws.proofs.Named.{NamesChain, names_chain}
-use Rattle.sound_laws.proofs.NoCells.{no_lead_to}
-use Rattle.sound_laws.proofs.OnTables.{on_table_of, place_there}
-use Rattle.sound_laws.proofs.Shown.{HasShown, has_shown, state, whole}
-use Rattle.sound_laws.proofs.Tags.{entry_is}
-use Rattle.attached_domain.specs.Attached.{IsFirstQuota}
-use Rattle.attached_domain.specs.Directory.{cell_of}
-use Rattle.attached_domain.specs.Fields.{number_at}
-use Rattle.attached_domain.specs.Files.{keep_of}
+use Rattle.attached_domain.specs.domain_base.Limits.{file_pages}
+use Rattle.attached_domain.specs.domain_base.declared.place.CellAt.{CellAt}
+use Rattle.attached_domain.specs.domain_base.declared.place.Home.{Home}
+use Rattle.attached_domain.specs.domain_base.declared.place.Kind.TheVariants.{Directory}
+use Rattle.attached_domain.specs.domain_base.declared.place.Tag.{Tag}
+use Rattle.attached_domain.specs.metadata_cells.Cell.{Cell, IsFileset, kind_number}
+use Rattle.attached_domain.specs.metadata_cells.Chain.{LinksFrom, PlacedCell}
+use Rattle.attached_domain.proofs.OfMetadataCells.Unique.{one_stands}
+use Rattle.attached_domain.specs.fileset_model.Filesets.{FilesetMap}
+use Rattle.attached_domain.specs.fileset_table.declared.slot.FilesetEntry.{FilesetEntry}
+use Rattle.attached_domain.specs.fileset_table.declared.slot.SlotItem.TheVariants as slot
+use Rattle.attached_domain.specs.domain_layout.CellRules.{IsUsed, say_removed}
+use Rattle.attached_domain.specs.domain_layout.DirectoryRules.{Has}
+use Rattle.attached_domain.specs.domain_layout.Owners.{IsOnTable}
+use Rattle.attached_domain.specs.domain_layout.Seen.{SeenFile, seen_in}
+use Rattle.attached_domain.specs.domain_layout.TagRules.{HasEntry, quota_of}
+use Rattle.attached_domain.specs.domain_standing.Chains.{AreQuotasOf}
+use Rattle.attached_domain.specs.domain_standing.Domain.{DomainNow, item_in, layout_of}
+use Rattle.attached_domain.specs.standing_laws.Sound.{StandsSound}
+use Rattle.attached_domain.specs.domain_standing.Sources.{StandAlone}
+use Rattle.attached_domain.specs.domain_standing.Standing.{StandsDomain}
+use Rattle.attached_domain.proofs.OfNoFaults.InChains.{IsChainOf, chain_is}
+use Rattle.attached_domain.proofs.OfNoFaults.FaultNamed.{NamesChain, names_chain}
+use Rattle.attached_domain.proofs.OfNoFaults.NoCells.{no_lead_to}
+use Rattle.attached_domain.proofs.OfNoFaults.FaultOnTables.{on_table_of, place_there}
+use Rattle.attached_domain.proofs.OfNoFaults.Shown.{HasShown, has_shown, state, whole}
+use Rattle.attached_domain.proofs.OfNoFaults.Tags.{entry_is}
+use Rattle.attached_domain.specs.no_faults.Attached.{IsFirstQuota}
+use Rattle.attached_domain.specs.tag_dirs.Directory.{cell_of}
+use Rattle.attached_domain.specs.cell_records.Fields.{number_at}
+use Rattle.attached_domain.specs.fileset_files.Files.{keep_of}
 use Rattle.attached_domain.specs.Signs.{say_cut}
 use Rattle.attached_domain.proofs.Kept.{uncut}
 use Rattle.attached_domain.proofs.NoCause.{ReadsFit}

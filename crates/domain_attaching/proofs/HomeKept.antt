@@ -1,16 +1,16 @@
 -- Pages that are brought home.
 use Rattle.std.proofs.Common.{◌≤◌, ◌≡◌, ◌∙◌, ◌⊎◌, ℕ, ◌+◌, ◌<◌, List, Option, Some, None, IfSome, Result, Ok, Err, sym, ap, subst, arith, ⊎_elim}
 use Rattle.std.proofs.lemmas.Bool.{cases_lt}
-use Rattle.domain_base.specs.declared.place.Home.{Home}
-use Rattle.page_store.specs.Pages.{Pages}
-use Rattle.volume_disk.specs.Disk.{Disk, raised_at}
-use Rattle.volume_disk.specs.Image.{Image, NoPlace, Places, page_at}
-use Rattle.volume_disk.specs.Run.{NamesWriteFault, Touches}
-use Rattle.volume_disk.proofs.Laws.{touches-wider}
-use Rattle.disk_label.specs.Fault.{HasPassed}
-use Rattle.disk_label.specs.declared.anchor.Anchor.{Anchor}
-use Rattle.log_ring.specs.Homes.{HasMembers, IsHomeOf, IsLoggable, member_of}
-use Rattle.log_ring.proofs.HomePages.{page-same}
+use Rattle.attached_domain.specs.domain_base.declared.place.Home.{Home}
+use Rattle.attached_domain.specs.page_store.Pages.{Pages}
+use Rattle.attached_domain.specs.volume_disk.Disk.{Disk, raised_at}
+use Rattle.attached_domain.specs.volume_disk.Image.{Image, NoPlace, Places, page_at}
+use Rattle.attached_domain.specs.volume_disk.Run.{NamesWriteFault, Touches}
+use Rattle.attached_domain.proofs.OfVolumeDisk.Laws.{touches-wider}
+use Rattle.attached_domain.specs.disk_label.Fault.{HasPassed}
+use Rattle.attached_domain.specs.disk_label.declared.anchor.Anchor.{Anchor}
+use Rattle.attached_domain.specs.log_ring.Homes.{HasMembers, IsHomeOf, IsLoggable, member_of}
+use Rattle.attached_domain.proofs.OfLogRing.HomePages.{page-same}
 use Rattle.domain_attaching.specs.Closing.{AreTheseHome, IsHome, IsOnThese, StayHome}
 
 -- what touches nothing touches some places at most

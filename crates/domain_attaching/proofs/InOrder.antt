@@ -1,15 +1,15 @@
 -- Pages that are written in order: those of data, and then those of tables.
 use Rattle.std.proofs.Common.{◌≡◌, ◌∙◌, ◌⊎◌, Bool, true, false, Result, Ok, Err, OnErr, OnOk, inl, subst, ⊎_elim}
 use Rattle.std.proofs.lemmas.Bool.{both_ways, cases_Bool}
-use Rattle.domain_base.specs.declared.place.Home.{Home}
-use Rattle.volume_disk.specs.Disk.{Disk, IsSettled, Tells}
-use Rattle.volume_disk.specs.Run.{Touches}
-use Rattle.volume_disk.proofs.Laws.{touches-then, touches-wider}
-use Rattle.disk_label.specs.declared.anchor.Anchor.{Anchor}
-use Rattle.anchor_laws.specs.Domain.{layout_of}
-use Rattle.staged_pages.specs.Store.{pages_of}
-use Rattle.domain_memory.specs.Staged.{staged_in}
-use Rattle.domain_memory.specs.declared.memory.DomainMemory.{DomainMemory}
+use Rattle.attached_domain.specs.domain_base.declared.place.Home.{Home}
+use Rattle.attached_domain.specs.volume_disk.Disk.{Disk, IsSettled, Tells}
+use Rattle.attached_domain.specs.volume_disk.Run.{Touches}
+use Rattle.attached_domain.proofs.OfVolumeDisk.Laws.{touches-then, touches-wider}
+use Rattle.attached_domain.specs.disk_label.declared.anchor.Anchor.{Anchor}
+use Rattle.attached_domain.specs.domain_standing.Domain.{layout_of}
+use Rattle.attached_domain.specs.staged_pages.Store.{pages_of}
+use Rattle.attached_domain.specs.domain_memory.Staged.{staged_in}
+use Rattle.attached_domain.specs.domain_memory.declared.memory.DomainMemory.{DomainMemory}
 use Rattle.domain_attaching.specs.Tables.{AreTables, is_table}
 use Rattle.domain_attaching.specs.Closing.{AreHome, AreTheseHome, IsChosen, IsData, IsInOrder, IsInOrderSoFar, IsOfTables, IsOnLoggable, IsOnThese, StayHome}
 use Rattle.domain_attaching.specs.declared.tables.TablePages.{TablePages}

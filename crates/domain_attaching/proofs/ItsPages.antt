@@ -4,48 +4,48 @@ use Rattle.std.specs.Prelude.{unwrap_or}
 use Rattle.std.specs.Option.{option_and_then, option_map, option_map_or}
 use Rattle.std.specs.FinMap.{get}
 use Rattle.std.proofs.lemmas.Option.{slice_get-get_or}
-use Rattle.domain_base.specs.Version.{bitmap_pages}
-use Rattle.domain_base.specs.declared.place.Home.{Home}
-use Rattle.domain_base.specs.declared.place.Kind.{Kind}
-use Rattle.domain_base.specs.declared.place.Kind.TheVariants as kind
-use Rattle.domain_base.specs.declared.place.Tag.{Tag}
-use Rattle.domain_base.specs.declared.version.Version.{Version}
-use Rattle.domain_base.specs.declared.version.Version.TheVariants.{Four, Three}
-use Rattle.bmt_mcells.specs.Chain.{PlacedCell}
-use Rattle.log_ring.specs.Homes.{member_of}
-use Rattle.fileset_laws.specs.Valid.{IsValidAs, IsValidFileset}
-use Rattle.fileset_model.specs.Filesets.{FilesetMap}
-use Rattle.fileset_model.specs.LooksLike.{IsShown}
-use Rattle.fileset_model.specs.Orders.{Path}
-use Rattle.fileset_model.specs.Paths.{is_out_of_sync}
-use Rattle.fileset_model.specs.declared.fileset.FilesetSlot.{FilesetSlot}
-use Rattle.fileset_model.specs.declared.fileset.Role.{Role}
-use Rattle.fileset_model.specs.declared.fileset.Role.TheVariants.{Original}
-use Rattle.fileset_model.specs.declared.node.Node.{Node}
-use Rattle.fileset_model.specs.declared.node.Node.TheVariants.{Directory, File}
-use Rattle.attached_domain.specs.Found.{HasAllPages}
-use Rattle.attached_domain.proofs.Held.{says_table}
-use Rattle.fileset_table.specs.Page.{IsTablePage}
-use Rattle.fileset_table.specs.Table.{Table}
-use Rattle.fileset_table.specs.declared.slot.SlotItem.{SlotItem}
-use Rattle.fileset_table.specs.declared.slot.SlotItem.TheVariants as slot
-use Rattle.name_space.specs.Names.{led_to, number_of}
-use Rattle.domain_layout.specs.DirectoryRules.{Has, IsInItem, IsThere}
-use Rattle.domain_layout.specs.Faults.{HasNoFault, HasNoTablesFault, SaysTable}
-use Rattle.domain_layout.specs.Filled.{IsFilled}
-use Rattle.domain_layout.specs.Read.{contents_of}
-use Rattle.domain_layout.specs.Reached.{Way, cells_way, index_way, tags_way, IsUnread}
-use Rattle.domain_layout.specs.Seen.{SeenFile, seen_in}
-use Rattle.domain_layout.proofs.NoTables.{none_of_tables}
-use Rattle.domain_layout.proofs.There.{chain_is}
-use Rattle.layout_laws.proofs.OnePage.{one_of, some_same}
-use Rattle.domain_bringing.specs.Looks.{IsComeTo, IsOfBitmap, IsOfCells, IsOfFiles, IsOfIndex, IsOfTables, IsOfTags}
-use Rattle.domain_bringing.specs.Loading.{HasWhereRulesLook}
-use Rattle.anchor_laws.specs.Domain.{DomainNow, layout_of}
-use Rattle.anchor_laws.specs.Standing.{IsMarkedBut, StandsDomain}
-use Rattle.sound_laws.proofs.NoTable.{table_is}
-use Rattle.sound_laws.proofs.Originals.{is_role}
-use Rattle.sound_laws.proofs.Shown.{HasShown, has_shown, inside, page_is}
+use Rattle.attached_domain.specs.domain_base.Version.{bitmap_pages}
+use Rattle.attached_domain.specs.domain_base.declared.place.Home.{Home}
+use Rattle.attached_domain.specs.domain_base.declared.place.Kind.{Kind}
+use Rattle.attached_domain.specs.domain_base.declared.place.Kind.TheVariants as kind
+use Rattle.attached_domain.specs.domain_base.declared.place.Tag.{Tag}
+use Rattle.attached_domain.specs.domain_base.declared.version.Version.{Version}
+use Rattle.attached_domain.specs.domain_base.declared.version.Version.TheVariants.{Four, Three}
+use Rattle.attached_domain.specs.metadata_cells.Chain.{PlacedCell}
+use Rattle.attached_domain.specs.log_ring.Homes.{member_of}
+use Rattle.attached_domain.specs.legal_histories.Valid.{IsValidAs, IsValidFileset}
+use Rattle.attached_domain.specs.fileset_model.Filesets.{FilesetMap}
+use Rattle.attached_domain.specs.fileset_model.LooksLike.{IsShown}
+use Rattle.attached_domain.specs.fileset_values.Orders.{Path}
+use Rattle.attached_domain.specs.fileset_model.Paths.{is_out_of_sync}
+use Rattle.attached_domain.specs.fileset_model.declared.fileset.FilesetSlot.{FilesetSlot}
+use Rattle.attached_domain.specs.fileset_model.declared.fileset.Role.{Role}
+use Rattle.attached_domain.specs.fileset_model.declared.fileset.Role.TheVariants.{Original}
+use Rattle.attached_domain.specs.fileset_model.declared.node.Node.{Node}
+use Rattle.attached_domain.specs.fileset_model.declared.node.Node.TheVariants.{Directory, File}
+use Rattle.attached_domain.specs.fileset_shapes.Found.{HasAllPages}
+use Rattle.attached_domain.proofs.OfFilesetShapes.Held.{says_table}
+use Rattle.attached_domain.specs.fileset_table.Page.{IsTablePage}
+use Rattle.attached_domain.specs.fileset_table.Table.{Table}
+use Rattle.attached_domain.specs.fileset_table.declared.slot.SlotItem.{SlotItem}
+use Rattle.attached_domain.specs.fileset_table.declared.slot.SlotItem.TheVariants as slot
+use Rattle.attached_domain.specs.name_space.Names.{led_to, number_of}
+use Rattle.attached_domain.specs.domain_layout.DirectoryRules.{Has, IsInItem, IsThere}
+use Rattle.attached_domain.specs.domain_layout.Faults.{HasNoFault, HasNoTablesFault, SaysTable}
+use Rattle.attached_domain.specs.domain_layout.Filled.{IsFilled}
+use Rattle.attached_domain.specs.domain_layout.Read.{contents_of}
+use Rattle.attached_domain.specs.domain_layout.Reached.{Way, cells_way, index_way, tags_way, IsUnread}
+use Rattle.attached_domain.specs.domain_layout.Seen.{SeenFile, seen_in}
+use Rattle.attached_domain.proofs.OfDomainLayout.NoTables.{none_of_tables}
+use Rattle.attached_domain.proofs.OfDomainLayout.There.{chain_is}
+use Rattle.attached_domain.proofs.OfDomainLayout.OnePage.{one_of, some_same}
+use Rattle.attached_domain.specs.domain_layout.Looks.{IsComeTo, IsOfBitmap, IsOfCells, IsOfFiles, IsOfIndex, IsOfTables, IsOfTags}
+use Rattle.domain_bringing.specs.image_loading.Loading.{HasWhereRulesLook}
+use Rattle.attached_domain.specs.domain_standing.Domain.{DomainNow, layout_of}
+use Rattle.attached_domain.specs.domain_standing.Standing.{IsMarkedBut, StandsDomain}
+use Rattle.attached_domain.proofs.OfNoFaults.NoTable.{table_is}
+use Rattle.attached_domain.proofs.OfNoFaults.Originals.{is_role}
+use Rattle.attached_domain.proofs.OfNoFaults.Shown.{HasShown, has_shown, inside, page_is}
 use Rattle.domain_bringing.specs.Brought.{IsGoodFrame}
 
 -- whether a page is there is decided

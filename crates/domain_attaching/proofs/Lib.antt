@@ -1,3 +1,6 @@
+pub mod Frames
+pub mod Below
+pub mod Beside
 pub mod Anew
 pub mod Rested
 pub mod Since
@@ -13,5 +16,10 @@ pub mod NoUnfit
 pub mod Attachable
 pub mod MayRead
 pub mod Converted
-pub use Rattle.anchor_laws.proofs.OneMeaning
 pub mod Rows
+pub mod OfDomainStanding
+pub mod OfDomainState
+pub mod OfLegalHistories
+pub mod OfLogRecovery
+pub mod OfVolumeDisk
+pub mod OfWordForms

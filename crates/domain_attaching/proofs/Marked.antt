@@ -5,7 +5,7 @@ use Rattle.std.proofs.lemmas.Bool.{cases_eq, cases_lt}
 use Rattle.std.proofs.lemmas.List.{get_or-map, get_or_append_left, get_or_push, length-map, length-set, length_push, take_all, take_more}
 use Rattle.std.proofs.lemmas.Option.{slice_get-get_or}
 use Rattle.std.proofs.lemmas.List.Elements.{Contains-append_left, Contains-push, Contains-push_cases}
-use Rattle.domain_base.specs.declared.place.Home.{Home}
+use Rattle.attached_domain.specs.domain_base.declared.place.Home.{Home}
 use Rattle.domain_attaching.specs.Tables.{Marks}
 
 -- the same pages, told otherwise

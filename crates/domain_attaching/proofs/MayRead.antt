@@ -1,8 +1,8 @@
 -- The pages of a domain that are brought may be read.
 use Rattle.std.proofs.Common.{◌≡◌, true, false, Option, Some, None, IsSome, refl}
-use Rattle.domain_base.specs.declared.place.Home.{Home}
-use Rattle.page_store.specs.Pages.{Pages}
-use Rattle.domain_layout.specs.Reached.{Frame}
+use Rattle.attached_domain.specs.domain_base.declared.place.Home.{Home}
+use Rattle.attached_domain.specs.page_store.Pages.{Pages}
+use Rattle.attached_domain.specs.domain_layout.Reached.{Frame}
 use Rattle.attached_domain.specs.Causes.{MayBeRead}
 use Rattle.domain_bringing.specs.Brought.{IsWholeDomain}
 use Rattle.domain_bringing.proofs.Held.{has_bitmaps}

@@ -1,33 +1,33 @@
 -- An image whose pages agree with some in which nothing is for which a domain is not attached is attachable.
 use Rattle.std.proofs.Common.{◌≡◌, ◌∙◌, ℕ, List, [], Contains, inl, inr, refl, sym, ap, subst, arith}
-use Rattle.domain_base.specs.Version.{number_of}
-use Rattle.domain_base.specs.declared.version.Version.{Version}
-use Rattle.page_store.specs.Pages.{Pages}
-use Rattle.volume_disk.specs.Image.{Image}
-use Rattle.disk_label.specs.declared.anchor.Anchor.{Anchor}
-use Rattle.disk_label.proofs.Bodies.{number_of-same}
-use Rattle.log_ring.specs.Groups.{Group, HasLog, redone}
-use Rattle.log_recovery.specs.Outcome.{HasGoodAnchor}
-use Rattle.log_recovery.specs.declared.redone.Redone.{Redone}
-use Rattle.log_recovery.proofs.OneOutcome.{has_one_log}
-use Rattle.fileset_model.specs.Filesets.{FilesetMap}
-use Rattle.fileset_table.specs.Table.{Table}
-use Rattle.domain_layout.specs.Faults.{FaultRow, HasNoFault, HasNoTablesFault, IsFault, SaysTable}
-use Rattle.domain_layout.specs.Layout.{IsLayout, Layout}
-use Rattle.domain_layout.specs.Owners.{frame_of}
-use Rattle.domain_layout.specs.Read.{Means}
-use Rattle.domain_layout.specs.Reached.{Frame}
-use Rattle.domain_layout.proofs.NoTables.{none_of_tables}
+use Rattle.attached_domain.specs.domain_base.Version.{number_of}
+use Rattle.attached_domain.specs.domain_base.declared.version.Version.{Version}
+use Rattle.attached_domain.specs.page_store.Pages.{Pages}
+use Rattle.attached_domain.specs.volume_disk.Image.{Image}
+use Rattle.attached_domain.specs.disk_label.declared.anchor.Anchor.{Anchor}
+use Rattle.attached_domain.proofs.OfDiskLabel.Bodies.{number_of-same}
+use Rattle.attached_domain.specs.log_ring.Groups.{Group, HasLog, redone}
+use Rattle.attached_domain.specs.log_recovery.Outcome.{HasGoodAnchor}
+use Rattle.attached_domain.specs.log_recovery.declared.redone.Redone.{Redone}
+use Rattle.attached_domain.proofs.OfLogRecovery.OneOutcome.{has_one_log}
+use Rattle.attached_domain.specs.fileset_model.Filesets.{FilesetMap}
+use Rattle.attached_domain.specs.fileset_table.Table.{Table}
+use Rattle.attached_domain.specs.domain_layout.Faults.{FaultRow, HasNoFault, HasNoTablesFault, IsFault, SaysTable}
+use Rattle.attached_domain.specs.domain_layout.Layout.{IsLayout, Layout}
+use Rattle.attached_domain.specs.domain_layout.Owners.{frame_of}
+use Rattle.attached_domain.specs.domain_layout.Read.{Means}
+use Rattle.attached_domain.specs.domain_layout.Reached.{Frame}
+use Rattle.attached_domain.proofs.OfDomainLayout.NoTables.{none_of_tables}
 use Rattle.attached_domain.specs.Causes.{HasCause as HasUnfitCause, IsCause}
 use Rattle.attached_domain.specs.declared.unfit.Unfit.{Unfit}
-use Rattle.attached_domain.proofs.Held.{says_table}
+use Rattle.attached_domain.proofs.OfFilesetShapes.Held.{says_table}
 use Rattle.attached_domain.proofs.NoCause.{ReadsFit, no_cause}
 use Rattle.domain_bringing.specs.Fault.{BeginsAt, IsNoDomain}
-use Rattle.domain_bringing.specs.Faulty.{HasFaults}
-use Rattle.domain_bringing.specs.Looks.{AgreeWhereRulesLook}
+use Rattle.attached_domain.specs.filesets_reading.Faulty.{HasFaults}
+use Rattle.attached_domain.specs.domain_layout.Looks.{AgreeWhereRulesLook}
 use Rattle.domain_bringing.proofs.Looks.{looked_too}
 use Rattle.domain_bringing.proofs.Means.{agree_by}
-use Rattle.domain_bringing.proofs.SameFaults.{sides}
+use Rattle.attached_domain.proofs.OfDomainLayout.SameFaults.{sides}
 use Rattle.domain_attaching.specs.Attaching.{IsAttachable, IsUnfitDomain}
 use Rattle.domain_attaching.proofs.AtClose.{found_of, recovered_none}
 use Rattle.domain_attaching.specs.Settling.{HasNoGroups, IsRecovered}

@@ -1,21 +1,21 @@
 -- The log of a rack that was synced, settled.
 use Rattle.std.proofs.Common.{◌==◌, Bool, true, false, if◌then◌else◌, [], ◌∷◌, length, arith, ◌≡◌, ◌∙◌, ◌⊎◌, ℕ, List, Result, Ok, Err, IfOk, inl, inr, refl, sym, ap, subst}
-use Rattle.page_store.specs.Pages.{Pages}
-use Rattle.volume_disk.specs.Disk.{Disk, IsSettled, MayLeave, Tells, raised_at}
-use Rattle.volume_disk.specs.Image.{AreBytes, Image, NoPlace}
-use Rattle.volume_disk.specs.Run.{LeavesOnly, MayLeaveTorn, Touches}
-use Rattle.volume_disk.proofs.Laws.{then_on, weaker}
-use Rattle.disk_label.specs.declared.anchor.Anchor.{Anchor}
-use Rattle.disk_label.specs.declared.fault.SlotFault.TheVariants.{Read, Write as SlotWrite}
-use Rattle.log_ring.specs.Groups.{Group, HasLog, pages_in, redone}
-use Rattle.log_ring.specs.Homes.{HasMembers}
-use Rattle.log_recovery.specs.Outcome.{HasGoodAnchor, IsSound}
-use Rattle.log_recovery.specs.Settled.{settled_anchor}
-use Rattle.log_recovery.specs.declared.redone.Redone.{Redone}
-use Rattle.log_recovery.proofs.OneOutcome.{has_one_log}
-use Rattle.log_settling.specs.Settling.{Anywhere, HasCause, IsBehindAll, ReadsAs, StandsAtHome, StaysRead}
-use Rattle.log_settling.specs.declared.fault.SettleFault.{SettleFault}
-use Rattle.log_settling.specs.declared.fault.SettleFault.TheVariants.{NoNumbers, Slot, Write}
+use Rattle.attached_domain.specs.page_store.Pages.{Pages}
+use Rattle.attached_domain.specs.volume_disk.Disk.{Disk, IsSettled, MayLeave, Tells, raised_at}
+use Rattle.attached_domain.specs.volume_disk.Image.{AreBytes, Image, NoPlace}
+use Rattle.attached_domain.specs.volume_disk.Run.{LeavesOnly, MayLeaveTorn, Touches}
+use Rattle.attached_domain.proofs.OfVolumeDisk.Laws.{then_on, weaker}
+use Rattle.attached_domain.specs.disk_label.declared.anchor.Anchor.{Anchor}
+use Rattle.attached_domain.specs.disk_label.declared.fault.SlotFault.TheVariants.{Read, Write as SlotWrite}
+use Rattle.attached_domain.specs.log_ring.Groups.{Group, HasLog, pages_in, redone}
+use Rattle.attached_domain.specs.log_ring.Homes.{HasMembers}
+use Rattle.attached_domain.specs.log_recovery.Outcome.{HasGoodAnchor, IsSound}
+use Rattle.attached_domain.specs.log_recovery.Settled.{settled_anchor}
+use Rattle.attached_domain.specs.log_recovery.declared.redone.Redone.{Redone}
+use Rattle.attached_domain.proofs.OfLogRecovery.OneOutcome.{has_one_log}
+use Rattle.attached_domain.specs.log_recovery.Settling.{Anywhere, HasCause, IsBehindAll, ReadsAs, StandsAtHome, StaysRead}
+use Rattle.attached_domain.specs.log_recovery.declared.settling_fault.SettleFault.{SettleFault}
+use Rattle.attached_domain.specs.log_recovery.declared.settling_fault.SettleFault.TheVariants.{NoNumbers, Slot, Write}
 use Rattle.domain_bringing.specs.Brought.{IsBroughtFrom}
 use Rattle.domain_state.specs.Rest.{IsAtRest}
 use Rattle.domain_attaching.specs.Settling.{HasNoGroups, HasSettleCause, IsRecovered, LacksNumbers, StandHome, StaysReadSince, rested_anchor}

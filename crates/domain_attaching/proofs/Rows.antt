@@ -4,17 +4,17 @@ use borrow.Rule.Slice.PartMut.{put_mid}
 use Rattle.std.proofs.lemmas.Bool.{cases_lt}
 use Rattle.std.proofs.lemmas.List.{drop-take}
 use Rattle.std.proofs.lemmas.Slice.{between-put_mid, drop-put_mid, take-put_mid_below}
-use Rattle.domain_base.specs.declared.place.Home.{Home}
-use Rattle.page_store.specs.Pages.{Pages}
-use Rattle.volume_disk.specs.Disk.{Disk, Tells}
-use Rattle.volume_disk.specs.Image.{HasBytes, Image, IsIn, SameOutside, page_at}
-use Rattle.volume_disk.specs.Run.{Touches}
-use Rattle.volume_disk.proofs.Laws.{touches-wider}
-use Rattle.disk_label.specs.declared.anchor.Anchor.{Anchor}
-use Rattle.log_ring.specs.Homes.{HasMembers, IsLoggable}
-use Rattle.log_ring.proofs.HomePages.{page-same}
+use Rattle.attached_domain.specs.domain_base.declared.place.Home.{Home}
+use Rattle.attached_domain.specs.page_store.Pages.{Pages}
+use Rattle.attached_domain.specs.volume_disk.Disk.{Disk, Tells}
+use Rattle.attached_domain.specs.volume_disk.Image.{HasBytes, Image, IsIn, SameOutside, page_at}
+use Rattle.attached_domain.specs.volume_disk.Run.{Touches}
+use Rattle.attached_domain.proofs.OfVolumeDisk.Laws.{touches-wider}
+use Rattle.attached_domain.specs.disk_label.declared.anchor.Anchor.{Anchor}
+use Rattle.attached_domain.specs.log_ring.Homes.{HasMembers, IsLoggable}
+use Rattle.attached_domain.proofs.OfLogRing.HomePages.{page-same}
 use Rattle.domain_bringing.proofs.InARow.{page_outside}
-use Rattle.domain_bringing.proofs.PagesRead.{page_in_is}
+use Rattle.domain_bringing.proofs.OfImageLoading.PagesRead.{page_in_is}
 use Rattle.domain_attaching.specs.Closing.{AreBetween, AreOnRack, AreTheseHome, IsChosen, IsHome, IsOnRow, IsOnThese, IsToBring, StandsHome, StayHome, page_in}
 use Rattle.domain_attaching.specs.declared.tables.TablePages.{TablePages}
 use Rattle.domain_attaching.proofs.HomeKept.{absent_home, same_page}

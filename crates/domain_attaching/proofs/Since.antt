@@ -1,11 +1,11 @@
 -- A rack from which memory was brought, and on which the log is settled then.
 use Rattle.std.proofs.Common.{◌≡◌, ◌∙◌, ◌⊎◌, ℕ, List, inl, inr, sym, subst, ⊎_elim}
-use Rattle.volume_disk.specs.Disk.{Disk, MayLeave, Moment, Tells}
-use Rattle.volume_disk.specs.Image.{Image, NoPlace}
-use Rattle.volume_disk.specs.Run.{OnlyReads, Touches}
-use Rattle.volume_disk.proofs.Laws.{only_reads-leaves, then_on, touches-then, weaker}
-use Rattle.log_recovery.specs.declared.redone.Redone.{Redone}
-use Rattle.log_settling.specs.Settling.{ReadsAs}
+use Rattle.attached_domain.specs.volume_disk.Disk.{Disk, MayLeave, Moment, Tells}
+use Rattle.attached_domain.specs.volume_disk.Image.{Image, NoPlace}
+use Rattle.attached_domain.specs.volume_disk.Run.{OnlyReads, Touches}
+use Rattle.attached_domain.proofs.OfVolumeDisk.Laws.{only_reads-leaves, then_on, touches-then, weaker}
+use Rattle.attached_domain.specs.log_recovery.declared.redone.Redone.{Redone}
+use Rattle.attached_domain.specs.log_recovery.Settling.{ReadsAs}
 use Rattle.attached_domain.specs.declared.unfit.Unfit.{Unfit}
 use Rattle.domain_attaching.specs.Attaching.{HasCause, IfNotADomain, IfNotFit, IfNotSettled}
 use Rattle.domain_attaching.specs.Settling.{HasNoGroups, IfRefused, IsNotSettled, IsRecovered, StaysReadSince, WritesNone}

@@ -5,10 +5,10 @@ use Rattle.std.specs.Option.{option_map_or}
 use Rattle.std.proofs.lemmas.Bool.{both_ways, cases_eq, cases_lt}
 use Rattle.std.proofs.lemmas.List.{get_or-replicate, length-replicate, length-set}
 use Rattle.std.proofs.lemmas.Option.{slice_get-get_or, slice_get_past}
-use Rattle.domain_base.specs.declared.place.Home.{Home}
-use Rattle.disk_label.specs.declared.anchor.Anchor.{Anchor}
-use Rattle.log_ring.specs.Homes.{member_of}
-use Rattle.domain_layout.specs.Layout.{Layout}
+use Rattle.attached_domain.specs.domain_base.declared.place.Home.{Home}
+use Rattle.attached_domain.specs.disk_label.declared.anchor.Anchor.{Anchor}
+use Rattle.attached_domain.specs.log_ring.Homes.{member_of}
+use Rattle.attached_domain.specs.domain_layout.Layout.{Layout}
 use Rattle.domain_attaching.specs.Tables.{AreTables, AreTablesOn, HasMarksFor, HasMarksOn, HasTablesOn, HasTagPage, IsTableHome, Marks}
 use Rattle.domain_attaching.specs.declared.tables.TablePages.{TablePages}
 use Rattle.domain_attaching.proofs.Marked.{AreEach, contains_nothing, each_at, marks_as, marks_none, marks_then}

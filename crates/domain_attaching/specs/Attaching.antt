@@ -1,20 +1,20 @@
 -- The memory of a domain that is brought from a rack, and why it is not.
 use Rattle.std.specs.Prelude.{◌≡◌, ℕ, List, Some}
-use Rattle.domain_base.specs.declared.place.Home.{Home}
-use Rattle.page_store.specs.Pages.{Pages}
-use Rattle.volume_disk.specs.Disk.{Disk, raised_at}
-use Rattle.volume_disk.specs.Image.{Image}
-use Rattle.disk_label.specs.declared.anchor.Anchor.{Anchor}
-use Rattle.log_recovery.specs.Outcome.{IsSound}
-use Rattle.log_recovery.specs.declared.redone.Redone.{Redone}
-use Rattle.fileset_model.specs.Filesets.{FilesetMap}
-use Rattle.domain_layout.specs.Read.{Means, ReadsFrom}
-use Rattle.domain_layout.specs.Reached.{Frame}
-use Rattle.staged_pages.specs.Store.{before_of}
-use Rattle.page_ways.specs.Frame.{frame_in}
-use Rattle.domain_memory.specs.Memory.{StandsFor}
-use Rattle.domain_memory.specs.Staged.{IsSettled, MayGoBack}
-use Rattle.domain_memory.specs.declared.memory.DomainMemory.{DomainMemory}
+use Rattle.attached_domain.specs.domain_base.declared.place.Home.{Home}
+use Rattle.attached_domain.specs.page_store.Pages.{Pages}
+use Rattle.attached_domain.specs.volume_disk.Disk.{Disk, raised_at}
+use Rattle.attached_domain.specs.volume_disk.Image.{Image}
+use Rattle.attached_domain.specs.disk_label.declared.anchor.Anchor.{Anchor}
+use Rattle.attached_domain.specs.log_recovery.Outcome.{IsSound}
+use Rattle.attached_domain.specs.log_recovery.declared.redone.Redone.{Redone}
+use Rattle.attached_domain.specs.fileset_model.Filesets.{FilesetMap}
+use Rattle.attached_domain.specs.domain_layout.Read.{Means, ReadsFrom}
+use Rattle.attached_domain.specs.domain_layout.Reached.{Frame}
+use Rattle.attached_domain.specs.staged_pages.Store.{before_of}
+use Rattle.attached_domain.specs.page_ways.Frame.{frame_in}
+use Rattle.attached_domain.specs.domain_memory.Memory.{StandsFor}
+use Rattle.attached_domain.specs.domain_memory.Staged.{IsSettled, MayGoBack}
+use Rattle.attached_domain.specs.domain_memory.declared.memory.DomainMemory.{DomainMemory}
 use Rattle.domain_bringing.specs.Brought.{IsBroughtFrom, IsWholeDomain}
 use Rattle.domain_bringing.specs.Fault.{IsNoDomain}
 use Rattle.domain_bringing.specs.declared.bringing.Brought.{Brought}

@@ -1,21 +1,21 @@
 -- The pages of a domain in memory, brought home.
 use Rattle.std.specs.Prelude.{◌≡◌, ◌⊎◌, ℕ, ◌+◌, ◌*◌, ◌^◌, ◌<◌, ◌≤◌, Bool, List, IfSome, IsSome, length, slice_range}
-use Rattle.domain_base.specs.declared.place.Home.{Home}
-use Rattle.page_store.specs.Pages.{Pages}
-use Rattle.volume_disk.specs.Disk.{Disk, IsSettled, MayLeave, Tells, volume_pages}
-use Rattle.volume_disk.specs.Image.{Image, IsIn, Places, page_at}
-use Rattle.volume_disk.specs.Run.{Touches}
-use Rattle.disk_label.specs.declared.anchor.Anchor.{Anchor}
-use Rattle.log_ring.specs.Homes.{IsLoggable}
-use Rattle.log_ring.specs.Settling.{IsOnPage}
-use Rattle.log_settling.specs.Settling.{HasNoGroup}
-use Rattle.fileset_model.specs.Filesets.{FilesetMap}
-use Rattle.domain_layout.specs.Read.{Means}
-use Rattle.anchor_laws.specs.Domain.{layout_of}
-use Rattle.staged_pages.specs.Store.{before_of, pages_of}
-use Rattle.domain_memory.specs.Memory.{StandsFor}
-use Rattle.domain_memory.specs.Staged.{staged_in}
-use Rattle.domain_memory.specs.declared.memory.DomainMemory.{DomainMemory}
+use Rattle.attached_domain.specs.domain_base.declared.place.Home.{Home}
+use Rattle.attached_domain.specs.page_store.Pages.{Pages}
+use Rattle.attached_domain.specs.volume_disk.Disk.{Disk, IsSettled, MayLeave, Tells, volume_pages}
+use Rattle.attached_domain.specs.volume_disk.Image.{Image, IsIn, Places, page_at}
+use Rattle.attached_domain.specs.volume_disk.Run.{Touches}
+use Rattle.attached_domain.specs.disk_label.declared.anchor.Anchor.{Anchor}
+use Rattle.attached_domain.specs.log_ring.Homes.{IsLoggable}
+use Rattle.attached_domain.specs.log_ring.Settling.{IsOnPage}
+use Rattle.attached_domain.specs.log_recovery.Settling.{HasNoGroup}
+use Rattle.attached_domain.specs.fileset_model.Filesets.{FilesetMap}
+use Rattle.attached_domain.specs.domain_layout.Read.{Means}
+use Rattle.attached_domain.specs.domain_standing.Domain.{layout_of}
+use Rattle.attached_domain.specs.staged_pages.Store.{before_of, pages_of}
+use Rattle.attached_domain.specs.domain_memory.Memory.{StandsFor}
+use Rattle.attached_domain.specs.domain_memory.Staged.{staged_in}
+use Rattle.attached_domain.specs.domain_memory.declared.memory.DomainMemory.{DomainMemory}
 use Rattle.domain_attaching.specs.Tables.{HasMarksFor, IsTableHome, is_table}
 use Rattle.domain_attaching.specs.declared.tables.TablePages.{TablePages}
 use Rattle.domain_attaching.specs.declared.closing_room.ClosingRoom.{ClosingRoom}

@@ -1,21 +1,21 @@
 -- What is left of a rack on which a domain is attached.
 use Rattle.std.specs.Prelude.{ℕ, List, ◌≡◌, ◌≢◌, ◌⊎◌, ◌==◌, [], IsSome, if◌then◌else◌}
-use Rattle.domain_base.specs.declared.place.Home.{Home}
-use Rattle.page_store.specs.Pages.{Pages}
-use Rattle.volume_disk.specs.Disk.{Disk, MayLeave, Tells, raised_at}
-use Rattle.volume_disk.specs.Image.{Image, NoPlace}
-use Rattle.volume_disk.specs.Run.{LeavesOnly, Touches}
-use Rattle.disk_label.specs.Fault.{HasPassed, HasSlotCause}
-use Rattle.disk_label.specs.FirstPages.{anchors_page}
-use Rattle.disk_label.specs.declared.anchor.Anchor.{Anchor}
-use Rattle.log_ring.specs.Groups.{Group, HasLog, pages_in}
-use Rattle.log_recovery.specs.Outcome.{HasRecovered}
-use Rattle.log_recovery.specs.Settled.{HasNumbersLeft, settled_anchor}
-use Rattle.log_recovery.specs.declared.redone.Redone.{Redone}
-use Rattle.log_settling.specs.Settling.{ReadsAs}
-use Rattle.log_settling.specs.declared.fault.SettleFault.{SettleFault}
-use Rattle.log_settling.specs.declared.fault.SettleFault.TheVariants.{NoNumbers, Slot, Write}
-use Rattle.domain_memory.specs.declared.memory.DomainMemory.{DomainMemory}
+use Rattle.attached_domain.specs.domain_base.declared.place.Home.{Home}
+use Rattle.attached_domain.specs.page_store.Pages.{Pages}
+use Rattle.attached_domain.specs.volume_disk.Disk.{Disk, MayLeave, Tells, raised_at}
+use Rattle.attached_domain.specs.volume_disk.Image.{Image, NoPlace}
+use Rattle.attached_domain.specs.volume_disk.Run.{LeavesOnly, Touches}
+use Rattle.attached_domain.specs.disk_label.Fault.{HasPassed, HasSlotCause}
+use Rattle.attached_domain.specs.disk_label.FirstPages.{anchors_page}
+use Rattle.attached_domain.specs.disk_label.declared.anchor.Anchor.{Anchor}
+use Rattle.attached_domain.specs.log_ring.Groups.{Group, HasLog, pages_in}
+use Rattle.attached_domain.specs.log_recovery.Outcome.{HasRecovered}
+use Rattle.attached_domain.specs.log_recovery.Settled.{HasNumbersLeft, settled_anchor}
+use Rattle.attached_domain.specs.log_recovery.declared.redone.Redone.{Redone}
+use Rattle.attached_domain.specs.log_recovery.Settling.{ReadsAs}
+use Rattle.attached_domain.specs.log_recovery.declared.settling_fault.SettleFault.{SettleFault}
+use Rattle.attached_domain.specs.log_recovery.declared.settling_fault.SettleFault.TheVariants.{NoNumbers, Slot, Write}
+use Rattle.attached_domain.specs.domain_memory.declared.memory.DomainMemory.{DomainMemory}
 use Rattle.domain_attaching.specs.declared.fault.AttachFault.{AttachFault}
 use Rattle.domain_attaching.specs.declared.fault.AttachFault.TheVariants.{NotSettled}
 

@@ -1,11 +1,11 @@
 -- Which pages of a domain are those of tables.
 use Rattle.std.specs.Prelude.{◌≡◌, ◌⊎◌, ◌↔◌, ◌-◌, ◌<◌, ◌≤◌, ℕ, true, false, Bool, List, Some, IsSomeAnd, Contains, length, map, slice_get, slice_index_or}
 use Rattle.std.specs.Option.{option_map_or}
-use Rattle.domain_base.specs.Limits.{max_volumes}
-use Rattle.domain_base.specs.declared.place.Home.{Home}
-use Rattle.disk_label.specs.declared.anchor.Anchor.{Anchor}
-use Rattle.log_ring.specs.Homes.{member_of}
-use Rattle.domain_layout.specs.Layout.{Layout}
+use Rattle.attached_domain.specs.domain_base.Limits.{max_volumes}
+use Rattle.attached_domain.specs.domain_base.declared.place.Home.{Home}
+use Rattle.attached_domain.specs.disk_label.declared.anchor.Anchor.{Anchor}
+use Rattle.attached_domain.specs.log_ring.Homes.{member_of}
+use Rattle.attached_domain.specs.domain_layout.Layout.{Layout}
 use Rattle.domain_attaching.specs.declared.tables.TablePages.{TablePages}
 
 -- a page of the tag directory of what is in a slot

@@ -1,13 +1,13 @@
 //! Attaching a domain.
 ghost use Rattle.std.specs.Prelude.{IfErr, IfOk};
-ghost use Rattle.disk_label.specs.Fault.{HasPassed};
-ghost use Rattle.domain_layout.specs.Read.{Means};
-ghost use Rattle.fileset_model.specs.Filesets.{FilesetMap};
-ghost use Rattle.volume_disk.specs.Disk.{Tells};
-ghost use Rattle.volume_disk.specs.Run.{OnlyReads, Touches};
-ghost use Rattle.log_settling.specs.Settling.{Anywhere};
-ghost use Rattle.staged_pages.specs.Store.{before_of};
-ghost use Rattle.domain_memory.specs.Memory.{StandsFor};
+ghost use Rattle.attached_domain.specs.disk_label.Fault.{HasPassed};
+ghost use Rattle.attached_domain.specs.domain_layout.Read.{Means};
+ghost use Rattle.attached_domain.specs.fileset_model.Filesets.{FilesetMap};
+ghost use Rattle.attached_domain.specs.volume_disk.Disk.{Tells};
+ghost use Rattle.attached_domain.specs.volume_disk.Run.{OnlyReads, Touches};
+ghost use Rattle.attached_domain.specs.log_recovery.Settling.{Anywhere};
+ghost use Rattle.attached_domain.specs.staged_pages.Store.{before_of};
+ghost use Rattle.attached_domain.specs.domain_memory.Memory.{StandsFor};
 ghost use Rattle.domain_bringing.specs.Fault.{IsNoDomain};
 ghost use Rattle.domain_attaching.specs.Attaching.{
   HasCause,
@@ -23,24 +23,25 @@ ghost use Rattle.domain_attaching.specs.Settling.{IfRefused, StandHome, StaysRea
 use crate::bringing::bring_memory;
 use crate::fault::AttachFault;
 use crate::settling::attach_brought;
+use attached_domain::Rack;
 use domain_state::Attached;
 use std::alloc::Global;
-use volume_disk::Rack;
 
-/// Attaches the domain that a rack has, which then stands for the filesets that its volumes mean:
-/// brings its memory, syncs each volume, and settles the log where that has a group. The rack is at
-/// rest then: its log has no group, and the pages in memory, those of anchors aside, stand at their
-/// homes; its volumes have the sizes that they had, and it tells what it holds if it did. Whatever it
-/// answers, recovery takes each image that a stop may leave since the volumes are synced, with the
-/// pages that the rack's had at the start; and where the log had no group nothing is written. The
-/// rack comes back with a fault.
+/// Attaches the domain that a rack has: brings its memory, syncs each volume, and settles the log
+/// if that has a group. The domain then stands for the filesets that the volumes mean.
 ///
-/// `NotADomain` comes with the first place at which a rule of a domain is broken: its label, its
-/// anchors and its log come first, as `recover` has them, and then its pages in the order of the
-/// list of faults. `Fault` comes where a read of that volume failed, and `Unfit` where no rule is
-/// broken and the domain is not attached all the same. Nothing is written or synced then, nor at
-/// `OutOfMemory`. `NotSettled` comes where no rule is broken and the log has no numbers left, or a
-/// call failed while it was settled.
+/// The rack is at rest then: its log has no group, and the pages in memory, except those of
+/// anchors, stand at their homes. Its volumes keep their sizes, and it tells what it holds if it
+/// did before. Whatever the result, recovery takes each image that a stop may leave after the
+/// volumes are synced, with the pages that the rack had at the start. If the log had no group,
+/// nothing is written. The rack is given back with a fault.
+///
+/// Returns `NotADomain` with the first place at which a rule of a domain is broken: label, anchors
+/// and log come first, in the order of `recover`, and then the pages in the order of the list of
+/// faults. Returns `Fault` only if a read of that volume failed, and `Unfit` only if no rule is
+/// broken but the domain cannot be attached. Nothing is written or synced then, nor at
+/// `OutOfMemory`. Returns `NotSettled` only if no rule is broken and the log has no numbers left,
+/// or a call failed while the log was settled.
 pub fn attach<R: Rack>(alloc: Global, rack: R) -> Result<Attached<R>, (R, AttachFault)>
     ensures means { let old = R.disk rack in IfOk result (λ attached. Tells old
         → (all : FilesetMap) → Means old.sizes old.now.contents all

@@ -1,26 +1,23 @@
-//! The memory of a domain, from the volumes of a rack.
+//! Bringing the memory of a domain from the volumes of a rack.
 ghost use Rattle.std.specs.Prelude.{◌≡◌, List, ℕ, IfErr, IfOk};
-ghost use Rattle.domain_layout.specs.Read.{Means};
-ghost use Rattle.fileset_model.specs.Filesets.{FilesetMap};
-ghost use Rattle.volume_disk.specs.Disk.{Tells};
-ghost use Rattle.volume_disk.specs.Run.{OnlyReads};
-ghost use Rattle.staged_pages.specs.Store.{before_of};
-ghost use Rattle.page_ways.specs.Frame.{frame_in};
-ghost use Rattle.domain_memory.specs.Memory.{StandsFor};
+ghost use Rattle.attached_domain.specs.domain_layout.Read.{Means};
+ghost use Rattle.attached_domain.specs.fileset_model.Filesets.{FilesetMap};
+ghost use Rattle.attached_domain.specs.volume_disk.Disk.{Tells};
+ghost use Rattle.attached_domain.specs.volume_disk.Run.{OnlyReads};
+ghost use Rattle.attached_domain.specs.staged_pages.Store.{before_of};
+ghost use Rattle.attached_domain.specs.page_ways.Frame.{frame_in};
+ghost use Rattle.attached_domain.specs.domain_memory.Memory.{StandsFor};
 ghost use Rattle.attached_domain.specs.Causes.{IsUnfit};
 ghost use Rattle.domain_bringing.specs.Brought.{IsBrought, IsBroughtFrom};
 ghost use Rattle.domain_bringing.specs.Fault.{IsNoDomain};
 ghost use Rattle.domain_attaching.specs.Attaching.{HasCause, HaveFilesets, IfNotADomain, IfNotFit, IfNotSettled, IsBroughtMemory, IsUnfitDomain};
 
 use crate::fault::AttachFault;
-use attached_domain::{Unfit, read_domain};
+use attached_domain::{DomainMemory, Rack, Redone, Unfit, read_domain};
 use domain_bringing::{Brought, bring_domain};
-use domain_memory::DomainMemory;
-use log_recovery::Redone;
 use std::alloc::Global;
-use volume_disk::Rack;
 
-/// The memory of a domain, and what was recovered of its log.
+/// The memory of a domain, and what was recovered from its log.
 #[derive(Drop)]
 pub struct BroughtMemory {
     pub memory: DomainMemory,
@@ -50,10 +47,10 @@ fn memory_of(alloc: Global, brought: Brought) -> Result<BroughtMemory, Unfit>
 /// Brings the memory of a domain from a rack: recovers its log, brings its pages, and reads them.
 /// It writes nothing. The memory stands for the filesets that the volumes mean.
 ///
-/// `NotADomain` comes with the first place at which a rule of a domain is broken: its label, its
-/// anchors and its log come first, as `recover` has them, and then its pages in the order of the
-/// list of faults. `Fault` comes where a read of that volume failed, and `Unfit` where no rule is
-/// broken and the domain is not attached all the same.
+/// Returns `NotADomain` with the first place at which a rule of a domain is broken: label, anchors
+/// and log come first, in the order of `recover`, and then the pages in the order of the list of
+/// faults. Returns `Fault` only if a read of that volume failed, and `Unfit` only if no rule is
+/// broken but the domain cannot be attached.
 pub fn bring_memory<R: Rack>(alloc: Global, rack: &mut R) -> Result<BroughtMemory, AttachFault>
     ensures reads { OnlyReads (R.disk rack.old) (R.disk rack.new) }
     ensures memory { IfOk result (IsBroughtMemory (R.disk rack.old).sizes) }

@@ -1,11 +1,11 @@
 //! Closing a domain.
 ghost use Rattle.std.specs.Prelude.{◌≡◌, ◌*◌, IfErr, IfOk, OnErr, OnOk, length};
-ghost use Rattle.log_ring.specs.Homes.{HasMembers};
-ghost use Rattle.staged_pages.specs.Store.{pages_of};
-ghost use Rattle.volume_disk.specs.Disk.{IsSettled as IsSynced, Tells, raised_at};
-ghost use Rattle.volume_disk.specs.Run.{NamesWriteFault, Touches};
-ghost use Rattle.anchor_laws.specs.Domain.{layout_of};
-ghost use Rattle.domain_memory.specs.Staged.{IsSettled, staged_in};
+ghost use Rattle.attached_domain.specs.log_ring.Homes.{HasMembers};
+ghost use Rattle.attached_domain.specs.staged_pages.Store.{pages_of};
+ghost use Rattle.attached_domain.specs.volume_disk.Disk.{IsSettled as IsSynced, Tells, raised_at};
+ghost use Rattle.attached_domain.specs.volume_disk.Run.{NamesWriteFault, Touches};
+ghost use Rattle.attached_domain.specs.domain_standing.Domain.{layout_of};
+ghost use Rattle.attached_domain.specs.domain_memory.Staged.{IsSettled, staged_in};
 ghost use Rattle.domain_attaching.specs.Tables.{AreTables};
 ghost use Rattle.domain_attaching.specs.Closing.{AreHome, AreTheseHome, HasRoomFor, IsChosen, IsClosed, IsInOrder, IsInOrderSoFar, IsOnLoggable, IsOnThese, MeansKept, StayHome};
 
@@ -13,14 +13,12 @@ use crate::closing_room::ClosingRoom;
 use crate::homeward::bring_pages_home;
 use crate::row::MOST_AT_ONCE;
 use crate::tables::TablePages;
-use domain_base::VolIx;
-use domain_base::limits::PAGE_BYTES;
-use domain_memory::DomainMemory;
+use attached_domain::from_domain_base::limits::PAGE_BYTES;
+use attached_domain::{DomainMemory, Entry, Rack, VolIx, sync_volumes};
 use domain_state::{Domain, Opening};
-use fileset_model::Entry;
-use volume_disk::{Rack, sync_volumes};
 
-/// Brings the pages in memory home that are, or are not, of tables, and syncs each volume.
+/// Brings home the pages in memory that are of tables, or those that are not, and syncs each
+/// volume.
 fn bring_and_sync<R: Rack>(
     rack: &mut R,
     memory: &DomainMemory,
@@ -45,7 +43,7 @@ fn bring_and_sync<R: Rack>(
     sync_volumes(rack)
 }
 
-/// Brings the pages in memory home: those of data, and once these are there to stay, those of
+/// Brings the pages in memory home: first those of data, and once these are there to stay, those of
 /// tables.
 fn bring_in_order<R: Rack>(
     rack: &mut R,
@@ -70,7 +68,8 @@ fn bring_in_order<R: Rack>(
     bring_and_sync(rack, memory, tables, true, found)
 }
 
-/// The same, in the room that was taken for it.
+/// Brings the pages in memory home, in the room that was taken for it: first those of data, then
+/// those of tables.
 fn write_back<R: Rack>(rack: &mut R, memory: &DomainMemory, room: ClosingRoom) -> Result<(), VolIx>
     requires members { HasMembers (R.disk rack.old).sizes memory.now.frame.anchor }
     requires room { HasRoomFor memory.now.frame.anchor room }
@@ -101,15 +100,15 @@ pub struct Closed<R: Rack> {
     pub history: Vec<Entry>,
 }
 
-/// Closes a domain over which no change is laid, and gives its rack and its history back: each page
-/// in memory that the rack has otherwise is written to its home, and each volume is synced. The
+/// Closes a domain over which no change is laid, and gives its rack and its history back. Each page
+/// in memory that differs from the rack's is written to its home, and each volume is synced. The
 /// pages of tables come last, once all others are there to stay: those of tables of cells and of
-/// tag directories, and that of the fileset table. The log has no group, before and after, so the
-/// volumes mean then what the domain stood for.
+/// tag directories, and the page of the fileset table. The log has no group, before and after, so
+/// the volumes then mean what the domain stood for.
 ///
-/// It takes no memory but the room, which is of the domain's frame. A page that cannot be read is
-/// written. The error is the first volume of which a write or a sync failed; then some of the pages
-/// may have been written, and what the volumes mean is not told.
+/// It takes no memory except the room, which was taken for the domain's frame. A page that cannot
+/// be read is written. The error is the first volume whose write or sync failed. Some of the pages
+/// may have been written then, and nothing is promised about what the volumes mean.
 pub fn close<R: Rack, O: Opening>(
     domain: Domain<R, O>,
     room: ClosingRoom,

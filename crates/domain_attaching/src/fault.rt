@@ -2,10 +2,8 @@
 ghost use Rattle.std.specs.Prelude.{◌≡◌};
 ghost use Rattle.domain_attaching.specs.Attaching.{of_bringing, of_unfit};
 
-use attached_domain::Unfit;
-use domain_base::VolIx;
+use attached_domain::{SettleFault, Unfit, VolIx};
 use domain_bringing::BringFault;
-use log_settling::SettleFault;
 use std::error::Error;
 use std::fmt;
 
@@ -16,11 +14,11 @@ pub enum AttachFault {
     NotADomain { vol: u32, at: u32 },
     /// A read of this volume failed.
     Fault { vol: VolIx },
-    /// There is a domain, but one that is not attached.
+    /// There is a domain, but it cannot be attached.
     Unfit { why: Unfit },
     /// Its log was not settled.
     NotSettled { why: SettleFault },
-    /// No memory could be had.
+    /// Memory ran out.
     OutOfMemory,
 }
 

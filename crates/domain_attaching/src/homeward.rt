@@ -1,22 +1,17 @@
-//! The pages of a domain in memory, brought home.
+//! Bringing home the pages of a domain in memory.
 ghost use Rattle.std.specs.Prelude.{◌≡◌, ◌↔◌, ◌+◌, ◌*◌, ◌<◌, ◌≤◌, IsTrue, OnOk, length};
-ghost use Rattle.log_ring.specs.Homes.{HasMembers, IsLoggable, member_of};
-ghost use Rattle.staged_pages.specs.Store.{pages_of};
-ghost use Rattle.volume_disk.specs.Disk.{Tells};
-ghost use Rattle.volume_disk.specs.Run.{NamesWriteFault, Touches};
+ghost use Rattle.attached_domain.specs.log_ring.Homes.{HasMembers, IsLoggable, member_of};
+ghost use Rattle.attached_domain.specs.staged_pages.Store.{pages_of};
+ghost use Rattle.attached_domain.specs.volume_disk.Disk.{Tells};
+ghost use Rattle.attached_domain.specs.volume_disk.Run.{NamesWriteFault, Touches};
 ghost use Rattle.domain_attaching.specs.Closing.{AreBetween, AreTheseHome, IsChosen, IsChosenOn, IsOnThese, IsToBring, StayHome};
 
 use crate::row::{MOST_AT_ONCE, bring_row};
 use crate::tables::TablePages;
-use disk_label::ANCHORS_PAGE;
-use domain_base::limits::{MAX_VOLUMES, PAGE_BYTES};
-use domain_base::{Home, VolIx};
-use domain_memory::DomainMemory;
-use page_store::MetaPages;
-use page_ways::DomainFrame;
-use volume_disk::Rack;
+use attached_domain::from_domain_base::limits::{MAX_VOLUMES, PAGE_BYTES};
+use attached_domain::{ANCHORS_PAGE, DomainFrame, DomainMemory, Home, MetaPages, Rack, VolIx};
 
-/// Whether a page is one of a member, behind its label and anchors and outside of the log.
+/// Whether a page is one of a member, after its label and anchors and outside the log.
 fn is_loggable(frame: &DomainFrame, home: &Home) -> bool
     ensures { IsTrue result ↔ IsLoggable frame.now.anchor home.now }
 {
@@ -40,8 +35,8 @@ fn is_to_bring(memory: &DomainMemory, tables: &TablePages, of_tables: bool, home
     is_chosen(memory, tables, of_tables, home) && memory.pages.get(*home).is_some()
 }
 
-/// Where the pages end that are to be brought home and stand in a row from one of a member on, of
-/// which no more are told than one call reads.
+/// The end of a row of pages that are to be brought home, from a page of a member on. The row is no
+/// longer than what one call reads.
 fn end_of_row(
     memory: &DomainMemory,
     tables: &TablePages,
@@ -71,8 +66,8 @@ fn end_of_row(
     end
 }
 
-/// Writes the pages of a volume to their homes that are in memory and may be written, and that are
-/// or are not of a table, where others stand there.
+/// Writes to their homes the pages of a volume that are in memory and may be written, and that are
+/// or are not of a table, if other pages stand there.
 fn bring_home_on<R: Rack>(
     rack: &mut R,
     memory: &DomainMemory,
@@ -105,7 +100,8 @@ fn bring_home_on<R: Rack>(
 }
 
 /// Writes each page in memory that may be written, and that is or is not of a table, to its home,
-/// once, where another one stands there: those that stand in a row by one call, sixty-four at most.
+/// once, if another page stands there. Pages that stand in a row are written by one call,
+/// sixty-four at most.
 pub(crate) fn bring_pages_home<R: Rack>(
     rack: &mut R,
     memory: &DomainMemory,

@@ -1,22 +1,19 @@
-//! Pages in memory that stand in a row on a volume, brought home.
+//! Bringing home pages in memory that stand in a row on a volume.
 ghost use Rattle.std.specs.Prelude.{◌≡◌, ◌+◌, ◌*◌, ◌^◌, ◌<◌, ◌≤◌, ℕ, IsSome, OnOk, Some, length};
-ghost use Rattle.staged_pages.specs.Store.{pages_of};
-ghost use Rattle.volume_disk.specs.Disk.{Tells};
-ghost use Rattle.volume_disk.specs.Image.{bytes_at};
-ghost use Rattle.volume_disk.specs.Run.{NamesWriteFault, Touches};
+ghost use Rattle.attached_domain.specs.staged_pages.Store.{pages_of};
+ghost use Rattle.attached_domain.specs.volume_disk.Disk.{Tells};
+ghost use Rattle.attached_domain.specs.volume_disk.Image.{bytes_at};
+ghost use Rattle.attached_domain.specs.volume_disk.Run.{NamesWriteFault, Touches};
 ghost use Rattle.domain_attaching.specs.Closing.{AreBetween, AreOnRack, IsOnRow, StandsHome, page_in};
 
-use domain_base::limits::{BLOCKS_PER_PAGE, PAGE_BYTES};
-use domain_base::{Home, VolIx};
-use page_store::MetaPages;
-use staged_pages::StagedPages;
-use volume_disk::{Rack, read_blocks, write_blocks};
+use attached_domain::from_domain_base::limits::{BLOCKS_PER_PAGE, PAGE_BYTES};
+use attached_domain::{Home, MetaPages, Rack, StagedPages, VolIx, read_blocks, write_blocks};
 
 /// How many pages are read, or written, by one call at most.
 pub(crate) const MOST_AT_ONCE: u32 = 64;
 
 /// Lays the pages in memory over those that were read in their places, from one on, up to the first
-/// that is the same: its number is answered, or how many there are.
+/// that is the same. Returns the number of that page, or how many pages there are.
 fn lay_changed(
     pages: &StagedPages,
     vol: VolIx,
@@ -56,8 +53,8 @@ fn lay_changed(
     count
 }
 
-/// Writes the pages in memory that stand in a row from one of a volume on where they differ from
-/// those that were read there: of such as stand in a row, too, by one call.
+/// Writes the pages in memory that stand in a row, from one of a volume on, if they differ from
+/// those that were read there. Neighbours that differ are written by one call.
 fn write_changed<R: Rack>(
     rack: &mut R,
     pages: &StagedPages,
@@ -89,7 +86,7 @@ fn write_changed<R: Rack>(
     Ok(())
 }
 
-/// Lays the pages in memory that stand in a row from one of a volume on over whatever there is.
+/// Lays the pages in memory that stand in a row, from one of a volume on, over whatever is there.
 fn lay_all(pages: &StagedPages, vol: VolIx, first: u32, count: u32, found: &mut [u8])
     requires there { AreBetween vol first (first + count)
         (λ home. IsSome (pages_of pages.now home)) }
@@ -114,8 +111,8 @@ fn lay_all(pages: &StagedPages, vol: VolIx, first: u32, count: u32, found: &mut 
     }
 }
 
-/// Writes the pages in memory that stand in a row from one of a volume on, whatever stands there,
-/// by one call.
+/// Writes the pages in memory that stand in a row, from one of a volume on, by one call, whatever
+/// stands there.
 fn write_all<R: Rack>(
     rack: &mut R,
     pages: &StagedPages,
@@ -138,8 +135,8 @@ fn write_all<R: Rack>(
     write_blocks(rack, vol, BLOCKS_PER_PAGE * first, found)
 }
 
-/// Brings pages in memory home that stand in a row on a volume: they are read by one call, and those
-/// that differ are written; all of them are where the read fails.
+/// Brings home pages in memory that stand in a row on a volume. They are read by one call, and
+/// those that differ are written. If the read fails, all of them are written.
 pub(crate) fn bring_row<R: Rack>(
     rack: &mut R,
     pages: &StagedPages,

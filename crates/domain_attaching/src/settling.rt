@@ -1,11 +1,11 @@
-//! The log of a domain whose memory was brought, settled.
+//! Settling the log of a domain whose memory was brought.
 ghost use Rattle.std.specs.Prelude.{◌≡◌, IfErr, IfOk};
-ghost use Rattle.disk_label.specs.Fault.{HasPassed};
-ghost use Rattle.log_recovery.specs.Outcome.{IsSound};
-ghost use Rattle.log_settling.specs.Settling.{Anywhere, IsBehindAll, StandsAtHome, StaysRead};
-ghost use Rattle.volume_disk.specs.Disk.{IsSettled, Tells};
-ghost use Rattle.volume_disk.specs.Image.{NoPlace};
-ghost use Rattle.volume_disk.specs.Run.{Touches};
+ghost use Rattle.attached_domain.specs.disk_label.Fault.{HasPassed};
+ghost use Rattle.attached_domain.specs.log_recovery.Outcome.{IsSound};
+ghost use Rattle.attached_domain.specs.log_recovery.Settling.{Anywhere, IsBehindAll, StandsAtHome, StaysRead};
+ghost use Rattle.attached_domain.specs.volume_disk.Disk.{IsSettled, Tells};
+ghost use Rattle.attached_domain.specs.volume_disk.Image.{NoPlace};
+ghost use Rattle.attached_domain.specs.volume_disk.Run.{Touches};
 ghost use Rattle.domain_state.specs.Rest.{IsAtRest};
 ghost use Rattle.domain_attaching.specs.Attaching.{IsBroughtMemory};
 ghost use Rattle.domain_attaching.specs.Settling.{
@@ -20,14 +20,11 @@ ghost use Rattle.domain_attaching.specs.Settling.{
 
 use crate::bringing::BroughtMemory;
 use crate::fault::AttachFault;
-use disk_label::Anchor;
+use attached_domain::{Anchor, Rack, Redone, SettleFault, settle_log, sync_volumes};
 use domain_state::Attached;
-use log_recovery::Redone;
-use log_settling::{SettleFault, settle_log};
-use volume_disk::{Rack, sync_volumes};
 
-/// Settles the log of a rack as it was recovered, on which nothing is pending, where it has a
-/// group; else nothing is done. It answers the anchor that counts then.
+/// Settles the recovered log of a rack on which nothing is pending. If the log has no group,
+/// nothing is done. Returns the anchor that counts then.
 fn settle_groups<R: Rack>(rack: &mut R, redone: &Redone) -> Result<Anchor, SettleFault>
     requires pending { Tells (R.disk rack.old) → IsSettled (R.disk rack.old).now }
     requires sound { IsSound (R.disk rack.old).sizes redone.now }
@@ -48,7 +45,8 @@ fn settle_groups<R: Rack>(rack: &mut R, redone: &Redone) -> Result<Anchor, Settl
     settle_log(rack, redone)
 }
 
-/// The same once each volume was synced, so that nothing is pending.
+/// Syncs each volume, so that nothing is pending, and then settles the log of the rack. Returns the
+/// anchor that counts then.
 fn settle_synced<R: Rack>(rack: &mut R, redone: &Redone) -> Result<Anchor, SettleFault>
     requires sound { IsSound (R.disk rack.old).sizes redone.now }
     requires recovered { let old = R.disk rack.old in
@@ -68,8 +66,8 @@ fn settle_synced<R: Rack>(rack: &mut R, redone: &Redone) -> Result<Anchor, Settl
     }
 }
 
-/// Attaches a domain whose memory was brought: its log is settled, and its memory has the anchor
-/// then with which it was.
+/// Attaches a domain whose memory was brought: its log is settled, and its memory then has the
+/// anchor that settling gave.
 pub(crate) fn attach_brought<R: Rack>(
     rack: R,
     found: BroughtMemory,

@@ -1,17 +1,15 @@
-//! Which pages of a domain are those of tables.
+//! Which pages of a domain are pages of tables.
 ghost use Rattle.std.specs.Prelude.{◌≡◌, ◌≢◌, ◌-◌, ◌<◌, ◌≤◌, ℕ, Contains, IfOk, Some, length, slice_get};
-ghost use Rattle.anchor_laws.specs.Domain.{layout_of};
-ghost use Rattle.domain_memory.specs.Staged.{staged_in};
-ghost use Rattle.log_ring.specs.Homes.{member_of};
+ghost use Rattle.attached_domain.specs.domain_standing.Domain.{layout_of};
+ghost use Rattle.attached_domain.specs.domain_memory.Staged.{staged_in};
+ghost use Rattle.attached_domain.specs.log_ring.Homes.{member_of};
 ghost use Rattle.domain_attaching.specs.Tables.{AreTables, HasMarksFor, HasMarksOn, HasTablesOn, HasTagPage, IsTableHome, Marks, is_table};
 
-use domain_base::limits::MAX_VOLUMES;
-use domain_base::{Home, OutOfMemory, VolIx};
-use domain_memory::DomainMemory;
-use page_ways::DomainFrame;
+use attached_domain::from_domain_base::limits::MAX_VOLUMES;
+use attached_domain::{DomainFrame, DomainMemory, Home, OutOfMemory, VolIx};
 use std::alloc::Global;
 
-/// Of each volume which of its pages are those of tables.
+/// For each volume, which of its pages are pages of tables.
 #[derive(Drop)]
 pub(crate) struct TablePages {
     volumes: Vec<Vec<bool>>,

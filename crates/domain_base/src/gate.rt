@@ -1,6 +1,6 @@
-//! Gates. A gate is a block before a body, and the body counts only where its gate is open, which
-//! the gate's first byte says. So a body is written behind a closed gate, and counts at once when
-//! the gate is written open. Anchors have gates, and the groups of the log.
+//! Gates. A gate is a block before a body. The body counts only if its gate is open, and the gate's
+//! first byte says whether it is. So a body is written while its gate is closed, and counts at once
+//! when the gate is written open. Anchors and the groups of the log have gates.
 ghost use Rattle.std.specs.Prelude.{◌≡◌, ◌<◌, ◌↔◌, length, IsTrue};
 ghost use Rattle.domain_base.specs.Gate.{IsOpen, opened, closed};
 

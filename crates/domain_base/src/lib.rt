@@ -1,5 +1,5 @@
-//! What every part of the store speaks of: the versions and limits of a domain, the numbers and
-//! places in it, pages and gates, and the two answers that any part may give.
+//! What every part of the store uses: the versions and limits of a domain, the numbers and places
+//! in it, pages and gates, and the two failures that any part may report.
 #![tactic(auto)]
 
 pub mod gate;

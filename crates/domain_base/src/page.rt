@@ -32,7 +32,7 @@ impl Page {
         Ok(Page { content })
     }
 
-    /// Another page with the same bytes.
+    /// A page with the same bytes.
     pub fn copy(&self, alloc: Global) -> Result<Self, OutOfMemory>
         ensures value { IfOk result (λ page. page ≡ self.now) }
         ensures len { IfOk result (λ page. length page ≡ PAGE_BYTES) }
@@ -41,7 +41,7 @@ impl Page {
         Ok(Page { content })
     }
 
-    /// Its bytes, of which there are always 8,192.
+    /// The page's bytes. There are always 8,192.
     pub fn bytes(&self) -> &[u8]
         ensures value { result.now ≡ self.now }
         ensures len { length result.now ≡ PAGE_BYTES }

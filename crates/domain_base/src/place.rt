@@ -22,7 +22,7 @@ impl Model for VolIx {
 }
 
 impl VolIx {
-    /// The volume with that number, or None exactly where no volume has it.
+    /// The volume with that number. Returns None if and only if no volume has it.
     pub fn new(n: u32) -> Option<Self>
         ensures range { IsSome result ↔ ((1 ≤ n) × (n ≤ MAX_VOLUMES)) }
         ensures value { IfSome result (λ v. v ≡ n) }
@@ -68,7 +68,7 @@ impl Model for FilesetNo {
 }
 
 impl FilesetNo {
-    /// The fileset with that number, or None exactly where the table has no such slot.
+    /// The fileset with that number. Returns None if and only if the table has no such slot.
     pub fn new(n: u32) -> Option<Self>
         ensures range { IsSome result ↔ (n < FILESET_SLOTS) }
         ensures value { IfSome result (λ f. f ≡ n) }
@@ -96,7 +96,7 @@ pub struct Home {
     pub page: u32,
 }
 
-/// What names a file or a directory within its fileset: a slot of the tag directory, and how often
+/// The name of a file or a directory within its fileset: a slot of the tag directory, and how often
 /// the slot has been taken, which tells the file from earlier ones there.
 #[derive(Clone, Copy, Debug, PartialEq, Eq, PartialOrd, Ord)]
 pub struct Tag {

@@ -11,13 +11,13 @@ pub enum Version {
     Four,
 }
 
-/// The pages of a volume for which one page of its bitmap has the bits.
+/// The pages of a volume whose bits stand on one page of its bitmap.
 const PAGES_PER_BITMAP_PAGE: u32 = 65_536;
 
 impl Version {
     ghost use Rattle.domain_base.specs.Version.{number_of, most_pages, bitmap_pages};
 
-    /// The version with that number, or None exactly where it is neither 3 nor 4.
+    /// The version with that number. Returns None if and only if the number is neither 3 nor 4.
     pub fn from_number(n: u32) -> Option<Self>
         ensures range { IsSome result ↔ ((n ≡ 3) ⊎ (n ≡ 4)) }
         ensures value { IfSome result (λ version. number_of version ≡ n) }
@@ -39,7 +39,7 @@ impl Version {
         }
     }
 
-    /// The pages of a volume that a domain uses at most; what lies beyond them is left alone.
+    /// The most pages of a volume that a domain uses. Any pages beyond them are left alone.
     pub fn max_volume_pages(self) -> u32
         ensures { result ≡ most_pages self }
     {
@@ -49,8 +49,8 @@ impl Version {
         }
     }
 
-    /// The pages of the storage bitmap of a volume of so many pages: one in version 3, and one for
-    /// each 65,536 pages or a part of them in version 4.
+    /// The pages of the storage bitmap of a volume with `pages` pages: one in version 3, and in
+    /// version 4 one for each 65,536 pages or part of them.
     pub fn bitmap_pages(self, pages: u32) -> u32
         ensures { result ≡ bitmap_pages self pages }
     {

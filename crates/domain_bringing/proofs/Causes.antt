@@ -1,16 +1,16 @@
 -- Which call has failed, as bringing says it.
 use Rattle.std.proofs.Common.{◌≡◌, ◌∙◌, inl, ℕ, List, Result, Ok, Err, IfErr, sym, subst}
-use Rattle.volume_disk.specs.Disk.{Disk, Moment, Tells, raised_at}
-use Rattle.volume_disk.specs.Run.{OnlyReads}
-use Rattle.log_ring.specs.Groups.{Group}
-use Rattle.log_recovery.specs.Fault.{HasCause as IsCause, IfNotADomain as IfNone}
-use Rattle.log_recovery.specs.Outcome.{HasRecovered, IsFirstFault}
-use Rattle.log_recovery.specs.declared.redone.Redone.{Redone}
-use Rattle.log_recovery.specs.declared.fault.RecoverFault.{RecoverFault}
-use Rattle.log_recovery.specs.declared.fault.RecoverFault.TheVariants as recovery
-use Rattle.metadata_loading.specs.Loading.{NamesCause}
-use Rattle.metadata_loading.specs.declared.fault.LoadFault.{LoadFault}
-use Rattle.metadata_loading.specs.declared.fault.LoadFault.TheVariants as loading
+use Rattle.domain_faults.specs.volume_disk.Disk.{Disk, Moment, Tells, raised_at}
+use Rattle.domain_faults.specs.volume_disk.Run.{OnlyReads}
+use Rattle.domain_faults.specs.log_ring.Groups.{Group}
+use Rattle.domain_faults.specs.log_recovery.Fault.{HasCause as IsCause, IfNotADomain as IfNone}
+use Rattle.domain_faults.specs.log_recovery.Outcome.{HasRecovered, IsFirstFault}
+use Rattle.domain_faults.specs.log_recovery.declared.redone.Redone.{Redone}
+use Rattle.domain_faults.specs.log_recovery.declared.fault.RecoverFault.{RecoverFault}
+use Rattle.domain_faults.specs.log_recovery.declared.fault.RecoverFault.TheVariants as recovery
+use Rattle.image_loading.specs.Loading.{NamesCause}
+use Rattle.image_loading.specs.declared.fault.LoadFault.{LoadFault}
+use Rattle.image_loading.specs.declared.fault.LoadFault.TheVariants as loading
 use Rattle.domain_bringing.specs.Fault.{HasCause, IfNotADomain, IsNoDomain, IsWrongOn, same_fault, same_recovery}
 use Rattle.domain_bringing.specs.declared.fault.BringFault.{BringFault}
 use Rattle.domain_bringing.specs.declared.fault.BringFault.TheVariants.{Fault, NotADomain, OutOfMemory}

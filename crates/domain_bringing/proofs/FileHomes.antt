@@ -2,38 +2,38 @@
 use Rattle.std.proofs.Common.{◌≡◌, ◌∙◌, ◌⊎◌, inl, inr, ℕ, zero, suc, Bool, true, false, cond, nat_lt, List, [], ◌∷◌, Option, Some, None, Contains, IsSomeAnd, slice_get, refl, sym, ap, subst, arith, ⊎_elim}
 use Rattle.std.proofs.lemmas.List.Elements.{Contains-append_cases}
 use Rattle.std.specs.Option.{option_and_then, option_map_or}
-use Rattle.domain_base.specs.declared.place.CellAt.{CellAt}
-use Rattle.domain_base.specs.declared.place.Home.{Home}
-use Rattle.domain_base.specs.declared.place.Tag.{Tag}
-use Rattle.page_store.specs.Pages.{Pages}
-use Rattle.record_table.specs.declared.record.Record.{Record}
-use Rattle.bmt_mcells.specs.Chain.{AreLinked, Follow, LinksFrom, PlacedCell, StandsAt, records_of}
-use Rattle.extent_maps.specs.Runs.{Places, home_at, place_of}
-use Rattle.extent_maps.specs.declared.run.PagePlace.{PagePlace}
-use Rattle.extent_maps.specs.declared.run.PagePlace.TheVariants.{Absent, At, Hole}
-use Rattle.extent_maps.proofs.EditLemmas.{over, place_append}
-use Rattle.extent_records.specs.Rows.{runs_in, runs_of}
-use Rattle.extent_records.specs.Writing.{places_in}
-use Rattle.bitfile_cells.specs.Files.{places_of}
-use Rattle.bitfile_core.specs.Files.{first_record, is_removed}
-use Rattle.chain_release.specs.Reading.{own_or, read_home}
-use Rattle.fileset_table.specs.Table.{entry_of as fileset_of}
-use Rattle.fileset_table.specs.declared.slot.FilesetEntry.{FilesetEntry}
-use Rattle.fileset_table.specs.declared.slot.SlotItem.{SlotItem}
-use Rattle.fileset_table.specs.declared.slot.SlotItem.TheVariants as slots
-use Rattle.domain_layout.specs.DirectoryRules.{Has, IsInClone, IsInItem, IsThere}
-use Rattle.domain_layout.specs.Faults.{HasNoTablesFault}
-use Rattle.domain_layout.specs.Layout.{IsLayout, Layout}
-use Rattle.domain_layout.specs.Owners.{frame_of}
-use Rattle.domain_layout.specs.Reached.{Frame}
-use Rattle.domain_layout.specs.Seen.{IsOwn, IsSource, SeenFile, frozen_of, is_in_sync, seen_in, seen_through, source_of}
-use Rattle.domain_layout.specs.TagRules.{HasTags, IsFirstOf}
-use Rattle.layout_laws.proofs.Named.{InChain, begins_file, goes_along, place_in}
-use Rattle.layout_laws.proofs.OnePage.{some_same}
-use Rattle.shape_laws.proofs.OriginalFiles.{Kept, home_kept, kept, none_some}
-use Rattle.metadata_loading.proofs.Files.{FirstThere, first_kind, first_used, source_named, tags_of}
-use Rattle.metadata_loading.proofs.Owned.{AreTables}
-use Rattle.image_loading.specs.Files.{HasPageAt}
+use Rattle.domain_faults.specs.domain_base.declared.place.CellAt.{CellAt}
+use Rattle.domain_faults.specs.domain_base.declared.place.Home.{Home}
+use Rattle.domain_faults.specs.domain_base.declared.place.Tag.{Tag}
+use Rattle.domain_faults.specs.page_store.Pages.{Pages}
+use Rattle.domain_faults.specs.cell_records.declared.record.Record.{Record}
+use Rattle.domain_faults.specs.metadata_cells.Chain.{AreLinked, Follow, LinksFrom, PlacedCell, StandsAt, records_of}
+use Rattle.domain_faults.specs.extent_maps.Runs.{Places, home_at, place_of}
+use Rattle.domain_faults.specs.extent_maps.declared.run.PagePlace.{PagePlace}
+use Rattle.domain_faults.specs.extent_maps.declared.run.PagePlace.TheVariants.{Absent, At, Hole}
+use Rattle.domain_faults.proofs.OfExtentMaps.EditLemmas.{over, place_append}
+use Rattle.domain_faults.specs.extent_records.Rows.{runs_in, runs_of}
+use Rattle.domain_faults.specs.extent_records.Writing.{places_in}
+use Rattle.domain_faults.specs.file_chains.Files.{places_of}
+use Rattle.domain_faults.specs.fileset_files.Files.{first_record, is_removed}
+use Rattle.domain_faults.specs.file_release.Reading.{own_or, read_home}
+use Rattle.domain_faults.specs.fileset_table.Table.{entry_of as fileset_of}
+use Rattle.domain_faults.specs.fileset_table.declared.slot.FilesetEntry.{FilesetEntry}
+use Rattle.domain_faults.specs.fileset_table.declared.slot.SlotItem.{SlotItem}
+use Rattle.domain_faults.specs.fileset_table.declared.slot.SlotItem.TheVariants as slots
+use Rattle.domain_faults.specs.domain_layout.DirectoryRules.{Has, IsInClone, IsInItem, IsThere}
+use Rattle.domain_faults.specs.domain_layout.Faults.{HasNoTablesFault}
+use Rattle.domain_faults.specs.domain_layout.Layout.{IsLayout, Layout}
+use Rattle.domain_faults.specs.domain_layout.Owners.{frame_of}
+use Rattle.domain_faults.specs.domain_layout.Reached.{Frame}
+use Rattle.domain_faults.specs.domain_layout.Seen.{IsOwn, IsSource, SeenFile, frozen_of, is_in_sync, seen_in, seen_through, source_of}
+use Rattle.domain_faults.specs.domain_layout.TagRules.{HasTags, IsFirstOf}
+use Rattle.domain_faults.proofs.OfDomainLayout.Named.{InChain, begins_file, goes_along, place_in}
+use Rattle.domain_faults.proofs.OfDomainLayout.OnePage.{some_same}
+use Rattle.domain_faults.proofs.OfFilesetShapes.OriginalFiles.{Kept, home_kept, kept, none_some}
+use Rattle.domain_faults.proofs.OfDomainLayout.Files.{FirstThere, first_kind, first_used, source_named, tags_of}
+use Rattle.domain_faults.proofs.OfDomainLayout.Owned.{AreTables}
+use Rattle.domain_faults.specs.page_faults.Files.{HasPageAt}
 
 -- a cell in use says that the page at a home is one of its file
 abbrev pub IsFilePage : Pages → Frame → Home → Type 0

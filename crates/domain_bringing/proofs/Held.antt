@@ -1,25 +1,25 @@
 -- Where the pages of files were brought to those of a domain without a fault, all of its pages are
 -- there.
 use Rattle.std.proofs.Common.{◌≡◌, ℕ, ◌+◌, ◌/◌, ◌<◌, ◌≤◌, List, Option, Some, None, IsSome, inl, inr, refl, sym, subst, arith}
-use Rattle.domain_base.specs.Version.{bitmap_pages, most_pages}
-use Rattle.domain_base.specs.declared.place.Home.{Home}
-use Rattle.domain_base.specs.declared.version.Version.{Version}
-use Rattle.domain_base.specs.declared.version.Version.TheVariants.{Four, Three}
-use Rattle.page_store.specs.Pages.{Pages}
-use Rattle.log_ring.specs.Homes.{member_of}
-use Rattle.domain_layout.specs.Faults.{HasNoFault, HasNoTablesFault, SaysTable}
-use Rattle.domain_layout.specs.Layout.{IsLayout, Layout}
-use Rattle.domain_layout.specs.Owners.{frame_of}
-use Rattle.domain_layout.specs.Reached.{Frame, IsWithin}
-use Rattle.domain_layout.proofs.NoTables.{none_of_tables}
-use Rattle.metadata_loading.specs.Looks.{AgreeWhereRulesLook}
-use Rattle.metadata_loading.proofs.SameFaults.{same_faults, sides}
-use Rattle.metadata_loading.proofs.Sides.{AreSides, flipped}
-use Rattle.shape_laws.specs.Found.{HasAllPages}
-use Rattle.shape_laws.proofs.Held.{says_table}
-use Rattle.file_runs.specs.declared.run.FileRun.{FileRun}
-use Rattle.metadata_loading.specs.Loading.{HasWhereRulesLook}
-use Rattle.image_loading.specs.Files.{AreFilePages, AreGoodCells}
+use Rattle.domain_faults.specs.domain_base.Version.{bitmap_pages, most_pages}
+use Rattle.domain_faults.specs.domain_base.declared.place.Home.{Home}
+use Rattle.domain_faults.specs.domain_base.declared.version.Version.{Version}
+use Rattle.domain_faults.specs.domain_base.declared.version.Version.TheVariants.{Four, Three}
+use Rattle.domain_faults.specs.page_store.Pages.{Pages}
+use Rattle.domain_faults.specs.log_ring.Homes.{member_of}
+use Rattle.domain_faults.specs.domain_layout.Faults.{HasNoFault, HasNoTablesFault, SaysTable}
+use Rattle.domain_faults.specs.domain_layout.Layout.{IsLayout, Layout}
+use Rattle.domain_faults.specs.domain_layout.Owners.{frame_of}
+use Rattle.domain_faults.specs.domain_layout.Reached.{Frame, IsWithin}
+use Rattle.domain_faults.proofs.OfDomainLayout.NoTables.{none_of_tables}
+use Rattle.domain_faults.specs.domain_layout.Looks.{AgreeWhereRulesLook}
+use Rattle.domain_faults.proofs.OfDomainLayout.SameFaults.{same_faults, sides}
+use Rattle.domain_faults.proofs.OfDomainLayout.Sides.{AreSides, flipped}
+use Rattle.domain_faults.specs.fileset_shapes.Found.{HasAllPages}
+use Rattle.domain_faults.proofs.OfFilesetShapes.Held.{says_table}
+use Rattle.domain_faults.specs.cell_chains.declared.run.FileRun.{FileRun}
+use Rattle.image_loading.specs.Loading.{HasWhereRulesLook}
+use Rattle.domain_faults.specs.page_faults.Files.{AreFilePages, AreGoodCells}
 use Rattle.domain_bringing.specs.Brought.{HasBitmaps, HasDomainPages, IsGoodFrame, IsLaidOut}
 use Rattle.domain_bringing.specs.Files.{HasPagesOfAll}
 use Rattle.domain_bringing.proofs.FileHomes.{IsFilePage, has_said}

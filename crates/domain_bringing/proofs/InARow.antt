@@ -1,10 +1,10 @@
 -- Pages that stand in a row, written by one call.
 use Rattle.std.proofs.Common.{◌≡◌, ◌∙◌, ◌⊎◌, ⊎_elim, ℕ, ◌+◌, ◌-◌, ◌*◌, ◌<◌, ◌≤◌, List, length, drop, get_or, slice_range, sym, ap, arith}
 use Rattle.std.proofs.lemmas.List.{get_or-drop, get_or-take, length-drop, length-take-le}
-use Rattle.page_store.specs.Pages.{Pages}
-use Rattle.volume_disk.specs.Image.{HasBytes, Image, IsIn, SameOutside, page_at}
-use Rattle.volume_disk.proofs.Bytes.{bytes_from-same}
-use Rattle.metadata_loading.proofs.PagesRead.{page_in_is}
+use Rattle.domain_faults.specs.page_store.Pages.{Pages}
+use Rattle.domain_faults.specs.volume_disk.Image.{HasBytes, Image, IsIn, SameOutside, page_at}
+use Rattle.domain_faults.proofs.OfVolumeDisk.Bytes.{bytes_from-same}
+use Rattle.image_loading.proofs.PagesRead.{page_in_is}
 
 -- a page of bytes that were written, of several
 pub written_in : (image : Image) (vol first at end k from to lo hi : ℕ) (found bytes : List ℕ) → bytes ≡ slice_range found lo hi → lo ≡ at * 8192 → hi ≡ end * 8192 → hi ≤ length found → HasBytes vol (512 * (16 * (first + at))) bytes image → at ≤ k → k < end → from ≡ 8192 * k → to ≡ from + 8192

@@ -3,13 +3,13 @@ use Rattle.std.proofs.Common.{◌≡◌, ◌∙◌, ℕ, ◌+◌, ◌<◌, ◌++
 use Rattle.std.proofs.Math.Seq.{take-length}
 use Rattle.std.proofs.lemmas.List.{take_more}
 use Rattle.std.specs.Option.{option_or}
-use Rattle.domain_base.specs.declared.place.Home.{Home}
-use Rattle.page_store.specs.Pages.{Pages, no_pages, same_home, with_page}
-use Rattle.page_change.specs.Images.{image_at, overlaid}
-use Rattle.page_change.specs.declared.image.PageImage.{PageImage}
-use Rattle.page_change.proofs.Overlays.{image_at-append}
-use Rattle.volume_disk.specs.Disk.{Disk}
-use Rattle.metadata_loading.specs.Loading.{Brings}
+use Rattle.domain_faults.specs.domain_base.declared.place.Home.{Home}
+use Rattle.domain_faults.specs.page_store.Pages.{Pages, no_pages, same_home, with_page}
+use Rattle.domain_faults.specs.log_ring.Images.{image_at, overlaid}
+use Rattle.domain_faults.specs.log_ring.declared.image.PageImage.{PageImage}
+use Rattle.domain_faults.proofs.OfLogRing.Overlays.{image_at-append}
+use Rattle.domain_faults.specs.volume_disk.Disk.{Disk}
+use Rattle.image_loading.specs.Loading.{Brings}
 use Rattle.domain_bringing.specs.Brought.{images_alone}
 
 -- the page of an image, if it has the home, over that of those in front of it, over the one below

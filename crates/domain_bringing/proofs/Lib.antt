@@ -10,5 +10,4 @@ pub mod Loggable
 pub mod Means
 pub mod Recovered
 pub mod InARow
-pub use Rattle.metadata_loading.proofs.PagesRead
-pub use Rattle.metadata_loading.proofs.SameFaults
+pub mod OfImageLoading

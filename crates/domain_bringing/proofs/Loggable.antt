@@ -1,24 +1,24 @@
 -- The pages at which the rules look, and those of files, are such as a log may have.
 use Rattle.std.proofs.Common.{◌≡◌, ℕ, ◌<◌, List, Some, inl, inr, ap, subst, arith, ⊎_elim}
 use Rattle.std.proofs.lemmas.Bool.{cases_lt}
-use Rattle.domain_base.specs.Version.{bitmap_pages}
-use Rattle.domain_base.specs.declared.place.Home.{Home}
-use Rattle.domain_base.specs.declared.place.Tag.{Tag}
-use Rattle.page_store.specs.Pages.{Pages}
-use Rattle.bmt_mcells.specs.Chain.{PlacedCell}
-use Rattle.fileset_table.specs.Table.{Table}
-use Rattle.log_ring.specs.Homes.{IsLoggable, member_of}
-use Rattle.domain_layout.specs.Faults.{HasNoFault}
-use Rattle.domain_layout.specs.Layout.{IsLayout, Layout}
-use Rattle.domain_layout.specs.Owners.{frame_of}
-use Rattle.domain_layout.specs.DirectoryRules.{Has}
-use Rattle.domain_layout.specs.Reached.{Frame, MayBe, first_cells}
-use Rattle.domain_layout.specs.Seen.{SeenFile}
-use Rattle.domain_layout.proofs.NoTables.{none_of_extents, none_of_tables}
-use Rattle.metadata_loading.specs.Looks.{IsLookedAt, IsOfBitmap, IsOfDirectory, IsOfFiles, IsOfTables}
-use Rattle.shape_laws.proofs.MayStand.{has_may}
+use Rattle.domain_faults.specs.domain_base.Version.{bitmap_pages}
+use Rattle.domain_faults.specs.domain_base.declared.place.Home.{Home}
+use Rattle.domain_faults.specs.domain_base.declared.place.Tag.{Tag}
+use Rattle.domain_faults.specs.page_store.Pages.{Pages}
+use Rattle.domain_faults.specs.metadata_cells.Chain.{PlacedCell}
+use Rattle.domain_faults.specs.fileset_table.Table.{Table}
+use Rattle.domain_faults.specs.log_ring.Homes.{IsLoggable, member_of}
+use Rattle.domain_faults.specs.domain_layout.Faults.{HasNoFault}
+use Rattle.domain_faults.specs.domain_layout.Layout.{IsLayout, Layout}
+use Rattle.domain_faults.specs.domain_layout.Owners.{frame_of}
+use Rattle.domain_faults.specs.domain_layout.DirectoryRules.{Has}
+use Rattle.domain_faults.specs.domain_layout.Reached.{Frame, MayBe, first_cells}
+use Rattle.domain_faults.specs.domain_layout.Seen.{SeenFile}
+use Rattle.domain_faults.proofs.OfDomainLayout.NoTables.{none_of_extents, none_of_tables}
+use Rattle.domain_faults.specs.domain_layout.Looks.{IsLookedAt, IsOfBitmap, IsOfDirectory, IsOfFiles, IsOfTables}
+use Rattle.domain_faults.proofs.OfFilesetShapes.MayStand.{has_may}
 use Rattle.image_loading.proofs.NoneBroken.{one_table}
-use Rattle.shape_laws.proofs.Held.{says_table}
+use Rattle.domain_faults.proofs.OfFilesetShapes.Held.{says_table}
 use Rattle.domain_bringing.specs.Brought.{IsGoodFrame}
 
 -- behind label, anchors and bitmap stand two pages at least

@@ -1,23 +1,23 @@
 -- Pages that agree where the rules look: each looks where the other does.
 use Rattle.std.proofs.Common.{◌≡◌, inl, inr, ℕ, List, subst, ⊎_elim}
-use Rattle.domain_base.specs.declared.place.Home.{Home}
-use Rattle.domain_base.specs.declared.place.Tag.{Tag}
-use Rattle.page_store.specs.Pages.{Pages}
-use Rattle.bmt_mcells.specs.Chain.{PlacedCell}
-use Rattle.fileset_table.specs.Table.{Table}
-use Rattle.domain_layout.specs.DirectoryRules.{Has, HasIndexAt}
-use Rattle.domain_layout.specs.Faults.{SaysTable}
-use Rattle.domain_layout.specs.Layout.{Layout}
-use Rattle.domain_layout.specs.Owners.{frame_of}
-use Rattle.domain_layout.specs.Reached.{Way, cells_way, index_way, tags_way}
-use Rattle.domain_layout.specs.Seen.{SeenFile}
-use Rattle.domain_layout.specs.TagRules.{HasTags}
-use Rattle.layout_laws.specs.Alike.{AgreeOnWay}
-use Rattle.layout_laws.proofs.CellsAlike.{reaches, used_alike}
-use Rattle.metadata_loading.specs.Looks.{IsComeTo, IsLookedAt, IsOfFiles, IsOfTables}
-use Rattle.metadata_loading.proofs.Files.{has_alike}
-use Rattle.metadata_loading.proofs.Sides.{AreSides}
-use Rattle.shape_laws.proofs.Held.{says_table}
+use Rattle.domain_faults.specs.domain_base.declared.place.Home.{Home}
+use Rattle.domain_faults.specs.domain_base.declared.place.Tag.{Tag}
+use Rattle.domain_faults.specs.page_store.Pages.{Pages}
+use Rattle.domain_faults.specs.metadata_cells.Chain.{PlacedCell}
+use Rattle.domain_faults.specs.fileset_table.Table.{Table}
+use Rattle.domain_faults.specs.domain_layout.DirectoryRules.{Has, HasIndexAt}
+use Rattle.domain_faults.specs.domain_layout.Faults.{SaysTable}
+use Rattle.domain_faults.specs.domain_layout.Layout.{Layout}
+use Rattle.domain_faults.specs.domain_layout.Owners.{frame_of}
+use Rattle.domain_faults.specs.domain_layout.Reached.{Way, cells_way, index_way, tags_way}
+use Rattle.domain_faults.specs.domain_layout.Seen.{SeenFile}
+use Rattle.domain_faults.specs.domain_layout.TagRules.{HasTags}
+use Rattle.domain_faults.specs.domain_layout.Alike.{AgreeOnWay}
+use Rattle.domain_faults.proofs.OfDomainLayout.CellsAlike.{reaches, used_alike}
+use Rattle.domain_faults.specs.domain_layout.Looks.{IsComeTo, IsLookedAt, IsOfFiles, IsOfTables}
+use Rattle.domain_faults.proofs.OfDomainLayout.Files.{has_alike}
+use Rattle.domain_faults.proofs.OfDomainLayout.Sides.{AreSides}
+use Rattle.domain_faults.proofs.OfFilesetShapes.Held.{says_table}
 use Rattle.image_loading.proofs.NoneBroken.{one_table}
 
 module _ (one other : Pages) (layout : Layout) (s : AreSides one other layout) where

@@ -2,43 +2,43 @@
 use Rattle.std.proofs.Common.{◌≡◌, ◌∙◌, ◌↔◌, inr, ℕ, List, [], ◌∷◌, Option, Some, None, IsSome, refl, sym, ap, subst, ⊎_elim}
 use Rattle.std.specs.Prelude.{unwrap_or}
 use Rattle.std.specs.Option.{option_or}
-use Rattle.domain_base.specs.declared.place.Home.{Home}
-use Rattle.domain_base.specs.declared.place.Tag.{Tag}
-use Rattle.page_store.specs.Pages.{Pages}
-use Rattle.page_change.specs.Images.{image_at}
-use Rattle.page_change.specs.declared.image.PageImage.{PageImage}
-use Rattle.volume_disk.specs.Disk.{Disk, Tells}
-use Rattle.volume_disk.specs.Image.{Image}
-use Rattle.disk_label.specs.declared.anchor.Anchor.{Anchor}
-use Rattle.log_ring.specs.Groups.{Group, HasLog, images_of, pages_in, redone}
-use Rattle.log_ring.specs.Homes.{IsLoggable}
-use Rattle.log_recovery.specs.Outcome.{HasRecovered}
-use Rattle.log_recovery.specs.declared.redone.Redone.{Redone}
-use Rattle.log_recovery.proofs.OneOutcome.{has_no_fault, has_one_log}
-use Rattle.fileset_model.specs.Filesets.{FilesetMap}
-use Rattle.fileset_model.specs.Orders.{Name}
-use Rattle.fileset_table.specs.Table.{Table}
-use Rattle.domain_layout.specs.DirectoryRules.{Has}
-use Rattle.domain_layout.specs.Faults.{HasNoFault, SaysTable}
-use Rattle.domain_layout.specs.Layout.{IsLayout, Layout}
-use Rattle.domain_layout.specs.Owners.{frame_of}
-use Rattle.domain_layout.specs.Reached.{Frame}
-use Rattle.domain_layout.specs.Read.{Means, ReadsFrom, contents_of}
-use Rattle.domain_layout.specs.Seen.{SeenFile}
-use Rattle.domain_layout.specs.Shape.{FilesetShape, HaveShapes, Shapes}
-use Rattle.domain_layout.proofs.NoTables.{none_of_extents, none_of_tables}
-use Rattle.layout_laws.specs.Agreeing.{AgreeOn}
-use Rattle.layout_laws.proofs.FilledAlike.{filled_at_homes}
-use Rattle.layout_laws.proofs.OnePage.{some_same}
-use Rattle.metadata_loading.specs.Looks.{AgreeWhereRulesLook}
-use Rattle.metadata_loading.proofs.SameFaults.{same_faults, same_lists, sides}
-use Rattle.metadata_loading.proofs.Sides.{AreSides, flipped}
-use Rattle.shape_laws.proofs.InShapes.{HasSome, in_shapes}
-use Rattle.shape_laws.proofs.MayStand.{has_may}
-use Rattle.shape_laws.proofs.SameShapes.{shapes_alike}
-use Rattle.filesets_reading.specs.Good.{IsNamed}
-use Rattle.metadata_loading.specs.Loading.{Brings, HasWhereRulesLook}
-use Rattle.filesets_reading.specs.Faulty.{HasFaults}
+use Rattle.domain_faults.specs.domain_base.declared.place.Home.{Home}
+use Rattle.domain_faults.specs.domain_base.declared.place.Tag.{Tag}
+use Rattle.domain_faults.specs.page_store.Pages.{Pages}
+use Rattle.domain_faults.specs.log_ring.Images.{image_at}
+use Rattle.domain_faults.specs.log_ring.declared.image.PageImage.{PageImage}
+use Rattle.domain_faults.specs.volume_disk.Disk.{Disk, Tells}
+use Rattle.domain_faults.specs.volume_disk.Image.{Image}
+use Rattle.domain_faults.specs.disk_label.declared.anchor.Anchor.{Anchor}
+use Rattle.domain_faults.specs.log_ring.Groups.{Group, HasLog, images_of, pages_in, redone}
+use Rattle.domain_faults.specs.log_ring.Homes.{IsLoggable}
+use Rattle.domain_faults.specs.log_recovery.Outcome.{HasRecovered}
+use Rattle.domain_faults.specs.log_recovery.declared.redone.Redone.{Redone}
+use Rattle.domain_faults.proofs.OfLogRecovery.OneOutcome.{has_no_fault, has_one_log}
+use Rattle.domain_faults.specs.fileset_model.Filesets.{FilesetMap}
+use Rattle.domain_faults.specs.fileset_values.Orders.{Name}
+use Rattle.domain_faults.specs.fileset_table.Table.{Table}
+use Rattle.domain_faults.specs.domain_layout.DirectoryRules.{Has}
+use Rattle.domain_faults.specs.domain_layout.Faults.{HasNoFault, SaysTable}
+use Rattle.domain_faults.specs.domain_layout.Layout.{IsLayout, Layout}
+use Rattle.domain_faults.specs.domain_layout.Owners.{frame_of}
+use Rattle.domain_faults.specs.domain_layout.Reached.{Frame}
+use Rattle.domain_faults.specs.domain_layout.Read.{Means, ReadsFrom, contents_of}
+use Rattle.domain_faults.specs.domain_layout.Seen.{SeenFile}
+use Rattle.domain_faults.specs.domain_layout.Shape.{FilesetShape, HaveShapes, Shapes}
+use Rattle.domain_faults.proofs.OfDomainLayout.NoTables.{none_of_extents, none_of_tables}
+use Rattle.domain_faults.specs.domain_layout.Agreeing.{AgreeOn}
+use Rattle.domain_faults.proofs.OfDomainLayout.FilledAlike.{filled_at_homes}
+use Rattle.domain_faults.proofs.OfDomainLayout.OnePage.{some_same}
+use Rattle.domain_faults.specs.domain_layout.Looks.{AgreeWhereRulesLook}
+use Rattle.domain_faults.proofs.OfDomainLayout.SameFaults.{same_faults, same_lists, sides}
+use Rattle.domain_faults.proofs.OfDomainLayout.Sides.{AreSides, flipped}
+use Rattle.domain_faults.proofs.OfFilesetShapes.InShapes.{HasSome, in_shapes}
+use Rattle.domain_faults.proofs.OfFilesetShapes.MayStand.{has_may}
+use Rattle.domain_faults.proofs.OfFilesetShapes.SameShapes.{shapes_alike}
+use Rattle.domain_faults.specs.filesets_reading.Good.{IsNamed}
+use Rattle.image_loading.specs.Loading.{Brings, HasWhereRulesLook}
+use Rattle.domain_faults.specs.filesets_reading.Faulty.{HasFaults}
 use Rattle.domain_bringing.specs.Brought.{ArePagesOf, HasDomainPages, IsBroughtFrom, IsGoodFrame, images_alone}
 use Rattle.domain_bringing.specs.Fault.{BeginsAt, HasFirstRow, IsNoDomain}
 use Rattle.domain_bringing.proofs.Loggable.{looks_loggable, may_loggable}

@@ -1,19 +1,19 @@
 -- What the anchor of an image says lies within the members.
 use Rattle.std.proofs.Common.{◌≡◌, ◌∙◌, ℕ, ◌+◌, ◌^◌, ◌≤◌, List, IsSomeAnd, refl, subst, arith}
-use Rattle.domain_base.specs.Version.{bitmap_pages, most_pages, number_of}
-use Rattle.domain_base.specs.declared.version.Version.{Version}
-use Rattle.domain_base.specs.declared.version.Version.TheVariants.{Four, Three}
-use Rattle.volume_disk.specs.Image.{Image}
-use Rattle.disk_label.specs.Anchor.{IsWhole}
-use Rattle.disk_label.specs.declared.anchor.Anchor.{Anchor}
-use Rattle.log_ring.specs.Groups.{Group}
-use Rattle.log_ring.specs.Homes.{IsMember, member_of}
-use Rattle.log_recovery.specs.Members.{label_version}
-use Rattle.log_recovery.specs.Outcome.{HasGoodAnchor, HasRecovered}
-use Rattle.log_recovery.specs.Range.{IsLogInside}
-use Rattle.log_recovery.specs.Range as recovery
-use Rattle.log_recovery.specs.declared.redone.Redone.{Redone}
-use Rattle.domain_layout.specs.Reached.{Frame, IsWithin}
+use Rattle.domain_faults.specs.domain_base.Version.{bitmap_pages, most_pages, number_of}
+use Rattle.domain_faults.specs.domain_base.declared.version.Version.{Version}
+use Rattle.domain_faults.specs.domain_base.declared.version.Version.TheVariants.{Four, Three}
+use Rattle.domain_faults.specs.volume_disk.Image.{Image}
+use Rattle.domain_faults.specs.disk_label.Anchor.{IsWhole}
+use Rattle.domain_faults.specs.disk_label.declared.anchor.Anchor.{Anchor}
+use Rattle.domain_faults.specs.log_ring.Groups.{Group}
+use Rattle.domain_faults.specs.log_ring.Homes.{IsMember, member_of}
+use Rattle.domain_faults.specs.log_recovery.Members.{label_version}
+use Rattle.domain_faults.specs.log_recovery.Outcome.{HasGoodAnchor, HasRecovered}
+use Rattle.domain_faults.specs.log_recovery.Range.{IsLogInside}
+use Rattle.domain_faults.specs.log_recovery.Range as recovery
+use Rattle.domain_faults.specs.log_recovery.declared.redone.Redone.{Redone}
+use Rattle.domain_faults.specs.domain_layout.Reached.{Frame, IsWithin}
 use Rattle.domain_bringing.specs.Brought.{IsGoodFrame}
 use Rattle.domain_bringing.specs.Range.{IsInRange, IsSized}
 

@@ -1,11 +1,11 @@
 -- What is brought after calls that only read is brought of what the rack had before.
 use Rattle.std.proofs.Common.{◌≡◌, ◌∙◌, List, ℕ, subst, sym}
-use Rattle.page_store.specs.Pages.{Pages}
-use Rattle.volume_disk.specs.Disk.{Disk, Moment, Tells}
-use Rattle.volume_disk.specs.Run.{OnlyReads}
-use Rattle.log_ring.specs.Groups.{Group}
-use Rattle.log_recovery.specs.Outcome.{HasRecovered}
-use Rattle.log_recovery.specs.declared.redone.Redone.{Redone}
+use Rattle.domain_faults.specs.page_store.Pages.{Pages}
+use Rattle.domain_faults.specs.volume_disk.Disk.{Disk, Moment, Tells}
+use Rattle.domain_faults.specs.volume_disk.Run.{OnlyReads}
+use Rattle.domain_faults.specs.log_ring.Groups.{Group}
+use Rattle.domain_faults.specs.log_recovery.Outcome.{HasRecovered}
+use Rattle.domain_faults.specs.log_recovery.declared.redone.Redone.{Redone}
 use Rattle.domain_bringing.specs.Brought.{IsBroughtFrom}
 
 pub brought_before : (old mid : Disk) (pages : Pages) (found : Redone) → OnlyReads old mid → (Tells old → (groups : List Group) × HasRecovered old.sizes old.now.contents groups found)

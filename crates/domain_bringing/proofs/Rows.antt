@@ -1,6 +1,6 @@
 -- The first row of faults.
 use Rattle.std.proofs.Common.{◌≡◌, ◌∙◌, ℕ, List, [], ◌∷◌, Some, None, slice_get, refl, sym, ap}
-use Rattle.layout_laws.proofs.OnePage.{some_same}
+use Rattle.domain_faults.proofs.OfDomainLayout.OnePage.{some_same}
 use Rattle.domain_faults.specs.Rows.{row_there, rows_there}
 use Rattle.domain_faults.specs.declared.rows.FaultRow.{FaultRow as Told}
 use Rattle.domain_bringing.specs.Fault.{BeginsAt}

@@ -2,11 +2,11 @@
 use Rattle.std.proofs.Common.{◌≡◌, ℕ, ◌+◌, ◌≤◌, List, IsSome, length, refl, sym, subst, arith, ⊎_elim}
 use Rattle.std.proofs.lemmas.Bool.{cases_lt}
 use Rattle.std.proofs.lemmas.Option.{slice_get_read}
-use Rattle.domain_base.specs.declared.place.Home.{Home}
-use Rattle.page_store.specs.Pages.{Pages}
-use Rattle.domain_layout.specs.Reached.{Frame}
-use Rattle.file_runs.specs.Runs.{home_in}
-use Rattle.file_runs.specs.declared.run.FileRun.{FileRun}
+use Rattle.domain_faults.specs.domain_base.declared.place.Home.{Home}
+use Rattle.domain_faults.specs.page_store.Pages.{Pages}
+use Rattle.domain_faults.specs.domain_layout.Reached.{Frame}
+use Rattle.domain_faults.specs.cell_chains.Runs.{home_in}
+use Rattle.domain_faults.specs.cell_chains.declared.run.FileRun.{FileRun}
 use Rattle.image_loading.proofs.Listed.{HoldBelow, hold_all}
 use Rattle.domain_bringing.specs.Files.{HasPagesBelow, HasPagesOf, HasPagesOfAll, IsThereWithin}
 

@@ -1,28 +1,28 @@
 -- The pages of a domain as they are brought from a rack.
 use Rattle.std.specs.Prelude.{◌≡◌, ◌+◌, ◌/◌, ◌<◌, ◌≤◌, ℕ, List, Some, IsSome}
-use Rattle.domain_base.specs.Version.{most_pages}
-use Rattle.domain_base.specs.declared.place.Home.{Home}
-use Rattle.page_store.specs.Pages.{Pages}
-use Rattle.page_change.specs.Images.{image_at}
-use Rattle.page_change.specs.declared.image.PageImage.{PageImage}
-use Rattle.volume_disk.specs.Image.{Image}
-use Rattle.log_ring.specs.Groups.{Group, redone}
-use Rattle.log_ring.specs.Homes.{IsMember, member_of}
-use Rattle.log_recovery.specs.Outcome.{HasRecovered, IsSound}
-use Rattle.log_recovery.specs.Range.{IsLogInside}
-use Rattle.log_recovery.specs.declared.redone.Redone.{Redone}
-use Rattle.fileset_model.specs.Filesets.{FilesetMap}
-use Rattle.domain_layout.specs.Faults.{HasNoFault}
-use Rattle.domain_layout.specs.Layout.{IsLayout, Layout}
-use Rattle.domain_layout.specs.Owners.{frame_of}
-use Rattle.domain_layout.specs.Reached.{Frame}
-use Rattle.domain_layout.specs.Read.{ReadsFrom}
+use Rattle.domain_faults.specs.domain_base.Version.{most_pages}
+use Rattle.domain_faults.specs.domain_base.declared.place.Home.{Home}
+use Rattle.domain_faults.specs.page_store.Pages.{Pages}
+use Rattle.domain_faults.specs.log_ring.Images.{image_at}
+use Rattle.domain_faults.specs.log_ring.declared.image.PageImage.{PageImage}
+use Rattle.domain_faults.specs.volume_disk.Image.{Image}
+use Rattle.domain_faults.specs.log_ring.Groups.{Group, redone}
+use Rattle.domain_faults.specs.log_ring.Homes.{IsMember, member_of}
+use Rattle.domain_faults.specs.log_recovery.Outcome.{HasRecovered, IsSound}
+use Rattle.domain_faults.specs.log_recovery.Range.{IsLogInside}
+use Rattle.domain_faults.specs.log_recovery.declared.redone.Redone.{Redone}
+use Rattle.domain_faults.specs.fileset_model.Filesets.{FilesetMap}
+use Rattle.domain_faults.specs.domain_layout.Faults.{HasNoFault}
+use Rattle.domain_faults.specs.domain_layout.Layout.{IsLayout, Layout}
+use Rattle.domain_faults.specs.domain_layout.Owners.{frame_of}
+use Rattle.domain_faults.specs.domain_layout.Reached.{Frame}
+use Rattle.domain_faults.specs.domain_layout.Read.{ReadsFrom}
 use Rattle.staged_pages.specs.Store.{before_of, pages_of}
-use Rattle.page_ways.specs.Frame.{frame_in}
-use Rattle.filesets_reading.specs.Good.{IsNamed}
-use Rattle.shape_laws.specs.Found.{HasAllPages}
-use Rattle.image_loading.specs.Within.{IsInside}
-use Rattle.metadata_loading.specs.Loading.{HasWhereRulesLook}
+use Rattle.domain_faults.specs.page_ways.Frame.{frame_in}
+use Rattle.domain_faults.specs.filesets_reading.Good.{IsNamed}
+use Rattle.domain_faults.specs.fileset_shapes.Found.{HasAllPages}
+use Rattle.domain_faults.specs.fileset_shapes.Within.{IsInside}
+use Rattle.image_loading.specs.Loading.{HasWhereRulesLook}
 use Rattle.domain_bringing.specs.declared.bringing.Brought.{Brought}
 
 -- ** What is in memory

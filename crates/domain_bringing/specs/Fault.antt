@@ -1,18 +1,18 @@
 -- Why the pages of a domain are not brought, and the first place at which a rule of it is broken.
 use Rattle.std.specs.Prelude.{◌≡◌, ◌⊎◌, ℕ, List, ◌∷◌}
-use Rattle.page_store.specs.Pages.{Pages}
-use Rattle.volume_disk.specs.Disk.{Disk, Tells, raised_at}
-use Rattle.volume_disk.specs.Image.{Image}
-use Rattle.log_ring.specs.Groups.{Group}
-use Rattle.log_recovery.specs.Outcome.{HasRecovered, IsFirstFault}
-use Rattle.log_recovery.specs.declared.redone.Redone.{Redone}
-use Rattle.log_recovery.specs.declared.fault.RecoverFault.{RecoverFault}
-use Rattle.log_recovery.specs.declared.fault.RecoverFault.TheVariants as recovery
-use Rattle.domain_layout.specs.Faults.{AreFaults, FaultRow}
-use Rattle.domain_layout.specs.Reached.{Frame}
-use Rattle.metadata_loading.specs.declared.fault.LoadFault.{LoadFault}
-use Rattle.metadata_loading.specs.declared.fault.LoadFault.TheVariants as loading
-use Rattle.filesets_reading.specs.Faulty.{HasFaults}
+use Rattle.domain_faults.specs.page_store.Pages.{Pages}
+use Rattle.domain_faults.specs.volume_disk.Disk.{Disk, Tells, raised_at}
+use Rattle.domain_faults.specs.volume_disk.Image.{Image}
+use Rattle.domain_faults.specs.log_ring.Groups.{Group}
+use Rattle.domain_faults.specs.log_recovery.Outcome.{HasRecovered, IsFirstFault}
+use Rattle.domain_faults.specs.log_recovery.declared.redone.Redone.{Redone}
+use Rattle.domain_faults.specs.log_recovery.declared.fault.RecoverFault.{RecoverFault}
+use Rattle.domain_faults.specs.log_recovery.declared.fault.RecoverFault.TheVariants as recovery
+use Rattle.domain_faults.specs.domain_layout.Faults.{AreFaults, FaultRow}
+use Rattle.domain_faults.specs.domain_layout.Reached.{Frame}
+use Rattle.image_loading.specs.declared.fault.LoadFault.{LoadFault}
+use Rattle.image_loading.specs.declared.fault.LoadFault.TheVariants as loading
+use Rattle.domain_faults.specs.filesets_reading.Faulty.{HasFaults}
 use Rattle.domain_bringing.specs.declared.fault.BringFault.{BringFault}
 use Rattle.domain_bringing.specs.declared.fault.BringFault.TheVariants.{Fault, NotADomain, OutOfMemory}
 

@@ -1,10 +1,10 @@
 -- Pages of files that are there.
 use Rattle.std.specs.Prelude.{◌<◌, ℕ, List, IsSome, Contains}
-use Rattle.domain_base.specs.declared.place.Home.{Home}
-use Rattle.page_store.specs.Pages.{Pages}
-use Rattle.domain_layout.specs.Reached.{Frame, IsWithin}
-use Rattle.file_runs.specs.Runs.{IsPageOf, home_in}
-use Rattle.file_runs.specs.declared.run.FileRun.{FileRun}
+use Rattle.domain_faults.specs.domain_base.declared.place.Home.{Home}
+use Rattle.domain_faults.specs.page_store.Pages.{Pages}
+use Rattle.domain_faults.specs.domain_layout.Reached.{Frame, IsWithin}
+use Rattle.domain_faults.specs.cell_chains.Runs.{IsPageOf, home_in}
+use Rattle.domain_faults.specs.cell_chains.declared.run.FileRun.{FileRun}
 
 -- a page is there, where it is one of a member
 abbrev pub IsThereWithin : Pages → Frame → Home → Type 0

@@ -2,6 +2,5 @@ pub mod Range
 pub mod Fault
 pub mod Files
 pub mod Brought
-pub use Rattle.metadata_loading.specs.Loading
-pub use Rattle.metadata_loading.specs.Looks
-pub use Rattle.filesets_reading.specs.Faulty
+pub use Rattle.domain_faults.specs as domain_faults
+pub use Rattle.image_loading.specs as image_loading

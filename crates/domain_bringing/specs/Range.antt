@@ -1,9 +1,9 @@
 -- What an anchor says lies within the members.
 use Rattle.std.specs.Prelude.{ℕ, ◌+◌, ◌<◌, ◌≤◌, IsSomeAnd}
-use Rattle.domain_base.specs.Version.{bitmap_pages, most_pages}
-use Rattle.log_recovery.specs.Range.{IsLogInside}
-use Rattle.log_ring.specs.Homes.{IsMember, member_of}
-use Rattle.domain_layout.specs.Reached.{Frame, IsWithin}
+use Rattle.domain_faults.specs.domain_base.Version.{bitmap_pages, most_pages}
+use Rattle.domain_faults.specs.log_recovery.Range.{IsLogInside}
+use Rattle.domain_faults.specs.log_ring.Homes.{IsMember, member_of}
+use Rattle.domain_faults.specs.domain_layout.Reached.{Frame, IsWithin}
 
 -- a member has no more pages than the version allows, and its bitmap within these
 pub record IsSized (frame : Frame) (vol : ℕ) : Type 0 where

@@ -1,19 +1,19 @@
-//! All pages of a domain, from the volumes of a rack.
+//! Bringing all pages of a domain from the volumes of a rack.
 ghost use Rattle.std.specs.Prelude.{◌≡◌, [], List, ℕ, IfErr, IfOk, IsOk, OnOk};
-ghost use Rattle.disk_label.specs.Anchor.{IsWhole};
-ghost use Rattle.disk_label.specs.FirstPages.{anchors_page};
-ghost use Rattle.domain_layout.specs.Faults.{HasNoFault};
-ghost use Rattle.log_recovery.specs.Outcome.{HasRecovered, IsSound};
-ghost use Rattle.log_ring.specs.Groups.{Group};
-ghost use Rattle.log_ring.specs.Homes.{HasMembers};
-ghost use Rattle.metadata_loading.specs.Loading.{Brings, HasWhereRulesLook};
-ghost use Rattle.page_store.specs.Pages.{no_pages};
-ghost use Rattle.page_ways.specs.Frame.{frame_in};
-ghost use Rattle.filesets_reading.specs.Good.{IsNamed};
+ghost use Rattle.domain_faults.specs.disk_label.Anchor.{IsWhole};
+ghost use Rattle.domain_faults.specs.disk_label.FirstPages.{anchors_page};
+ghost use Rattle.domain_faults.specs.domain_layout.Faults.{HasNoFault};
+ghost use Rattle.domain_faults.specs.log_recovery.Outcome.{HasRecovered, IsSound};
+ghost use Rattle.domain_faults.specs.log_ring.Groups.{Group};
+ghost use Rattle.domain_faults.specs.log_ring.Homes.{HasMembers};
+ghost use Rattle.image_loading.specs.Loading.{Brings, HasWhereRulesLook};
+ghost use Rattle.domain_faults.specs.page_store.Pages.{no_pages};
+ghost use Rattle.domain_faults.specs.page_ways.Frame.{frame_in};
+ghost use Rattle.domain_faults.specs.filesets_reading.Good.{IsNamed};
 ghost use Rattle.staged_pages.specs.Store.{before_of, pages_of};
-ghost use Rattle.volume_disk.specs.Disk.{Disk, Tells};
-ghost use Rattle.volume_disk.specs.Image.{Image};
-ghost use Rattle.volume_disk.specs.Run.{OnlyReads};
+ghost use Rattle.domain_faults.specs.volume_disk.Disk.{Disk, Tells};
+ghost use Rattle.domain_faults.specs.volume_disk.Image.{Image};
+ghost use Rattle.domain_faults.specs.volume_disk.Run.{OnlyReads};
 ghost use Rattle.domain_bringing.specs.Brought.{HasDomainPages, IsBrought, IsBroughtFrom, IsGoodFrame, IsWholeDomain, images_alone};
 ghost use Rattle.domain_faults.specs.Rows.{rows_there};
 ghost use Rattle.domain_bringing.specs.Fault.{BeginsAt, HasCause, HasFirstRow, IfNotADomain, IsNoDomain, IsWrongOn};
@@ -23,19 +23,15 @@ use crate::BringFault;
 use crate::files::load_files;
 use crate::images::lay_images;
 use crate::range::is_in_range;
-use disk_label::ANCHORS_PAGE;
-use domain_base::{OutOfMemory, Version};
-use domain_faults::{FaultRow, faults};
-use filesets_filled::read_filesets;
+use domain_faults::{
+    ANCHORS_PAGE, DomainFrame, FaultRow, MetaPages, OutOfMemory, Rack, Redone, Version, faults,
+    read_filesets, recover,
+};
 use image_loading::load;
-use log_recovery::{Redone, recover};
-use page_store::MetaPages;
-use page_ways::DomainFrame;
 use staged_pages::StagedPages;
 use std::alloc::Global;
-use volume_disk::Rack;
 
-/// The volume at which an anchor stands that is wrong.
+/// The volume that is named if an anchor is wrong.
 const FIRST_VOLUME: u32 = 1;
 
 /// The pages of a domain that are brought from a rack, its anchor, and what was recovered of its
@@ -47,7 +43,7 @@ pub struct Brought {
     pub redone: Redone,
 }
 
-/// There is no domain, since its anchor is wrong.
+/// The fault of a rack without a domain, since its anchor is wrong.
 fn bad_anchor() -> BringFault
     ensures { result ≡ NotADomain 1 anchors_page }
 {
@@ -57,8 +53,8 @@ fn bad_anchor() -> BringFault
     }
 }
 
-/// The anchor that was recovered, with its version. There is no domain where what it says does not
-/// lie within the members: it does in what is recovered of an image.
+/// The anchor that was recovered, with its version. If what it says does not lie within the
+/// members, there is no domain. In what is recovered from an image, it does.
 fn frame_of(redone: &Redone) -> Result<DomainFrame, BringFault>
     requires { IsWhole redone.now.anchor }
     ensures good { IfOk result (λ frame. IsGoodFrame (frame_in frame)) }
@@ -80,7 +76,7 @@ fn frame_of(redone: &Redone) -> Result<DomainFrame, BringFault>
     }
 }
 
-/// Refuses pages that break a rule: there is no domain where the first row of faults is.
+/// Refuses pages that break a rule: no domain, at the place of the first row of faults.
 fn look_at_rows(rows: &[FaultRow]) -> Result<(), BringFault>
     ensures none { OnOk result (rows_there rows.now ≡ []) }
     ensures first { IfErr result (λ fault. IfNotADomain fault (BeginsAt (rows_there rows.now))) }
@@ -95,7 +91,7 @@ fn look_at_rows(rows: &[FaultRow]) -> Result<(), BringFault>
     }
 }
 
-/// The same of all faults of pages.
+/// Looks for all faults of pages, and refuses them at the first.
 fn look_for_faults<M: MetaPages>(
     alloc: Global,
     pages: &M,
@@ -111,7 +107,8 @@ fn look_for_faults<M: MetaPages>(
     look_at_rows(&rows)
 }
 
-/// Brings the pages at which the rules look, where no page is there: behind the images of the log.
+/// Lays the images of the log, and then brings the pages at which the rules look. No page is there
+/// before.
 fn bring_tables<R: Rack, M: MetaPages>(
     alloc: Global,
     rack: &mut R,
@@ -136,7 +133,8 @@ fn bring_tables<R: Rack, M: MetaPages>(
     Ok(())
 }
 
-/// The same, and looks for faults of them.
+/// Lays the images of the log, brings the pages at which the rules look, and looks for their
+/// faults.
 fn bring_good_tables<R: Rack, M: MetaPages>(
     alloc: Global,
     rack: &mut R,
@@ -165,7 +163,8 @@ fn bring_good_tables<R: Rack, M: MetaPages>(
     look_for_faults(alloc, pages, frame)
 }
 
-/// Brings all pages of a domain, where no page is there. After an error some may have been brought.
+/// Brings all pages of a domain. No page is there before. After an error some may have been
+/// brought.
 fn bring_pages<R: Rack, M: MetaPages>(
     alloc: Global,
     rack: &mut R,
@@ -194,7 +193,7 @@ fn bring_pages<R: Rack, M: MetaPages>(
     Ok(())
 }
 
-/// Reads the filesets that whole pages have, so that there are some.
+/// Reads the filesets that the pages have, to make sure that they have some.
 fn look_at_filesets(
     alloc: Global,
     pages: &StagedPages,
@@ -272,12 +271,12 @@ fn bring_recovered<R: Rack>(
 
 /// Brings the pages of a domain from a rack: recovers its log, lays the images of that over no
 /// pages, brings each page at which the rules look and looks for faults, and brings the pages of
-/// files. It writes nothing. All that is answered says is true of the domain that the rack has, once
+/// files. It writes nothing. All that the result says is true of the domain that the rack has, once
 /// its log is redone.
 ///
-/// `NotADomain` comes with the first place at which a rule of a domain is broken: its label, its
-/// anchors and its log come first, as `recover` has them, and then its pages in the order of the
-/// list of faults. `Fault` comes where a read of that volume failed.
+/// Returns `NotADomain` with the first place at which a rule of a domain is broken: label, anchors
+/// and log come first, in the order of `recover`, and then the pages in the order of the list of
+/// faults. Returns `Fault` only if a read of that volume failed.
 pub fn bring_domain<R: Rack>(alloc: Global, rack: &mut R) -> Result<Brought, BringFault>
     ensures reads { OnlyReads (R.disk rack.old) (R.disk rack.new) }
     ensures brought { IfOk result (IsBrought (R.disk rack.old).sizes) }

@@ -3,9 +3,8 @@ ghost use Rattle.std.specs.Prelude.{◌≡◌};
 ghost use Rattle.domain_bringing.specs.declared.fault.BringFault.TheVariants.{OutOfMemory};
 ghost use Rattle.domain_bringing.specs.Fault.{same_fault, same_recovery};
 
-use domain_base::{OutOfMemory as NoMemory, VolIx};
-use log_recovery::RecoverFault;
-use metadata_loading::LoadFault;
+use domain_faults::{OutOfMemory as NoMemory, RecoverFault, VolIx};
+use image_loading::LoadFault;
 use std::error::Error;
 use std::fmt;
 
@@ -16,7 +15,7 @@ pub enum BringFault {
     NotADomain { vol: u32, at: u32 },
     /// A read of this volume failed.
     Fault { vol: VolIx },
-    /// No memory could be had.
+    /// Memory ran out.
     OutOfMemory,
 }
 

@@ -1,28 +1,25 @@
-//! The pages of files.
+//! Bringing the pages of files.
 ghost use Rattle.std.specs.Prelude.{◌≡◌, ◌+◌, ◌<◌, ◌≤◌, ◌^◌, IfOk, OnOk, Some};
-ghost use Rattle.domain_layout.specs.Faults.{HasNoFault, HasNoTablesFault};
-ghost use Rattle.file_runs.specs.Runs.{home_in};
-ghost use Rattle.filesets_reading.specs.Good.{IsNamed};
-ghost use Rattle.log_ring.specs.Homes.{HasMembers};
-ghost use Rattle.metadata_loading.specs.Loading.{Brings, HasWhereRulesLook, NamesCause};
-ghost use Rattle.image_loading.specs.Files.{AreFilePages};
-ghost use Rattle.page_ways.specs.Frame.{frame_in};
+ghost use Rattle.domain_faults.specs.domain_layout.Faults.{HasNoFault, HasNoTablesFault};
+ghost use Rattle.domain_faults.specs.cell_chains.Runs.{home_in};
+ghost use Rattle.domain_faults.specs.filesets_reading.Good.{IsNamed};
+ghost use Rattle.domain_faults.specs.log_ring.Homes.{HasMembers};
+ghost use Rattle.image_loading.specs.Loading.{Brings, HasWhereRulesLook, NamesCause};
+ghost use Rattle.domain_faults.specs.page_faults.Files.{AreFilePages};
+ghost use Rattle.domain_faults.specs.page_ways.Frame.{frame_in};
 ghost use Rattle.domain_bringing.specs.Brought.{HasDomainPages, IsLaidOut};
 ghost use Rattle.domain_bringing.specs.Files.{HasPagesOf, HasPagesOfAll, IsThereWithin};
 
-use cell_faults::read_tables as read_cells;
-use chain_faults::read_links;
-use domain_base::{Home, OutOfMemory, VolIx};
-use file_runs::{FileRun, read_runs};
-use filesets_reading::read_tables;
-use metadata_loading::{LoadFault, fetch_within};
-use page_store::MetaPages;
-use page_ways::DomainFrame;
+use domain_faults::from_filesets_reading::read_tables;
+use domain_faults::{
+    DomainFrame, FileRun, Home, MetaPages, OutOfMemory, Rack, VolIx, read_links, read_runs,
+    read_tables as read_cells,
+};
+use image_loading::{LoadFault, fetch_within};
 use std::alloc::Global;
-use volume_disk::Rack;
 
-/// The home of the page of a run that is so many behind its first one. None where its volume's
-/// number, or its own, is one that there may not be.
+/// The home of the page of a run that is `number` pages after the first one. None if the number of
+/// its volume, or its own, is not allowed.
 fn home_behind(run: &FileRun, number: u32) -> Option<Home>
     ensures { 1 ≤ run.now.row.vol → run.now.row.vol ≤ 8 → run.now.row.first + number < 2 ^ 32
         → result ≡ Some (home_in run.now (run.now.row.page + number)) }
@@ -33,8 +30,8 @@ fn home_behind(run: &FileRun, number: u32) -> Option<Home>
     })
 }
 
-/// Brings that page of a run, where it is one of a member.
-#[tactic(auto, using(metadata_loading::proofs::Brought::brings_none))]
+/// Brings that page of a run, if it is a member's.
+#[tactic(auto, using(image_loading::proofs::Brought::brings_none))]
 fn load_page<R: Rack, M: MetaPages>(
     alloc: Global,
     rack: &mut R,
@@ -119,7 +116,7 @@ fn runs_of<M: MetaPages>(
     Ok(runs)
 }
 
-/// Brings each page of a member that a cell in use says to be one of a file, where no rule is broken
+/// Brings each page of a member that is a file's according to a cell in use, if no rule is broken
 /// and each page at which the rules look is there. After an error some of the pages may have been
 /// brought.
 pub(crate) fn load_files<R: Rack, M: MetaPages>(

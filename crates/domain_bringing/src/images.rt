@@ -1,12 +1,10 @@
-//! The images of a log, laid over pages.
+//! Laying the images of a log over pages.
 ghost use Rattle.std.specs.Prelude.{◌≡◌, OnOk};
-ghost use Rattle.domain_base.specs.declared.place.Home.{Home};
-ghost use Rattle.page_change.specs.Images.{overlaid};
-ghost use Rattle.page_store.specs.Pages.{with_page};
+ghost use Rattle.domain_faults.specs.domain_base.declared.place.Home.{Home};
+ghost use Rattle.domain_faults.specs.log_ring.Images.{overlaid};
+ghost use Rattle.domain_faults.specs.page_store.Pages.{with_page};
 
-use domain_base::OutOfMemory;
-use page_change::PageImage;
-use page_store::MetaPages;
+use domain_faults::{MetaPages, OutOfMemory, PageImage};
 use std::alloc::Global;
 
 /// Puts the page of an image at its home.
@@ -25,8 +23,8 @@ fn lay_image<M: MetaPages>(
     Ok(())
 }
 
-/// Puts the pages of images at their homes, in their order: of those of one home the last stands
-/// there then. After an error some are put.
+/// Puts the pages of images at their homes, in their order, so the last image for a home is the one
+/// that stands there. After an error some have been put there.
 pub(crate) fn lay_images<M: MetaPages>(
     alloc: Global,
     images: &[PageImage],

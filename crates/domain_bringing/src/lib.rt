@@ -1,5 +1,5 @@
 //! The pages of a domain, brought from the volumes of a rack into memory: those to which its tables
-//! lead, and those of its files; or the first rule that is broken.
+//! lead, and those of its files. If a rule is broken, the first one is told instead.
 #![tactic(auto)]
 
 mod bringing;
@@ -12,3 +12,7 @@ mod range;
 pub use bringing::{Brought, bring_domain};
 pub use fault::BringFault;
 pub use laws::{bitmaps_are_brought, brought_pages_mean};
+
+// What stands below and is named above.
+pub use domain_faults::{FaultRow, Meaning, faults, read_image};
+pub use image_loading::load;

@@ -1,15 +1,14 @@
 //! Whether what an anchor says lies within the members.
 ghost use Rattle.std.specs.Prelude.{◌≡◌, ◌↔◌, IsTrue};
-ghost use Rattle.disk_label.specs.Anchor.{IsWhole};
-ghost use Rattle.log_recovery.specs.Range.{IsLogInside};
-ghost use Rattle.page_ways.specs.Frame.{frame_in};
+ghost use Rattle.domain_faults.specs.disk_label.Anchor.{IsWhole};
+ghost use Rattle.domain_faults.specs.log_recovery.Range.{IsLogInside};
+ghost use Rattle.domain_faults.specs.page_ways.Frame.{frame_in};
 ghost use Rattle.domain_bringing.specs.Range.{AreSizedBelow, IsInRange, IsSized, IsTableWithin};
 
-use domain_base::VolIx;
-use domain_base::limits::{LOG_PAGES, MAX_VOLUMES};
-use page_ways::DomainFrame;
+use domain_faults::limits::{LOG_PAGES, MAX_VOLUMES};
+use domain_faults::{DomainFrame, VolIx};
 
-/// The pages in front of a volume's bitmap.
+/// The pages before a volume's bitmap.
 const FIRST_BITMAP_PAGE: u32 = 2;
 
 /// Whether a volume, if it is a member, has no more pages than its version allows, and its bitmap
@@ -25,7 +24,8 @@ fn is_sized(frame: &DomainFrame, vol: VolIx) -> bool
     pages <= version.max_volume_pages() && FIRST_BITMAP_PAGE + version.bitmap_pages(pages) <= pages
 }
 
-/// Whether all volumes are.
+/// Whether all volumes that are members have no more pages than their version allows, and their
+/// bitmaps within these.
 fn are_sized(frame: &DomainFrame) -> bool
     ensures { IsTrue result ↔ AreSizedBelow 9 (frame_in frame.now) }
 {
@@ -40,7 +40,7 @@ fn are_sized(frame: &DomainFrame) -> bool
     true
 }
 
-/// Whether the log lies on its volume behind the bitmap.
+/// Whether the log lies on its volume after the bitmap.
 fn is_log_inside(frame: &DomainFrame, vol: VolIx) -> bool
     requires { vol ≡ frame.now.anchor.log_vol }
     ensures { IsTrue result ↔ IsLogInside frame.now.version frame.now.anchor }

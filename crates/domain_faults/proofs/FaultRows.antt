@@ -3,18 +3,18 @@ use Rattle.std.proofs.Common.{◌≡◌, ◌∙◌, ◌⊎◌, ◌↔◌, inl, i
 use Rattle.std.proofs.lemmas.Bool.{cases_order, ne_eqb}
 use Rattle.std.proofs.lemmas.List.Elements.{Contains-append_left}
 use Rattle.std.specs.List.{AllByRecursion}
-use Rattle.domain_base.specs.declared.place.Home.{Home}
-use Rattle.domain_layout.specs.Faults.{AreInOrder, FaultRow, IsBefore}
-use Rattle.home_sets.specs.Members.{IsIn, entries}
-use Rattle.home_sets.specs.Order.{AreNumbered}
-use Rattle.home_sets.specs.declared.set.HomeSet.{HomeSet}
-use Rattle.home_sets.proofs.Placed.{placed}
-use Rattle.numbered_values.specs.Homes.{number_of}
-use Rattle.numbered_values.specs.Rising.{IsRising, value_at}
-use Rattle.numbered_values.proofs.Search.{value-present}
+use Rattle.slot_files.specs.domain_base.declared.place.Home.{Home}
+use Rattle.slot_files.specs.domain_layout.Faults.{AreInOrder, FaultRow, IsBefore}
+use Rattle.slot_files.specs.sorted_sets.Members.{IsIn, entries}
+use Rattle.slot_files.specs.sorted_sets.Order.{AreNumbered}
+use Rattle.slot_files.specs.sorted_sets.declared.home_set.HomeSet.{HomeSet}
+use Rattle.slot_files.proofs.OfSortedSets.Placed.{placed}
+use Rattle.slot_files.specs.sorted_sets.Homes.{number_of}
+use Rattle.slot_files.specs.sorted_sets.Rising.{IsRising, value_at}
+use Rattle.slot_files.proofs.OfSortedSets.Search.{value-present}
 use Rattle.domain_faults.specs.Rows.{AreRowsOf, row_of, row_there, rows_of, rows_there}
 use Rattle.domain_faults.specs.declared.rows.FaultRow.{FaultRow as Told}
-use Rattle.filesets_reading.proofs.Ways.{map_pushed}
+use Rattle.slot_files.proofs.OfFilesetsReading.Ways.{map_pushed}
 use Rattle.slot_files.proofs.Listed.{taken}
 
 -- a home with its number

@@ -2,13 +2,13 @@
 use Rattle.std.proofs.Common.{◌≡◌, ◌⊎◌, ◌↔◌, inl, inr, ℕ, ◌+◌, ◌<◌, ◌≤◌, length, subst, arith, ⊎_elim}
 use Rattle.std.proofs.lemmas.Bool.{cases_lt}
 use Rattle.std.proofs.lemmas.Option.{slice_get_within}
-use Rattle.domain_base.specs.declared.place.Home.{Home}
-use Rattle.page_store.specs.Pages.{Pages}
-use Rattle.fileset_table.specs.Table.{IsTable, Table}
-use Rattle.domain_layout.specs.DirectoryRules.{IsDirectoryFault}
-use Rattle.domain_layout.specs.Reached.{Frame}
-use Rattle.tree_faults.specs.Slot.{HasDirectoryFault}
-use Rattle.tree_faults.proofs.SlotFaults.{by_slot}
+use Rattle.slot_files.specs.domain_base.declared.place.Home.{Home}
+use Rattle.slot_files.specs.page_store.Pages.{Pages}
+use Rattle.slot_files.specs.fileset_table.Table.{IsTable, Table}
+use Rattle.slot_files.specs.domain_layout.DirectoryRules.{IsDirectoryFault}
+use Rattle.slot_files.specs.domain_layout.Reached.{Frame}
+use Rattle.slot_files.specs.directory_faults.Slot.{HasDirectoryFault}
+use Rattle.slot_files.proofs.OfDirectoryFaults.SlotFaults.{by_slot}
 
 -- ---- slot after slot
 

@@ -2,13 +2,13 @@
 use Rattle.std.proofs.Common.{◌≡◌, ◌⊎◌, ◌↔◌, inl, inr, ℕ, ◌+◌, ◌<◌, ◌≤◌, length, subst, arith, ⊎_elim}
 use Rattle.std.proofs.lemmas.Bool.{cases_lt}
 use Rattle.std.proofs.lemmas.Option.{slice_get_within}
-use Rattle.domain_base.specs.declared.place.Home.{Home}
-use Rattle.page_store.specs.Pages.{Pages}
-use Rattle.fileset_table.specs.Table.{IsTable, Table}
-use Rattle.domain_layout.specs.DirectoryRules.{IsIndexFault, IsWrongIndexPage}
-use Rattle.domain_layout.specs.Reached.{Frame}
-use Rattle.index_row_faults.specs.Wrong.{HasWrongIndex}
-use Rattle.index_row_faults.proofs.IndexSlots.{by_slot}
+use Rattle.slot_files.specs.domain_base.declared.place.Home.{Home}
+use Rattle.slot_files.specs.page_store.Pages.{Pages}
+use Rattle.slot_files.specs.fileset_table.Table.{IsTable, Table}
+use Rattle.slot_files.specs.domain_layout.DirectoryRules.{IsIndexFault, IsWrongIndexPage}
+use Rattle.slot_files.specs.domain_layout.Reached.{Frame}
+use Rattle.slot_files.specs.index_row_faults.Wrong.{HasWrongIndex}
+use Rattle.slot_files.proofs.OfIndexRowFaults.IndexSlots.{by_slot}
 
 module _ (pages : Pages) (frame : Frame) (table : Table) where
   -- what is asked of every index is broken, or an index of a slot in front of a number is wrong

@@ -2,3 +2,13 @@ pub mod FaultRows
 pub mod FoundFaults
 pub mod FoundIndexes
 pub mod ToldFaults
+pub mod Meanings
+pub mod OneMeaning
+pub mod ReadPages
+pub mod OfDomainLayout
+pub mod OfExtentMaps
+pub mod OfFilesetShapes
+pub mod OfLogRecovery
+pub mod OfLogRing
+pub mod OfPageFaults
+pub mod OfVolumeDisk

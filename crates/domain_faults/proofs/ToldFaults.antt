@@ -1,30 +1,30 @@
 -- The rows of the rules are those of the list.
 use Rattle.std.proofs.Common.{◌≡◌, ◌∙◌, ◌⊎◌, ◌↔◌, inl, inr, ℕ, List, [], ◌∷◌, Contains, Option, Some, None, IsSome, IsSomeAnd, refl, sym, ap, subst, arith, ⊎_elim}
-use Rattle.domain_base.specs.Version.{number_of as version_number}
-use Rattle.domain_base.specs.declared.place.Home.{Home}
-use Rattle.domain_base.specs.declared.version.Version.{Version}
-use Rattle.domain_base.specs.declared.version.Version.TheVariants.{Four, Three}
-use Rattle.page_store.specs.Pages.{Pages}
-use Rattle.fileset_table.specs.Page.{IsTablePage}
-use Rattle.fileset_table.specs.Table.{Table}
-use Rattle.fileset_table.proofs.Unique.{table_unique}
-use Rattle.domain_layout.specs.CellRules.{IsCellsFault}
-use Rattle.domain_layout.specs.DirectoryRules.{IsDirectoryFault, IsIndexFault}
-use Rattle.domain_layout.specs.Faults.{AreFaults, FaultRow, HasNoFault, HasNoTablesFault, IsFault, IsFilesFault, IsTableFault, IsTablesFault, SaysTable}
-use Rattle.domain_layout.specs.Layout.{IsLayout, Layout}
-use Rattle.domain_layout.specs.Owners.{frame_of}
-use Rattle.domain_layout.specs.PageRules.{IsBitmapFault, IsExtentFault}
-use Rattle.domain_layout.specs.Reached.{Frame}
-use Rattle.domain_layout.specs.TagRules.{IsTagsFault}
-use Rattle.layout_laws.proofs.OnePage.{one_of, some_same}
-use Rattle.layout_laws.proofs.OwnedOnce.{no_cells}
-use Rattle.filesets_reading.specs.Tables.{AreTablesOf}
-use Rattle.filesets_reading.specs.declared.tables.DomainTables.{DomainTables}
-use Rattle.home_sets.specs.Members.{IsIn}
-use Rattle.home_sets.specs.declared.set.HomeSet.{HomeSet}
-use Rattle.page_faults.specs.Files.{AreGoodCells, HasWrongBit, HasWrongPage}
-use Rattle.page_faults.proofs.ByLayout.{bits_by_layout, pages_by_layout}
-use Rattle.table_faults.specs.Read.{IsWholeTable}
+use Rattle.slot_files.specs.domain_base.Version.{number_of as version_number}
+use Rattle.slot_files.specs.domain_base.declared.place.Home.{Home}
+use Rattle.slot_files.specs.domain_base.declared.version.Version.{Version}
+use Rattle.slot_files.specs.domain_base.declared.version.Version.TheVariants.{Four, Three}
+use Rattle.slot_files.specs.page_store.Pages.{Pages}
+use Rattle.slot_files.specs.fileset_table.Page.{IsTablePage}
+use Rattle.slot_files.specs.fileset_table.Table.{Table}
+use Rattle.slot_files.proofs.OfFilesetTable.Unique.{table_unique}
+use Rattle.slot_files.specs.domain_layout.CellRules.{IsCellsFault}
+use Rattle.slot_files.specs.domain_layout.DirectoryRules.{IsDirectoryFault, IsIndexFault}
+use Rattle.slot_files.specs.domain_layout.Faults.{AreFaults, FaultRow, HasNoFault, HasNoTablesFault, IsFault, IsFilesFault, IsTableFault, IsTablesFault, SaysTable}
+use Rattle.slot_files.specs.domain_layout.Layout.{IsLayout, Layout}
+use Rattle.slot_files.specs.domain_layout.Owners.{frame_of}
+use Rattle.slot_files.specs.domain_layout.PageRules.{IsBitmapFault, IsExtentFault}
+use Rattle.slot_files.specs.domain_layout.Reached.{Frame}
+use Rattle.slot_files.specs.domain_layout.TagRules.{IsTagsFault}
+use Rattle.slot_files.proofs.OfDomainLayout.OnePage.{one_of, some_same}
+use Rattle.slot_files.proofs.OfDomainLayout.OwnedOnce.{no_cells}
+use Rattle.slot_files.specs.filesets_reading.Tables.{AreTablesOf}
+use Rattle.slot_files.specs.filesets_reading.declared.tables.DomainTables.{DomainTables}
+use Rattle.slot_files.specs.sorted_sets.Members.{IsIn}
+use Rattle.slot_files.specs.sorted_sets.declared.home_set.HomeSet.{HomeSet}
+use Rattle.slot_files.specs.page_faults.Files.{AreGoodCells, HasWrongBit, HasWrongPage}
+use Rattle.slot_files.proofs.OfPageFaults.ByLayout.{bits_by_layout, pages_by_layout}
+use Rattle.slot_files.specs.cell_faults.Read.{IsWholeTable}
 use Rattle.domain_faults.specs.Rows.{AreRowsOf}
 use Rattle.domain_faults.proofs.FaultRows.{IsNoRow, IsRowIn, empty_by, in_none, rows_alone, rows_none, rows_same}
 

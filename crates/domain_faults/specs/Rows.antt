@@ -1,7 +1,7 @@
 -- Rows of the list of faults, as the program has them.
 use Rattle.std.specs.Prelude.{◌↔◌, ℕ, List, map, Contains}
-use Rattle.domain_base.specs.declared.place.Home.{Home}
-use Rattle.domain_layout.specs.Faults.{AreInOrder, FaultRow}
+use Rattle.slot_files.specs.domain_base.declared.place.Home.{Home}
+use Rattle.slot_files.specs.domain_layout.Faults.{AreInOrder, FaultRow}
 use Rattle.domain_faults.specs.declared.rows.FaultRow.{FaultRow as Told}
 use Rattle.domain_faults.specs.declared.rows.Rule.{Rule}
 use Rattle.domain_faults.specs.declared.rows.Rule.TheVariants.{Table, Cells, Tags, Extents, Bitmaps, Directories, Indexes}

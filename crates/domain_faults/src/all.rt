@@ -1,23 +1,20 @@
-//! The whole list.
+//! The whole list of faults.
 ghost use Rattle.std.specs.Prelude.{◌≡◌, ◌↔◌, ◌∷◌, [], IfOk, IsTrue};
-ghost use Rattle.domain_base.specs.Version.{number_of};
-ghost use Rattle.domain_base.specs.declared.version.Version.{Version};
-ghost use Rattle.domain_layout.specs.Faults.{AreFaults, IsFault};
-ghost use Rattle.filesets_reading.specs.Good.{frame_at};
-ghost use Rattle.page_ways.specs.Frame.{frame_in};
-ghost use Rattle.table_faults.specs.Read.{IsWholeTable};
+ghost use Rattle.slot_files.specs.domain_base.Version.{number_of};
+ghost use Rattle.slot_files.specs.domain_base.declared.version.Version.{Version};
+ghost use Rattle.slot_files.specs.domain_layout.Faults.{AreFaults, IsFault};
+ghost use Rattle.slot_files.specs.filesets_reading.Good.{frame_at};
+ghost use Rattle.slot_files.specs.page_ways.Frame.{frame_in};
+ghost use Rattle.slot_files.specs.cell_faults.Read.{IsWholeTable};
 ghost use Rattle.domain_faults.specs.Rows.{AreRowsOf, rows_there};
 
 use crate::files::files_rows;
 use crate::rows::{FaultRow, Rule};
 use crate::tables::tables_rows;
-use disk_label::Anchor;
-use domain_base::{Home, OutOfMemory, Version};
-use fileset_table::FilesetTable;
-use page_store::MetaPages;
-use page_ways::DomainFrame;
+use slot_files::{
+    Anchor, DomainFrame, FilesetTable, Home, MetaPages, OutOfMemory, TableRead, Version, read_table,
+};
 use std::alloc::Global;
-use table_faults::{TableRead, read_table};
 
 /// The row of the page of the fileset table.
 fn table_row(alloc: Global, home: Home) -> Result<Vec<FaultRow>, OutOfMemory>
@@ -41,7 +38,7 @@ fn is_none(rows: &[FaultRow]) -> bool
     rows.is_empty()
 }
 
-/// The faults where the page of the fileset table says this one.
+/// The faults, if the page of the fileset table says this table.
 fn rows_behind<M: MetaPages>(
     alloc: Global,
     pages: &M,
@@ -60,7 +57,7 @@ fn rows_behind<M: MetaPages>(
     files_rows(alloc, pages, frame)
 }
 
-/// The faults of a domain's pages, by an anchor that says this version.
+/// The faults of a domain's pages, for an anchor that says this version.
 fn faults_in<M: MetaPages>(
     alloc: Global,
     pages: &M,
@@ -78,13 +75,13 @@ fn faults_in<M: MetaPages>(
 }
 
 /// The faults of a domain's pages, each once and in the order of their codes, volumes and pages. A
-/// fault of the fileset table stands alone, and those of cells and tags without the ones behind
-/// them.
+/// fault of the fileset table stands alone, and faults of cells and tags stand without those of
+/// later rules.
 ///
-/// The pages are those of the domain once its log is redone, each page of each member: nothing is
-/// told of a page of a bitmap that is not there, and a page of a directory that is not has no rows.
-/// An anchor that says a version other than 3 and 4, or names no fileset table, has no faults here:
-/// `recover` answers none of these.
+/// The pages are those of the domain once its log is redone, each page of each member. Nothing is
+/// told of a page of a bitmap that is not there, and a page of a directory that is not there has no
+/// rows. An anchor that says a version other than 3 and 4, or names no fileset table, has no faults
+/// here: `recover` returns no such anchor.
 pub fn faults<M: MetaPages>(
     alloc: Global,
     pages: &M,

@@ -1,23 +1,19 @@
 //! Rules of directories that are broken in the filesets of a domain.
 ghost use Rattle.std.specs.Prelude.{◌≡◌, ◌⊎◌, ◌↔◌, IfOk, OnOk, slice_get};
-ghost use Rattle.domain_base.specs.declared.place.Home.{Home};
-ghost use Rattle.domain_layout.specs.CellRules.{of_clone};
-ghost use Rattle.domain_layout.specs.DirectoryRules.{IsDirectoryFault};
-ghost use Rattle.domain_layout.specs.Faults.{HasNoTablesFault};
-ghost use Rattle.filesets_reading.specs.Tables.{AreTablesOf};
-ghost use Rattle.home_sets.specs.Members.{IsIn};
-ghost use Rattle.page_ways.specs.Frame.{frame_in};
-ghost use Rattle.tree_faults.specs.Slot.{HasDirectoryFault};
+ghost use Rattle.slot_files.specs.domain_base.declared.place.Home.{Home};
+ghost use Rattle.slot_files.specs.domain_layout.CellRules.{of_clone};
+ghost use Rattle.slot_files.specs.domain_layout.DirectoryRules.{IsDirectoryFault};
+ghost use Rattle.slot_files.specs.domain_layout.Faults.{HasNoTablesFault};
+ghost use Rattle.slot_files.specs.filesets_reading.Tables.{AreTablesOf};
+ghost use Rattle.slot_files.specs.sorted_sets.Members.{IsIn};
+ghost use Rattle.slot_files.specs.page_ways.Frame.{frame_in};
+ghost use Rattle.slot_files.specs.directory_faults.Slot.{HasDirectoryFault};
 
-use domain_base::{FilesetNo, OutOfMemory};
-use fileset_table::{FilesetTable, SlotItem};
-use filesets_reading::DomainTables;
-use home_sets::HomeSet;
-use page_store::MetaPages;
-use page_ways::DomainFrame;
-use slot_files::read_slot_files;
+use slot_files::{
+    DomainFrame, DomainTables, FilesetNo, FilesetTable, HomeSet, MetaPages, OutOfMemory, SlotItem,
+    insert_directory_faults, read_slot_files,
+};
 use std::alloc::Global;
-use tree_faults::insert_directory_faults;
 
 /// Whether a clone is in a slot.
 fn is_clone(table: &FilesetTable, number: FilesetNo) -> bool
@@ -29,7 +25,7 @@ fn is_clone(table: &FilesetTable, number: FilesetNo) -> bool
     }
 }
 
-/// Puts the pages into a set at which the fileset in a slot breaks a rule of directories.
+/// Puts into a set the pages at which the fileset in a slot breaks a rule of directories.
 fn insert_slot_faults<M: MetaPages>(
     alloc: Global,
     pages: &M,
@@ -55,8 +51,8 @@ fn insert_slot_faults<M: MetaPages>(
     )
 }
 
-/// The pages at which a fileset breaks a rule of directories, each once and in order: those with the
-/// code 9 in a list of faults, where no rule of tables is broken.
+/// The pages at which a fileset breaks a rule of directories, each once and in order: those with
+/// the code 9 in a list of faults, if no rule of tables is broken.
 pub(crate) fn directory_faults<M: MetaPages>(
     alloc: Global,
     pages: &M,

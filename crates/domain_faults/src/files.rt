@@ -1,21 +1,18 @@
 //! Rules of files' pages, bitmaps, directories and indexes.
 ghost use Rattle.std.specs.Prelude.{IfOk};
-ghost use Rattle.domain_layout.specs.Faults.{HasNoTablesFault, IsFilesFault};
-ghost use Rattle.filesets_reading.specs.Good.{IsNamed};
-ghost use Rattle.page_ways.specs.Frame.{frame_in};
+ghost use Rattle.slot_files.specs.domain_layout.Faults.{HasNoTablesFault, IsFilesFault};
+ghost use Rattle.slot_files.specs.filesets_reading.Good.{IsNamed};
+ghost use Rattle.slot_files.specs.page_ways.Frame.{frame_in};
 ghost use Rattle.domain_faults.specs.Rows.{AreRowsOf, rows_there};
 
 use crate::directories::directory_faults;
 use crate::indexes::faults_of_indexes;
 use crate::rows::{FaultRow, Rule, push_rows};
-use domain_base::OutOfMemory;
-use filesets_reading::read_tables;
-use page_faults::{bitmap_faults, extent_faults};
-use page_store::MetaPages;
-use page_ways::DomainFrame;
+use slot_files::from_filesets_reading::read_tables;
+use slot_files::{DomainFrame, MetaPages, OutOfMemory, bitmap_faults, extent_faults};
 use std::alloc::Global;
 
-/// The faults of files' pages, bitmaps, directories and indexes, where no rule of tables is broken.
+/// The faults of files' pages, bitmaps, directories and indexes, if no rule of tables is broken.
 pub(crate) fn files_rows<M: MetaPages>(
     alloc: Global,
     pages: &M,

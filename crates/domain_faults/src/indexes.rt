@@ -1,25 +1,20 @@
 //! Rules of indexes that are broken in a domain.
 ghost use Rattle.std.specs.Prelude.{◌⊎◌, ◌↔◌, IfOk, OnOk};
-ghost use Rattle.domain_base.specs.declared.place.Home.{Home};
-ghost use Rattle.domain_layout.specs.DirectoryRules.{IsIndexFault};
-ghost use Rattle.domain_layout.specs.Faults.{HasNoTablesFault};
-ghost use Rattle.filesets_reading.specs.Tables.{AreTablesOf};
-ghost use Rattle.home_sets.specs.Members.{IsIn};
-ghost use Rattle.index_row_faults.specs.Wrong.{HasWrongIndex};
-ghost use Rattle.page_ways.specs.Frame.{frame_in};
+ghost use Rattle.slot_files.specs.domain_base.declared.place.Home.{Home};
+ghost use Rattle.slot_files.specs.domain_layout.DirectoryRules.{IsIndexFault};
+ghost use Rattle.slot_files.specs.domain_layout.Faults.{HasNoTablesFault};
+ghost use Rattle.slot_files.specs.filesets_reading.Tables.{AreTablesOf};
+ghost use Rattle.slot_files.specs.sorted_sets.Members.{IsIn};
+ghost use Rattle.slot_files.specs.index_row_faults.Wrong.{HasWrongIndex};
+ghost use Rattle.slot_files.specs.page_ways.Frame.{frame_in};
 
-use domain_base::{FilesetNo, OutOfMemory};
-use filesets_reading::DomainTables;
-use home_sets::HomeSet;
-use index_faults::index_page_faults;
-use index_row_faults::insert_wrong_indexes;
-use page_store::MetaPages;
-use page_ways::DomainFrame;
-use row_faults::read_rows;
-use slot_files::{read_slot_files, read_slot_indexes};
+use slot_files::{
+    DomainFrame, DomainTables, FilesetNo, HomeSet, MetaPages, OutOfMemory, index_page_faults,
+    insert_wrong_indexes, read_rows, read_slot_files, read_slot_indexes,
+};
 use std::alloc::Global;
 
-/// Puts the pages into a set at which an index of the fileset in a slot is wrong, beside what is
+/// Puts into a set the pages at which an index of the fileset in a slot is wrong, beyond what is
 /// asked of every index.
 fn insert_slot_indexes<M: MetaPages>(
     alloc: Global,
@@ -41,8 +36,8 @@ fn insert_slot_indexes<M: MetaPages>(
     insert_wrong_indexes(alloc, pages, frame, &rows, &indexes, found)
 }
 
-/// The pages at which a rule of indexes is broken, each once and in order: those with the code 10 in
-/// a list of faults, where no rule of tables is broken.
+/// The pages at which a rule of indexes is broken, each once and in order: those with the code 10
+/// in a list of faults, if no rule of tables is broken.
 pub(crate) fn faults_of_indexes<M: MetaPages>(
     alloc: Global,
     pages: &M,

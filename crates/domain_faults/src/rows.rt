@@ -1,34 +1,33 @@
 //! Rows of the list of faults.
 ghost use Rattle.std.specs.Prelude.{◌≡◌, ◌++◌, OnOk};
-ghost use Rattle.home_sets.specs.Members.{entries};
-ghost use Rattle.home_sets.specs.Order.{AreNumbered};
-ghost use Rattle.numbered_values.specs.Rising.{IsRising};
+ghost use Rattle.slot_files.specs.sorted_sets.Members.{entries};
+ghost use Rattle.slot_files.specs.sorted_sets.Order.{AreNumbered};
+ghost use Rattle.slot_files.specs.sorted_sets.Rising.{IsRising};
 ghost use Rattle.domain_faults.specs.Rows.{code_of, rows_of, rows_there};
 
-use domain_base::{Home, OutOfMemory};
-use home_sets::HomeSet;
+use slot_files::{Home, HomeSet, OutOfMemory};
 
 /// What is asked of the pages of a domain, in the order of the list of faults.
 #[derive(Clone, Copy, Debug, PartialEq, Eq)]
 pub enum Rule {
-    /// The page of the fileset table says one.
+    /// The page of the fileset table says a table.
     Table,
     /// Cells and their chains are as they should be.
     Cells,
-    /// Tags are, and what they and the slots of filesets name.
+    /// Tags, and what they and the slots of filesets name, are as they should be.
     Tags,
-    /// Pages of files stand where they may.
+    /// Pages of files stand where they are allowed to.
     Extents,
     /// Bits of bitmaps say which pages belong to something.
     Bitmaps,
     /// Directories are as they should be.
     Directories,
-    /// Indexes are.
+    /// Indexes are as they should be.
     Indexes,
 }
 
 impl Rule {
-    /// Its code in the list of faults.
+    /// The rule's code in the list of faults.
     pub fn code(self) -> u32
         ensures { result ≡ code_of self }
     {
@@ -51,7 +50,7 @@ pub struct FaultRow {
     pub home: Home,
 }
 
-/// Puts a row of a rule for each page of a set behind other rows.
+/// Appends a row of a rule for each page of a set to other rows.
 pub(crate) fn push_rows(
     rule: Rule,
     found: &HomeSet,

@@ -1,19 +1,14 @@
 //! Rules of cells, and of tags and what they name.
 ghost use Rattle.std.specs.Prelude.{IfOk};
-ghost use Rattle.domain_layout.specs.Faults.{IsTablesFault, SaysTable};
-ghost use Rattle.page_ways.specs.Frame.{frame_in};
+ghost use Rattle.slot_files.specs.domain_layout.Faults.{IsTablesFault, SaysTable};
+ghost use Rattle.slot_files.specs.page_ways.Frame.{frame_in};
 ghost use Rattle.domain_faults.specs.Rows.{AreRowsOf, rows_there};
 
 use crate::rows::{FaultRow, Rule, push_rows};
-use chain_faults::cells_faults;
-use domain_base::OutOfMemory;
-use fileset_table::FilesetTable;
-use page_store::MetaPages;
-use page_ways::DomainFrame;
+use slot_files::{DomainFrame, FilesetTable, MetaPages, OutOfMemory, cells_faults, tags_faults};
 use std::alloc::Global;
-use tag_faults::tags_faults;
 
-/// The faults of cells and of tags where the page of the fileset table says this one.
+/// The faults of cells and of tags, if the page of the fileset table says this table.
 pub(crate) fn tables_rows<M: MetaPages>(
     alloc: Global,
     pages: &M,

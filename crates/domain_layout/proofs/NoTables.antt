@@ -1,7 +1,7 @@
 -- Pages that break no rule break none of tables, and none of extents.
 use Rattle.std.proofs.Common.{◌≡◌, inl, inr, refl}
-use Rattle.domain_base.specs.declared.place.Home.{Home}
-use Rattle.page_store.specs.Pages.{Pages}
+use Rattle.file_release.specs.domain_base.declared.place.Home.{Home}
+use Rattle.file_release.specs.page_store.Pages.{Pages}
 use Rattle.domain_layout.specs.Faults.{FaultRow, HasNoExtentFault, HasNoFault, HasNoTablesFault, IsTableFault, IsTablesFault}
 use Rattle.domain_layout.specs.Layout.{IsLayout, Layout}
 use Rattle.domain_layout.specs.Owners.{frame_of}

@@ -3,17 +3,17 @@ use Rattle.std.proofs.Common.{◌≡◌, ◌∙◌, ℕ, true, false, not, is_so
 use Rattle.std.specs.Option.{option_and_then, option_map, option_map_or}
 use Rattle.std.specs.FinMap as map
 use Rattle.std.specs.Cmp.{nat_cmp_total}
-use Rattle.domain_base.specs.declared.place.Kind.{Kind}
-use Rattle.domain_base.specs.declared.place.Kind.TheVariants as kind
-use Rattle.domain_base.specs.declared.place.Tag.{Tag}
-use Rattle.page_store.specs.Bitfiles.{Bitfile}
-use Rattle.fileset_laws.proofs.LooksLemmas.{shown_as}
-use Rattle.fileset_model.specs.LooksLike.{IsShown, Shows}
-use Rattle.fileset_model.specs.Orders.{Path}
-use Rattle.fileset_model.specs.Paths.{is_directory, is_out_of_sync, is_out_of_sync_at, node_at, paths_to}
-use Rattle.fileset_model.specs.declared.fileset.FilesetSlot.{FilesetSlot}
-use Rattle.fileset_model.specs.declared.node.Node.{Node}
-use Rattle.fileset_model.specs.declared.node.Node.TheVariants.{Directory, File}
+use Rattle.file_release.specs.domain_base.declared.place.Kind.{Kind}
+use Rattle.file_release.specs.domain_base.declared.place.Kind.TheVariants as kind
+use Rattle.file_release.specs.domain_base.declared.place.Tag.{Tag}
+use Rattle.file_release.specs.page_store.Bitfiles.{Bitfile}
+use Rattle.name_space.proofs.OfLegalHistories.LooksLemmas.{shown_as}
+use Rattle.name_space.specs.fileset_model.LooksLike.{IsShown, Shows}
+use Rattle.name_space.specs.fileset_values.Orders.{Path}
+use Rattle.name_space.specs.fileset_model.Paths.{is_directory, is_out_of_sync, is_out_of_sync_at, node_at, paths_to}
+use Rattle.name_space.specs.fileset_model.declared.fileset.FilesetSlot.{FilesetSlot}
+use Rattle.name_space.specs.fileset_model.declared.node.Node.{Node}
+use Rattle.name_space.specs.fileset_model.declared.node.Node.TheVariants.{Directory, File}
 use Rattle.name_space.specs.Names.{Names, is_directory_kind, led_to, number_of}
 use Rattle.domain_layout.specs.Seen.{SeenFile}
 use Rattle.domain_layout.specs.Shape.{FilesetShape}

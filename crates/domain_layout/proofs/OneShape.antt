@@ -1,37 +1,37 @@
 -- Pages of metadata have one shape.
 use Rattle.std.proofs.Common.{◌≡◌, ◌∙◌, ℕ, Bool, true, false, cond, nat_lt, List, [], ◌∷◌, Option, Some, None, IfSome, IsSomeAnd, is_some, slice_get, refl, sym, ap, subst}
 use Rattle.std.specs.Option.{option_and_then}
-use Rattle.domain_base.specs.declared.place.CellAt.{CellAt}
-use Rattle.domain_base.specs.declared.place.Home.{Home}
-use Rattle.domain_base.specs.declared.place.Kind.{Kind}
-use Rattle.domain_base.specs.declared.place.Tag.{Tag}
-use Rattle.page_store.specs.Bitfiles.{Bitfile}
-use Rattle.page_store.specs.Pages.{Pages}
-use Rattle.record_table.specs.declared.record.Record.{Record}
-use Rattle.bmt_mcells.specs.Cell.{Cell}
-use Rattle.bmt_mcells.specs.Chain.{LinksFrom, PlacedCell, StandsAt, Follow, records_of}
-use Rattle.bmt_mcells.proofs.Unique.{one_stands}
-use Rattle.tag_dirs.specs.declared.dir.TagPlace.{TagPlace}
-use Rattle.tag_dirs.proofs.Reading.{same_directory}
-use Rattle.extent_maps.specs.declared.run.PagePlace.{PagePlace}
-use Rattle.extent_maps.specs.Runs.{Places, home_at}
-use Rattle.bitfile_cells.specs.Files.{places_of}
-use Rattle.bitfile_core.specs.Files.{AreFiles, Chains, is_removed}
-use Rattle.bitfile_core.specs.Shown.{ShowsAt}
-use Rattle.bitfile_core.specs.declared.attributes.Attributes.{Attributes}
-use Rattle.bitfile_core.proofs.Created.{one_chains}
-use Rattle.bitfile_core.proofs.Given.{one_follow}
-use Rattle.bitfile_core.proofs.ShownOnce.{same_each, show_once}
-use Rattle.fileset_model.specs.Orders.{Name}
-use Rattle.fileset_model.specs.declared.command.Owner.{Owner}
-use Rattle.fileset_model.specs.declared.fileset.Limits.{Limits}
+use Rattle.file_release.specs.domain_base.declared.place.CellAt.{CellAt}
+use Rattle.file_release.specs.domain_base.declared.place.Home.{Home}
+use Rattle.file_release.specs.domain_base.declared.place.Kind.{Kind}
+use Rattle.file_release.specs.domain_base.declared.place.Tag.{Tag}
+use Rattle.file_release.specs.page_store.Bitfiles.{Bitfile}
+use Rattle.file_release.specs.page_store.Pages.{Pages}
+use Rattle.file_release.specs.cell_records.declared.record.Record.{Record}
+use Rattle.file_release.specs.metadata_cells.Cell.{Cell}
+use Rattle.file_release.specs.metadata_cells.Chain.{LinksFrom, PlacedCell, StandsAt, Follow, records_of}
+use Rattle.file_release.proofs.OfMetadataCells.Unique.{one_stands}
+use Rattle.file_release.specs.tag_dirs.declared.dir.TagPlace.{TagPlace}
+use Rattle.file_release.proofs.OfTagDirs.Reading.{same_directory}
+use Rattle.file_release.specs.extent_maps.declared.run.PagePlace.{PagePlace}
+use Rattle.file_release.specs.extent_maps.Runs.{Places, home_at}
+use Rattle.file_release.specs.file_chains.Files.{places_of}
+use Rattle.file_release.specs.fileset_files.Files.{AreFiles, Chains, is_removed}
+use Rattle.file_release.specs.fileset_files.Shown.{ShowsAt}
+use Rattle.file_release.specs.fileset_files.declared.attributes.Attributes.{Attributes}
+use Rattle.file_release.proofs.OfFilesetFiles.Created.{one_chains}
+use Rattle.file_release.proofs.OfFilesetFiles.Given.{one_follow}
+use Rattle.file_release.proofs.OfFilesetFiles.ShownOnce.{same_each, show_once}
+use Rattle.name_space.specs.fileset_values.Orders.{Name}
+use Rattle.name_space.specs.fileset_values.declared.command.Owner.{Owner}
+use Rattle.name_space.specs.fileset_model.declared.fileset.Limits.{Limits}
 use Rattle.fileset_table.specs.Page.{IsTablePage}
 use Rattle.fileset_table.specs.Table.{Table, entry_of}
 use Rattle.fileset_table.specs.declared.slot.FilesetEntry.{FilesetEntry}
 use Rattle.fileset_table.specs.declared.slot.SlotItem.{SlotItem}
 use Rattle.fileset_table.specs.declared.slot.SlotItem.TheVariants as slots
 use Rattle.fileset_table.proofs.Unique.{table_unique}
-use Rattle.chain_release.specs.Reading.{own_or, read_home}
+use Rattle.file_release.specs.Reading.{own_or, read_home}
 use Rattle.domain_layout.specs.Seen.{IsOfClone, IsOwn, IsOwnUnless, IsSource, SeenFile, seen_in, source_of, frozen_of}
 use Rattle.domain_layout.specs.Shape.{AreLimits, AreQuotas, AreShapesOf, FilesetShape, HasChains, HasFileset, HaveShapes, IsClone, IsOriginal, IsSameSeen, IsSameShape, IsSameShapeThere, IsSameThere, IsShapeOf, Shapes, ShowsSeen, ShowsSeenAt, limits_in, shown_at}
 

@@ -3,31 +3,31 @@ use Rattle.std.proofs.Common.{◌≡◌, ◌∙◌, ℕ, Bool, true, false, cond
 use Rattle.std.specs.Option.{option_and_then, option_map}
 use Rattle.std.specs.FinMap as map
 use Rattle.std.specs.Cmp.{nat_cmp_total}
-use Rattle.domain_base.specs.declared.place.Home.{Home}
-use Rattle.page_store.specs.Pages.{Pages}
-use Rattle.record_table.specs.declared.record.Record.{Record}
-use Rattle.bmt_mcells.specs.Chain.{PlacedCell}
-use Rattle.bitfile_cells.specs.Files.{places_of}
-use Rattle.extent_maps.specs.Runs.{home_at}
-use Rattle.extent_records.specs.Writing.{places_before}
-use Rattle.bitfile_core.specs.Files.{attributes_in, attributes_of, first_record, is_removed, keep_in, keep_of}
-use Rattle.bitfile_core.specs.Shown.{IsWhat, ShowsAt, ShowsFile}
-use Rattle.bitfile_core.specs.declared.attributes.Attributes.{Attributes}
-use Rattle.bitfile_core.proofs.Truncated.{no_keep}
-use Rattle.fileset_laws.specs.Valid.{IsValidAs, IsValidFileset}
-use Rattle.fileset_model.proofs.OwnerLemmas.{owner_cmp-IsAntisymmetric}
-use Rattle.fileset_model.specs.Filesets.{FilesetMap}
-use Rattle.fileset_model.specs.Apply.{original_of}
-use Rattle.fileset_model.specs.LooksLike.{LooksLike, LooksLikeSlot, LooksLikeThere, Shows}
-use Rattle.fileset_model.specs.Orders.{Name, owner_cmp, owner_cmp-total, path_cmp, path_cmp-total, path_cmp-IsAntisymmetric}
-use Rattle.fileset_model.specs.Paths.{is_out_of_sync}
-use Rattle.fileset_model.specs.Usage.{is_unlimited}
-use Rattle.fileset_model.specs.declared.command.Owner.{Owner}
-use Rattle.fileset_model.specs.declared.fileset.FilesetSlot.{FilesetSlot}
-use Rattle.fileset_model.specs.declared.fileset.Limits.{Limits}
-use Rattle.fileset_model.specs.declared.fileset.Role.{Role}
-use Rattle.fileset_model.specs.declared.fileset.Role.TheVariants.{CloneOf, Original}
-use Rattle.fileset_model.specs.declared.node.Node.{Node}
+use Rattle.file_release.specs.domain_base.declared.place.Home.{Home}
+use Rattle.file_release.specs.page_store.Pages.{Pages}
+use Rattle.file_release.specs.cell_records.declared.record.Record.{Record}
+use Rattle.file_release.specs.metadata_cells.Chain.{PlacedCell}
+use Rattle.file_release.specs.file_chains.Files.{places_of}
+use Rattle.file_release.specs.extent_maps.Runs.{home_at}
+use Rattle.file_release.specs.extent_records.Writing.{places_before}
+use Rattle.file_release.specs.fileset_files.Files.{attributes_in, attributes_of, first_record, is_removed, keep_in, keep_of}
+use Rattle.file_release.specs.fileset_files.Shown.{IsWhat, ShowsAt, ShowsFile}
+use Rattle.file_release.specs.fileset_files.declared.attributes.Attributes.{Attributes}
+use Rattle.file_release.proofs.OfFilesetFiles.Truncated.{no_keep}
+use Rattle.name_space.specs.legal_histories.Valid.{IsValidAs, IsValidFileset}
+use Rattle.name_space.proofs.OfFilesetModel.OwnerLemmas.{owner_cmp-IsAntisymmetric}
+use Rattle.name_space.specs.fileset_model.Filesets.{FilesetMap}
+use Rattle.name_space.specs.fileset_model.Apply.{original_of}
+use Rattle.name_space.specs.fileset_model.LooksLike.{LooksLike, LooksLikeSlot, LooksLikeThere, Shows}
+use Rattle.name_space.specs.fileset_values.Orders.{Name, owner_cmp, owner_cmp-total, path_cmp, path_cmp-total, path_cmp-IsAntisymmetric}
+use Rattle.name_space.specs.fileset_model.Paths.{is_out_of_sync}
+use Rattle.name_space.specs.fileset_model.Usage.{is_unlimited}
+use Rattle.name_space.specs.fileset_values.declared.command.Owner.{Owner}
+use Rattle.name_space.specs.fileset_model.declared.fileset.FilesetSlot.{FilesetSlot}
+use Rattle.name_space.specs.fileset_model.declared.fileset.Limits.{Limits}
+use Rattle.name_space.specs.fileset_model.declared.fileset.Role.{Role}
+use Rattle.name_space.specs.fileset_model.declared.fileset.Role.TheVariants.{CloneOf, Original}
+use Rattle.name_space.specs.fileset_model.declared.node.Node.{Node}
 use Rattle.fileset_table.specs.Table.{Table, entry_of}
 use Rattle.fileset_table.specs.declared.slot.FilesetEntry.{FilesetEntry}
 use Rattle.fileset_table.specs.declared.slot.SlotItem.{SlotItem}

@@ -1,14 +1,14 @@
 -- What a fileset has by the chains of its tags it has by the links of their cells, and the other way.
 use Rattle.std.proofs.Common.{◌≡◌, ◌∙◌, ℕ, List, [], ◌∷◌, Option, Some, None, IfSome, IsSomeAnd, refl, ap, subst}
-use Rattle.domain_base.specs.declared.place.CellAt.{CellAt}
-use Rattle.domain_base.specs.declared.place.Tag.{Tag}
-use Rattle.page_store.specs.Pages.{Pages}
-use Rattle.bmt_mcells.specs.Chain.{LinksFrom, PlacedCell}
-use Rattle.tag_dirs.specs.Directory.{cell_of}
-use Rattle.tag_dirs.specs.declared.dir.TagPlace.{TagPlace}
-use Rattle.tag_dirs.proofs.Reading.{same_directory}
-use Rattle.bitfile_cells.specs.Files.{IsFile}
-use Rattle.bitfile_core.specs.Files.{Chains, LeadsToFile}
+use Rattle.file_release.specs.domain_base.declared.place.CellAt.{CellAt}
+use Rattle.file_release.specs.domain_base.declared.place.Tag.{Tag}
+use Rattle.file_release.specs.page_store.Pages.{Pages}
+use Rattle.file_release.specs.metadata_cells.Chain.{LinksFrom, PlacedCell}
+use Rattle.file_release.specs.tag_dirs.Directory.{cell_of}
+use Rattle.file_release.specs.tag_dirs.declared.dir.TagPlace.{TagPlace}
+use Rattle.file_release.proofs.OfTagDirs.Reading.{same_directory}
+use Rattle.file_release.specs.file_chains.Files.{IsFile}
+use Rattle.file_release.specs.fileset_files.Files.{Chains, LeadsToFile}
 use Rattle.fileset_table.specs.declared.slot.FilesetEntry.{FilesetEntry}
 use Rattle.domain_layout.specs.DirectoryRules.{IsNotThere, IsThere}
 use Rattle.domain_layout.specs.Shape.{HasChains}

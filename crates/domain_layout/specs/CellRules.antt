@@ -2,25 +2,25 @@
 use Rattle.std.specs.Prelude.{◌≡◌, ◌⊎◌, ◌==◌, ◌||◌, ◌&&◌, ◌<◌, ◌≤◌, ◌++◌, ℕ, Bool, true, false, not, is_some, List, [], ◌∷◌, Option, Some, None, Contains, nat_le, nat_lt, slice_get, if◌then◌else◌}
 use Rattle.std.specs.List.{AllByRecursion, list_all}
 use Rattle.std.specs.Option.{option_and_then, option_map_or}
-use Rattle.domain_base.specs.Version.{bitmap_pages}
-use Rattle.domain_base.specs.declared.place.CellAt.{CellAt}
-use Rattle.domain_base.specs.declared.place.Home.{Home}
-use Rattle.domain_base.specs.declared.version.Version.{Version}
-use Rattle.page_store.specs.Pages.{Pages}
-use Rattle.record_table.specs.Fields.{number_at}
-use Rattle.record_table.specs.Records.{kind_of, last_kind}
-use Rattle.record_table.specs.declared.record.Record.{Record}
-use Rattle.record_table.specs.declared.record.Record.TheVariants as written
-use Rattle.log_ring.specs.Homes.{IsMember, member_of}
-use Rattle.bmt_mcells.specs.Cell.{Cell, IsCell, IsFreeCell, id_of, kind_number, record_of}
-use Rattle.bmt_mcells.specs.CellPage.{cell_at, cell_of, free_cells, home_of, index_of}
-use Rattle.bmt_mcells.specs.Chain.{StandsAt, may_follow}
-use Rattle.bmt_mcells.specs.declared.head.CellHead.{CellHead}
-use Rattle.bmt_mcells.specs.declared.head.CellKind.{CellKind}
-use Rattle.bmt_mcells.specs.declared.head.CellKind.TheVariants.{Chain, Primary, Quota, Volume}
-use Rattle.extent_maps.specs.declared.run.PagePlace.TheVariants.{Absent}
-use Rattle.extent_records.specs.Writing.{places_in}
-use Rattle.bitfile_core.specs.Files.{is_first_kind, says_remove}
+use Rattle.file_release.specs.domain_base.Version.{bitmap_pages}
+use Rattle.file_release.specs.domain_base.declared.place.CellAt.{CellAt}
+use Rattle.file_release.specs.domain_base.declared.place.Home.{Home}
+use Rattle.file_release.specs.domain_base.declared.version.Version.{Version}
+use Rattle.file_release.specs.page_store.Pages.{Pages}
+use Rattle.file_release.specs.cell_records.Fields.{number_at}
+use Rattle.file_release.specs.cell_records.Records.{kind_of, last_kind}
+use Rattle.file_release.specs.cell_records.declared.record.Record.{Record}
+use Rattle.file_release.specs.cell_records.declared.record.Record.TheVariants as written
+use Rattle.log_recovery.specs.log_ring.Homes.{IsMember, member_of}
+use Rattle.file_release.specs.metadata_cells.Cell.{Cell, IsCell, IsFreeCell, id_of, kind_number, record_of}
+use Rattle.file_release.specs.metadata_cells.CellPage.{cell_at, cell_of, free_cells, home_of, index_of}
+use Rattle.file_release.specs.metadata_cells.Chain.{StandsAt, may_follow}
+use Rattle.file_release.specs.metadata_cells.declared.head.CellHead.{CellHead}
+use Rattle.file_release.specs.metadata_cells.declared.head.CellKind.{CellKind}
+use Rattle.file_release.specs.metadata_cells.declared.head.CellKind.TheVariants.{Chain, Primary, Quota, Volume}
+use Rattle.file_release.specs.extent_maps.declared.run.PagePlace.TheVariants.{Absent}
+use Rattle.file_release.specs.extent_records.Writing.{places_in}
+use Rattle.file_release.specs.fileset_files.Files.{is_first_kind, says_remove}
 use Rattle.fileset_table.specs.Table.{Table, is_original}
 use Rattle.fileset_table.specs.declared.slot.SlotItem.{SlotItem}
 use Rattle.fileset_table.specs.declared.slot.SlotItem.TheVariants as slot

@@ -2,32 +2,32 @@
 use Rattle.std.specs.Prelude.{◌≡◌, ◌⊎◌, ◌*◌, ◌<◌, ◌≤◌, ◌↔◌, ℕ, true, false, List, [], ◌∷◌, length, Some, None, IsSome, IsSomeAnd, Contains, nat_le, slice_get, if◌then◌else◌}
 use Rattle.std.specs.List.{AllByRecursion, flat_map}
 use Rattle.std.specs.Option.{option_and_then}
-use Rattle.domain_base.specs.Limits.{max_links}
-use Rattle.domain_base.specs.declared.place.CellAt.{CellAt}
-use Rattle.domain_base.specs.declared.place.Home.{Home}
-use Rattle.domain_base.specs.declared.place.Kind.{Kind}
-use Rattle.domain_base.specs.declared.place.Kind.TheVariants.{Directory, File}
-use Rattle.domain_base.specs.declared.place.Tag.{Tag}
-use Rattle.page_store.specs.Pages.{Pages}
-use Rattle.record_table.specs.Fields.{number_at}
-use Rattle.record_table.specs.declared.record.Record.{Record}
-use Rattle.record_table.specs.declared.record.Record.TheVariants as written
-use Rattle.bmt_mcells.specs.Cell.{Cell, record_of}
-use Rattle.bmt_mcells.specs.CellPage.{home_of}
-use Rattle.bmt_mcells.specs.Chain.{LinksFrom, PlacedCell}
-use Rattle.tag_dirs.specs.Directory.{IsDirectoryAt, cell_of}
-use Rattle.tag_dirs.specs.declared.dir.TagPlace.{TagPlace}
-use Rattle.extent_maps.specs.Runs.{home_at}
-use Rattle.bitfile_cells.specs.Files.{places_of}
-use Rattle.bitfile_core.specs.Files.{first_record, is_removed}
-use Rattle.bitfile_core.specs.Shown.{index_in}
-use Rattle.bitfile_core.specs.State.{parent_of}
-use Rattle.dir_index.specs.Entries.{is_below}
-use Rattle.dir_index.specs.Index.{IsIndexPage, entries_of}
-use Rattle.dir_index.specs.declared.entry.IndexEntry.{IndexEntry}
-use Rattle.dir_pages.specs.RowPage.{IsDirPage, rows_of}
-use Rattle.dir_pages.specs.declared.row.Row.{Row}
-use Rattle.dir_rows.specs.Directory.{count_entries, count_hash}
+use Rattle.file_release.specs.domain_base.Limits.{max_links}
+use Rattle.file_release.specs.domain_base.declared.place.CellAt.{CellAt}
+use Rattle.file_release.specs.domain_base.declared.place.Home.{Home}
+use Rattle.file_release.specs.domain_base.declared.place.Kind.{Kind}
+use Rattle.file_release.specs.domain_base.declared.place.Kind.TheVariants.{Directory, File}
+use Rattle.file_release.specs.domain_base.declared.place.Tag.{Tag}
+use Rattle.file_release.specs.page_store.Pages.{Pages}
+use Rattle.file_release.specs.cell_records.Fields.{number_at}
+use Rattle.file_release.specs.cell_records.declared.record.Record.{Record}
+use Rattle.file_release.specs.cell_records.declared.record.Record.TheVariants as written
+use Rattle.file_release.specs.metadata_cells.Cell.{Cell, record_of}
+use Rattle.file_release.specs.metadata_cells.CellPage.{home_of}
+use Rattle.file_release.specs.metadata_cells.Chain.{LinksFrom, PlacedCell}
+use Rattle.file_release.specs.tag_dirs.Directory.{IsDirectoryAt, cell_of}
+use Rattle.file_release.specs.tag_dirs.declared.dir.TagPlace.{TagPlace}
+use Rattle.file_release.specs.extent_maps.Runs.{home_at}
+use Rattle.file_release.specs.file_chains.Files.{places_of}
+use Rattle.file_release.specs.fileset_files.Files.{first_record, is_removed}
+use Rattle.file_release.specs.fileset_files.Shown.{index_in}
+use Rattle.file_release.specs.fileset_files.State.{parent_of}
+use Rattle.name_space.specs.directory_pages.Entries.{is_below}
+use Rattle.name_space.specs.directory_pages.Index.{IsIndexPage, entries_of}
+use Rattle.name_space.specs.directory_pages.declared.entry.IndexEntry.{IndexEntry}
+use Rattle.name_space.specs.directory_pages.RowPage.{IsDirPage, rows_of}
+use Rattle.name_space.specs.directory_pages.declared.row.Row.{Row}
+use Rattle.name_space.specs.directory_rows.Directory.{count_entries, count_hash}
 use Rattle.fileset_table.specs.Table.{Table, entry_of as fileset_of}
 use Rattle.fileset_table.specs.declared.slot.FilesetEntry.{FilesetEntry}
 use Rattle.fileset_table.specs.declared.slot.SlotItem.{SlotItem}

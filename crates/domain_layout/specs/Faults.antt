@@ -2,8 +2,8 @@
 -- code at which a rule is broken.
 use Rattle.std.specs.Prelude.{◌≡◌, ◌⊎◌, ◌<◌, ◌↔◌, ℕ, List, [], ◌∷◌, Some, IsSomeAnd, Contains}
 use Rattle.std.specs.List.{AllByRecursion}
-use Rattle.domain_base.specs.declared.place.Home.{Home}
-use Rattle.page_store.specs.Pages.{Pages}
+use Rattle.file_release.specs.domain_base.declared.place.Home.{Home}
+use Rattle.file_release.specs.page_store.Pages.{Pages}
 use Rattle.fileset_table.specs.Page.{IsTablePage}
 use Rattle.fileset_table.specs.Table.{Table}
 use Rattle.domain_layout.specs.CellRules.{IsCellsFault}

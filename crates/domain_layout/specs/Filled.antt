@@ -2,21 +2,21 @@
 use Rattle.std.specs.Prelude.{◌≡◌, ℕ, List, Option, Some, None, IsSomeAnd}
 use Rattle.std.specs.Option.{option_map}
 use Rattle.std.specs.FinMap.{get}
-use Rattle.domain_base.specs.declared.place.Home.{Home}
-use Rattle.domain_base.specs.declared.place.Kind.{Kind}
-use Rattle.domain_base.specs.declared.place.Kind.TheVariants as kind
-use Rattle.domain_base.specs.declared.place.Tag.{Tag}
-use Rattle.fileset_laws.specs.Valid.{IsValidSlot}
-use Rattle.fileset_model.specs.Filesets.{FilesetMap}
-use Rattle.fileset_model.specs.LooksLike.{IsShown}
-use Rattle.fileset_model.specs.Orders.{Name, Path}
-use Rattle.fileset_model.specs.Usage.{limits_of}
-use Rattle.fileset_model.specs.declared.command.Owner.{Owner}
-use Rattle.fileset_model.specs.declared.fileset.FilesetSlot.{FilesetSlot}
-use Rattle.fileset_model.specs.declared.fileset.Role.{Role}
-use Rattle.fileset_model.specs.declared.fileset.Role.TheVariants.{CloneOf, Original}
-use Rattle.fileset_model.specs.declared.node.Node.{Node}
-use Rattle.fileset_model.specs.declared.node.Node.TheVariants.{Directory, File}
+use Rattle.file_release.specs.domain_base.declared.place.Home.{Home}
+use Rattle.file_release.specs.domain_base.declared.place.Kind.{Kind}
+use Rattle.file_release.specs.domain_base.declared.place.Kind.TheVariants as kind
+use Rattle.file_release.specs.domain_base.declared.place.Tag.{Tag}
+use Rattle.name_space.specs.legal_histories.Valid.{IsValidSlot}
+use Rattle.name_space.specs.fileset_model.Filesets.{FilesetMap}
+use Rattle.name_space.specs.fileset_model.LooksLike.{IsShown}
+use Rattle.name_space.specs.fileset_values.Orders.{Name, Path}
+use Rattle.name_space.specs.fileset_model.Usage.{limits_of}
+use Rattle.name_space.specs.fileset_values.declared.command.Owner.{Owner}
+use Rattle.name_space.specs.fileset_model.declared.fileset.FilesetSlot.{FilesetSlot}
+use Rattle.name_space.specs.fileset_model.declared.fileset.Role.{Role}
+use Rattle.name_space.specs.fileset_model.declared.fileset.Role.TheVariants.{CloneOf, Original}
+use Rattle.name_space.specs.fileset_model.declared.node.Node.{Node}
+use Rattle.name_space.specs.fileset_model.declared.node.Node.TheVariants.{Directory, File}
 use Rattle.name_space.specs.Names.{Names, led_to, number_of}
 use Rattle.domain_layout.specs.Seen.{SeenFile}
 use Rattle.domain_layout.specs.Shape.{FilesetShape, Shapes}

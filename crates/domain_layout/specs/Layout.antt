@@ -1,17 +1,17 @@
 -- Where the pages of metadata of a domain stand: the table of filesets, the pages of cells of each
 -- volume, and those of each tag directory.
 use Rattle.std.specs.Prelude.{◌≡◌, ◌+◌, ◌<◌, ◌≤◌, ℕ, List, [], length, Option, Some, None, IsSomeAnd, slice_get, slice_index, slice_index_or}
-use Rattle.domain_base.specs.Limits.{max_volumes}
-use Rattle.domain_base.specs.Version.{number_of}
-use Rattle.domain_base.specs.declared.place.Home.{Home}
-use Rattle.domain_base.specs.declared.version.Version.{Version}
-use Rattle.page_store.specs.Pages.{Pages}
-use Rattle.disk_label.specs.FirstPages.{first_pages}
-use Rattle.disk_label.specs.declared.anchor.Anchor.{Anchor}
-use Rattle.log_ring.specs.Homes.{IsMember, member_of}
-use Rattle.bmt_mcells.specs.CellPage.{IsCellPage, index_of, next_of}
-use Rattle.tag_dirs.specs.Directory.{IsDirectoryAt}
-use Rattle.tag_dirs.specs.declared.dir.TagPlace.{TagPlace}
+use Rattle.file_release.specs.domain_base.Limits.{max_volumes}
+use Rattle.file_release.specs.domain_base.Version.{number_of}
+use Rattle.file_release.specs.domain_base.declared.place.Home.{Home}
+use Rattle.file_release.specs.domain_base.declared.version.Version.{Version}
+use Rattle.file_release.specs.page_store.Pages.{Pages}
+use Rattle.log_recovery.specs.disk_label.FirstPages.{first_pages}
+use Rattle.log_recovery.specs.disk_label.declared.anchor.Anchor.{Anchor}
+use Rattle.log_recovery.specs.log_ring.Homes.{IsMember, member_of}
+use Rattle.file_release.specs.metadata_cells.CellPage.{IsCellPage, index_of, next_of}
+use Rattle.file_release.specs.tag_dirs.Directory.{IsDirectoryAt}
+use Rattle.file_release.specs.tag_dirs.declared.dir.TagPlace.{TagPlace}
 use Rattle.fileset_table.specs.Page.{IsTablePage}
 use Rattle.fileset_table.specs.Table.{Table}
 use Rattle.fileset_table.specs.declared.slot.SlotItem.{SlotItem}

@@ -1,17 +1,17 @@
 -- To whom each page of a domain's volumes belongs.
 use Rattle.std.specs.Prelude.{◌≡◌, ◌<◌, ℕ, List, true, Some, Contains, length, slice_get}
-use Rattle.domain_base.specs.declared.place.CellAt.{CellAt}
-use Rattle.domain_base.specs.declared.place.Home.{Home}
-use Rattle.page_store.specs.Pages.{Pages}
-use Rattle.record_table.specs.declared.record.Record.{Record}
-use Rattle.disk_label.specs.FirstPages.{first_pages}
-use Rattle.log_ring.specs.Homes.{IsLogPage, IsMember, member_of}
-use Rattle.bmt_mcells.specs.Cell.{Cell, record_of}
-use Rattle.bmt_mcells.specs.Chain.{StandsAt}
-use Rattle.tag_dirs.specs.Directory.{has_home}
-use Rattle.extent_maps.specs.declared.run.PagePlace.TheVariants.{At}
-use Rattle.extent_records.specs.Writing.{places_in}
-use Rattle.bitfile_core.specs.Shown.{index_in}
+use Rattle.file_release.specs.domain_base.declared.place.CellAt.{CellAt}
+use Rattle.file_release.specs.domain_base.declared.place.Home.{Home}
+use Rattle.file_release.specs.page_store.Pages.{Pages}
+use Rattle.file_release.specs.cell_records.declared.record.Record.{Record}
+use Rattle.log_recovery.specs.disk_label.FirstPages.{first_pages}
+use Rattle.log_recovery.specs.log_ring.Homes.{IsLogPage, IsMember, member_of}
+use Rattle.file_release.specs.metadata_cells.Cell.{Cell, record_of}
+use Rattle.file_release.specs.metadata_cells.Chain.{StandsAt}
+use Rattle.file_release.specs.tag_dirs.Directory.{has_home}
+use Rattle.file_release.specs.extent_maps.declared.run.PagePlace.TheVariants.{At}
+use Rattle.file_release.specs.extent_records.Writing.{places_in}
+use Rattle.file_release.specs.fileset_files.Shown.{index_in}
 use Rattle.fileset_table.specs.declared.slot.SlotItem.{SlotItem}
 use Rattle.domain_layout.specs.Layout.{Layout}
 use Rattle.domain_layout.specs.Reached.{Frame, Reaches, index_way}

@@ -1,12 +1,12 @@
 -- The rules of files' pages and of bitmaps, where the pages of tables stand as they should.
 use Rattle.std.specs.Prelude.{◌≡◌, ◌⊎◌, ◌+◌, ◌*◌, ◌<◌, ◌≤◌, ◌↔◌, ℕ, true, Some, List}
-use Rattle.domain_base.specs.Version.{bitmap_pages}
-use Rattle.domain_base.specs.declared.place.CellAt.{CellAt}
-use Rattle.domain_base.specs.declared.place.Home.{Home}
-use Rattle.page_store.specs.Pages.{Pages}
-use Rattle.storage_bitmap.specs.Bits.{is_set}
-use Rattle.log_ring.specs.Homes.{IsMember, member_of}
-use Rattle.bmt_mcells.specs.CellPage.{home_of}
+use Rattle.file_release.specs.domain_base.Version.{bitmap_pages}
+use Rattle.file_release.specs.domain_base.declared.place.CellAt.{CellAt}
+use Rattle.file_release.specs.domain_base.declared.place.Home.{Home}
+use Rattle.file_release.specs.page_store.Pages.{Pages}
+use Rattle.file_release.specs.free_space.Bits.{is_set}
+use Rattle.log_recovery.specs.log_ring.Homes.{IsMember, member_of}
+use Rattle.file_release.specs.metadata_cells.CellPage.{home_of}
 use Rattle.domain_layout.specs.Layout.{Layout}
 use Rattle.domain_layout.specs.Owners.{BelongsTo, HasExtent, IsOwned, Owner, frame_of}
 use Rattle.domain_layout.specs.Owners.Owner.{of_file}

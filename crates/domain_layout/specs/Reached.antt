@@ -1,15 +1,15 @@
 -- Pages of one kind that lead from one to the next, and which of them are read.
 use Rattle.std.specs.Prelude.{◌≡◌, ◌==◌, ◌⊎◌, ◌<◌, ◌++◌, ℕ, Bool, true, List, [], ◌∷◌, length, Option, Some, None, IsSomeAnd, Contains, nat_le, if◌then◌else◌}
 use Rattle.std.specs.Option.{option_and_then}
-use Rattle.domain_base.specs.declared.place.Home.{Home}
-use Rattle.domain_base.specs.declared.version.Version.{Version}
-use Rattle.page_store.specs.Pages.{Pages}
-use Rattle.record_table.specs.Fields.{number_at}
-use Rattle.disk_label.specs.FirstPages.{first_pages}
-use Rattle.disk_label.specs.declared.anchor.Anchor.{Anchor}
-use Rattle.log_ring.specs.Homes.{IsLogPage, IsMember, member_of}
-use Rattle.bmt_mcells.specs.CellPage.{is_cell_page, next_of}
-use Rattle.tag_dirs.specs.TagPage.{next_of as next_home}
+use Rattle.file_release.specs.domain_base.declared.place.Home.{Home}
+use Rattle.file_release.specs.domain_base.declared.version.Version.{Version}
+use Rattle.file_release.specs.page_store.Pages.{Pages}
+use Rattle.file_release.specs.cell_records.Fields.{number_at}
+use Rattle.log_recovery.specs.disk_label.FirstPages.{first_pages}
+use Rattle.log_recovery.specs.disk_label.declared.anchor.Anchor.{Anchor}
+use Rattle.log_recovery.specs.log_ring.Homes.{IsLogPage, IsMember, member_of}
+use Rattle.file_release.specs.metadata_cells.CellPage.{is_cell_page, next_of}
+use Rattle.file_release.specs.tag_dirs.TagPage.{next_of as next_home}
 
 -- the anchor that counts, and the version that it says
 pub record Frame : Type 0 where

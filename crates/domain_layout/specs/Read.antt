@@ -1,14 +1,14 @@
 -- The filesets that an image of a domain's volumes has.
 use Rattle.std.specs.Prelude.{◌≡◌, ℕ, List, [], Some, unwrap_or}
-use Rattle.domain_base.specs.Version.{number_of}
-use Rattle.domain_base.specs.declared.place.Home.{Home}
-use Rattle.domain_base.specs.declared.version.Version.{Version}
-use Rattle.page_store.specs.Pages.{Pages}
-use Rattle.volume_disk.specs.Image.{Image}
-use Rattle.disk_label.specs.declared.anchor.Anchor.{Anchor}
-use Rattle.log_ring.specs.Groups.{Group, HasLog, redone}
+use Rattle.file_release.specs.domain_base.Version.{number_of}
+use Rattle.file_release.specs.domain_base.declared.place.Home.{Home}
+use Rattle.file_release.specs.domain_base.declared.version.Version.{Version}
+use Rattle.file_release.specs.page_store.Pages.{Pages}
+use Rattle.log_recovery.specs.volume_disk.Image.{Image}
+use Rattle.log_recovery.specs.disk_label.declared.anchor.Anchor.{Anchor}
+use Rattle.log_recovery.specs.log_ring.Groups.{Group, HasLog, redone}
 use Rattle.log_recovery.specs.Outcome.{IsFirstFault}
-use Rattle.fileset_model.specs.Filesets.{FilesetMap}
+use Rattle.name_space.specs.fileset_model.Filesets.{FilesetMap}
 use Rattle.domain_layout.specs.Shape.{HaveShapes, Shapes}
 use Rattle.domain_layout.specs.Faults.{HasNoFault}
 use Rattle.domain_layout.specs.Filled.{AreFilled, Contents}

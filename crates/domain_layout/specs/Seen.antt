@@ -1,19 +1,19 @@
 -- A file or directory as a fileset has it: what it is, and at which home each of its pages stands.
 use Rattle.std.specs.Prelude.{◌≡◌, ◌==◌, ◌&&◌, ℕ, Bool, true, false, not, nat_lt, List, Option, Some, None, IsSomeAnd, if◌then◌else◌}
 use Rattle.std.specs.Option.{option_and_then, option_map, option_map_or}
-use Rattle.domain_base.specs.declared.place.CellAt.{CellAt}
-use Rattle.domain_base.specs.declared.place.Home.{Home}
-use Rattle.page_store.specs.Pages.{Pages}
-use Rattle.record_table.specs.declared.record.Record.{Record}
-use Rattle.record_table.specs.declared.record.Record.TheVariants as written
-use Rattle.bmt_mcells.specs.Chain.{LinksFrom, PlacedCell}
-use Rattle.extent_maps.specs.Runs.{Places, home_at}
-use Rattle.extent_maps.specs.declared.run.PagePlace.TheVariants.{Absent}
-use Rattle.extent_records.specs.Writing.{places_before}
-use Rattle.bitfile_cells.specs.Files.{places_of}
-use Rattle.chain_release.specs.Reading.{read_home}
-use Rattle.bitfile_core.specs.Files.{attributes_of, first_record, is_removed, keep_of, of_live}
-use Rattle.bitfile_core.specs.declared.attributes.Attributes.{Attributes}
+use Rattle.file_release.specs.domain_base.declared.place.CellAt.{CellAt}
+use Rattle.file_release.specs.domain_base.declared.place.Home.{Home}
+use Rattle.file_release.specs.page_store.Pages.{Pages}
+use Rattle.file_release.specs.cell_records.declared.record.Record.{Record}
+use Rattle.file_release.specs.cell_records.declared.record.Record.TheVariants as written
+use Rattle.file_release.specs.metadata_cells.Chain.{LinksFrom, PlacedCell}
+use Rattle.file_release.specs.extent_maps.Runs.{Places, home_at}
+use Rattle.file_release.specs.extent_maps.declared.run.PagePlace.TheVariants.{Absent}
+use Rattle.file_release.specs.extent_records.Writing.{places_before}
+use Rattle.file_release.specs.file_chains.Files.{places_of}
+use Rattle.file_release.specs.Reading.{read_home}
+use Rattle.file_release.specs.fileset_files.Files.{attributes_of, first_record, is_removed, keep_of, of_live}
+use Rattle.file_release.specs.fileset_files.declared.attributes.Attributes.{Attributes}
 
 -- what it is, and the home of each page that it has
 pub record SeenFile : Type 0 where

@@ -2,23 +2,23 @@
 -- with homes in the place of the bytes of its files.
 use Rattle.std.specs.Prelude.{◌≡◌, ℕ, List, [], Option, Some, None, IfSome, IsSome, IsSomeAnd, slice_get}
 use Rattle.std.specs.Option.{option_and_then}
-use Rattle.domain_base.specs.declared.place.CellAt.{CellAt}
-use Rattle.domain_base.specs.declared.place.Home.{Home}
-use Rattle.domain_base.specs.declared.place.Kind.{Kind}
-use Rattle.domain_base.specs.declared.place.Kind.TheVariants.{Directory, File}
-use Rattle.domain_base.specs.declared.place.Tag.{Tag}
-use Rattle.page_store.specs.Bitfiles.{Bitfile, Bitfiles}
-use Rattle.page_store.specs.Pages.{Pages}
-use Rattle.record_table.specs.declared.record.Record.{Record}
-use Rattle.bmt_mcells.specs.Chain.{LinksFrom, PlacedCell, records_of}
-use Rattle.tag_dirs.specs.declared.dir.TagPlace.{TagPlace}
-use Rattle.tag_dirs.specs.Directory.{IsDirectoryAt}
-use Rattle.bitfile_core.specs.Files.{AreFiles, Chains}
-use Rattle.bitfile_core.specs.Shown.{IsWhat, Shows}
-use Rattle.fileset_model.specs.Orders.{Name}
-use Rattle.fileset_model.specs.declared.command.Owner.{Owner}
-use Rattle.fileset_model.specs.declared.command.Owner.TheVariants as owner
-use Rattle.fileset_model.specs.declared.fileset.Limits.{Limits}
+use Rattle.file_release.specs.domain_base.declared.place.CellAt.{CellAt}
+use Rattle.file_release.specs.domain_base.declared.place.Home.{Home}
+use Rattle.file_release.specs.domain_base.declared.place.Kind.{Kind}
+use Rattle.file_release.specs.domain_base.declared.place.Kind.TheVariants.{Directory, File}
+use Rattle.file_release.specs.domain_base.declared.place.Tag.{Tag}
+use Rattle.file_release.specs.page_store.Bitfiles.{Bitfile, Bitfiles}
+use Rattle.file_release.specs.page_store.Pages.{Pages}
+use Rattle.file_release.specs.cell_records.declared.record.Record.{Record}
+use Rattle.file_release.specs.metadata_cells.Chain.{LinksFrom, PlacedCell, records_of}
+use Rattle.file_release.specs.tag_dirs.declared.dir.TagPlace.{TagPlace}
+use Rattle.file_release.specs.tag_dirs.Directory.{IsDirectoryAt}
+use Rattle.file_release.specs.fileset_files.Files.{AreFiles, Chains}
+use Rattle.file_release.specs.fileset_files.Shown.{IsWhat, Shows}
+use Rattle.name_space.specs.fileset_values.Orders.{Name}
+use Rattle.name_space.specs.fileset_values.declared.command.Owner.{Owner}
+use Rattle.name_space.specs.fileset_values.declared.command.Owner.TheVariants as owner
+use Rattle.name_space.specs.fileset_model.declared.fileset.Limits.{Limits}
 use Rattle.fileset_table.specs.Page.{IsTablePage}
 use Rattle.fileset_table.specs.Table.{Table, entry_of}
 use Rattle.fileset_table.specs.declared.slot.FilesetEntry.{FilesetEntry}

@@ -2,17 +2,17 @@
 -- Each is said by where it is broken.
 use Rattle.std.specs.Prelude.{◌≡◌, ◌⊎◌, ◌<◌, ℕ, List, true, false, Option, Some, None, slice_get}
 use Rattle.std.specs.Option.{option_and_then}
-use Rattle.domain_base.specs.declared.place.CellAt.{CellAt}
-use Rattle.domain_base.specs.declared.place.Home.{Home}
-use Rattle.domain_base.specs.declared.place.Tag.{Tag}
-use Rattle.page_store.specs.Pages.{Pages}
-use Rattle.record_table.specs.declared.record.Record.{Record}
-use Rattle.record_table.specs.declared.record.Record.TheVariants as written
-use Rattle.record_table.specs.Fields.{number_at}
-use Rattle.bmt_mcells.specs.Cell.{Cell, IsFileset, kind_number, record_of}
-use Rattle.bmt_mcells.specs.CellPage.{cell_at, home_of}
-use Rattle.bmt_mcells.specs.declared.head.CellKind.TheVariants.{Primary, Quota}
-use Rattle.tag_dirs.specs.TagPage.{IsTagPage, entry_of, index_of, slot_of}
+use Rattle.file_release.specs.domain_base.declared.place.CellAt.{CellAt}
+use Rattle.file_release.specs.domain_base.declared.place.Home.{Home}
+use Rattle.file_release.specs.domain_base.declared.place.Tag.{Tag}
+use Rattle.file_release.specs.page_store.Pages.{Pages}
+use Rattle.file_release.specs.cell_records.declared.record.Record.{Record}
+use Rattle.file_release.specs.cell_records.declared.record.Record.TheVariants as written
+use Rattle.file_release.specs.cell_records.Fields.{number_at}
+use Rattle.file_release.specs.metadata_cells.Cell.{Cell, IsFileset, kind_number, record_of}
+use Rattle.file_release.specs.metadata_cells.CellPage.{cell_at, home_of}
+use Rattle.file_release.specs.metadata_cells.declared.head.CellKind.TheVariants.{Primary, Quota}
+use Rattle.file_release.specs.tag_dirs.TagPage.{IsTagPage, entry_of, index_of, slot_of}
 use Rattle.fileset_table.specs.Table.{Table, entry_of as fileset_of}
 use Rattle.fileset_table.specs.declared.slot.FilesetEntry.{FilesetEntry}
 use Rattle.fileset_table.specs.declared.slot.SlotItem.{SlotItem}

@@ -1,10 +1,10 @@
 -- Where no volume but the first has an anchor that counts.
 use Rattle.std.proofs.Common.{◌≡◌, ℕ, ◌+◌, ◌%◌, List, length, sym, ap, arith}
-use Rattle.volume_disk.specs.Disk.{Disk, IsSettled}
-use Rattle.volume_disk.proofs.Bytes.{bytes_from-same}
-use Rattle.disk_label.specs.Anchor.{gate_of, volume_of}
-use Rattle.disk_label.specs.Body.{anchor_from}
-use Rattle.disk_label.proofs.Slots.{Counts-same, pages_there}
+use Rattle.domain_layout.specs.volume_disk.Disk.{Disk, IsSettled}
+use Rattle.domain_layout.proofs.OfVolumeDisk.Bytes.{bytes_from-same}
+use Rattle.domain_layout.specs.disk_label.Anchor.{gate_of, volume_of}
+use Rattle.domain_layout.specs.disk_label.Body.{anchor_from}
+use Rattle.domain_layout.proofs.OfDiskLabel.Slots.{Counts-same, pages_there}
 use Rattle.domain_making.specs.Laws.{HoldsNoOtherAnchor}
 use Rattle.domain_making.specs.Making.{HasNoOtherAnchor}
 

@@ -1,15 +1,15 @@
 -- The pages of a new domain that were put to a store.
 use Rattle.std.proofs.Common.{◌≡◌, ◌∙◌, ◌⊎◌, ℕ, ◌+◌, ◌*◌, ◌<◌, ◌≤◌, cond, nat_eq, true, List, length, Some, IsSomeAnd, slice_index, sym, ap, subst, arith, ⊎_elim}
 use Rattle.std.proofs.lemmas.Bool.{and_right, cases_lt, ne_eqb}
-use Rattle.domain_base.specs.Version.{bitmap_pages, most_pages}
-use Rattle.domain_base.specs.declared.version.Version.{Version}
-use Rattle.page_store.specs.Pages.{Pages, with_page}
-use Rattle.bmt_mcells.proofs.Changed.{same_itself}
-use Rattle.storage_bitmap.specs.Bits.{ShowsMap}
-use Rattle.storage_bitmap.specs.VolumePages.{VolumePages}
-use Rattle.disk_label.specs.FirstPages.{first_pages}
+use Rattle.domain_layout.specs.domain_base.Version.{bitmap_pages, most_pages}
+use Rattle.domain_layout.specs.domain_base.declared.version.Version.{Version}
+use Rattle.domain_layout.specs.page_store.Pages.{Pages, with_page}
+use Rattle.domain_layout.proofs.OfMetadataCells.Changed.{same_itself}
+use Rattle.domain_layout.specs.free_space.Bits.{ShowsMap}
+use Rattle.domain_layout.specs.free_space.VolumePages.{VolumePages}
+use Rattle.domain_layout.specs.disk_label.FirstPages.{first_pages}
 use Rattle.domain_layout.specs.Reached.{Frame}
-use Rattle.layout_laws.specs.NewDomain.{IsNew, IsNewBitmap, IsNewCells, IsNewTablePage, on_first}
+use Rattle.domain_layout.specs.NewDomain.{IsNew, IsNewBitmap, IsNewCells, IsNewTablePage, on_first}
 use Rattle.domain_making.specs.Making.{new_frame}
 use Rattle.domain_making.specs.Pages.{AreNew, HasNewBitmaps, IsUsedTo}
 use Rattle.domain_making.specs.declared.pages.NewPages.{NewPages}

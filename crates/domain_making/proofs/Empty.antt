@@ -2,28 +2,28 @@
 use Rattle.std.proofs.Common.{◌≡◌, ◌∙◌, ◌⊎◌, inl, inr, ℕ, zero, suc, ◌+◌, ◌*◌, ◌%◌, ◌^◌, ◌<◌, ◌≤◌, cond, nat_eq, List, [], Some, length, take, slice_index, refl, sym, ap, subst, arith, ⊎_elim}
 use Rattle.std.proofs.lemmas.List.{get_or-take, length-take-le}
 use Rattle.std.specs.FinMap.{empty}
-use Rattle.domain_base.specs.Version.{bitmap_pages, most_pages, number_of}
-use Rattle.domain_base.specs.declared.version.Version.{Version}
-use Rattle.domain_base.specs.declared.version.Version.TheVariants.{Three, Four}
-use Rattle.volume_disk.specs.Disk.{volume_pages}
-use Rattle.volume_disk.specs.Image.{Image, page_at}
-use Rattle.volume_disk.proofs.Bytes.{get_or-bytes_from}
-use Rattle.disk_label.specs.Anchor.{IsAnchor}
-use Rattle.disk_label.specs.Body.{no_member, word_at}
-use Rattle.disk_label.specs.FirstPages.{first_pages}
-use Rattle.disk_label.specs.Label.{IsLabel, label_block, label_bytes}
-use Rattle.disk_label.proofs.Bodies.{IsLabelOf-label_bytes, number_of-cases}
-use Rattle.log_ring.specs.Groups.{HasLog, pages_in}
-use Rattle.log_ring.specs.Homes.{IsMember, member_of}
-use Rattle.log_ring.specs.Ring.{IsGateOpen}
-use Rattle.log_ring.proofs.HomePages.{bytes_there}
-use Rattle.log_recovery.specs.Members.{IsLabelled, label_version}
-use Rattle.log_recovery.specs.Outcome.{HasGoodAnchor}
-use Rattle.log_recovery.specs.Range.{IsInRange, IsSized}
-use Rattle.log_recovery.proofs.OneOutcome.{has_no_fault}
+use Rattle.domain_layout.specs.domain_base.Version.{bitmap_pages, most_pages, number_of}
+use Rattle.domain_layout.specs.domain_base.declared.version.Version.{Version}
+use Rattle.domain_layout.specs.domain_base.declared.version.Version.TheVariants.{Three, Four}
+use Rattle.domain_layout.specs.volume_disk.Disk.{volume_pages}
+use Rattle.domain_layout.specs.volume_disk.Image.{Image, page_at}
+use Rattle.domain_layout.proofs.OfVolumeDisk.Bytes.{get_or-bytes_from}
+use Rattle.domain_layout.specs.disk_label.Anchor.{IsAnchor}
+use Rattle.domain_layout.specs.disk_label.Body.{no_member, word_at}
+use Rattle.domain_layout.specs.disk_label.FirstPages.{first_pages}
+use Rattle.domain_layout.specs.disk_label.Label.{IsLabel, label_block, label_bytes}
+use Rattle.domain_layout.proofs.OfDiskLabel.Bodies.{IsLabelOf-label_bytes, number_of-cases}
+use Rattle.domain_layout.specs.log_ring.Groups.{HasLog, pages_in}
+use Rattle.domain_layout.specs.log_ring.Homes.{IsMember, member_of}
+use Rattle.domain_layout.specs.log_ring.Ring.{IsGateOpen}
+use Rattle.domain_layout.proofs.OfLogRing.HomePages.{bytes_there}
+use Rattle.domain_layout.specs.log_recovery.Members.{IsLabelled, label_version}
+use Rattle.domain_layout.specs.log_recovery.Outcome.{HasGoodAnchor}
+use Rattle.domain_layout.specs.log_recovery.Range.{IsInRange, IsSized}
+use Rattle.domain_layout.proofs.OfLogRecovery.OneOutcome.{has_no_fault}
 use Rattle.domain_layout.specs.Read.{Means, ReadsFrom}
-use Rattle.layout_laws.specs.NewDomain.{IsNew, IsNewAnchor, IsNewBitmap, IsNewCells, IsNewTablePage, on_first}
-use Rattle.layout_laws.proofs.NewDomain.{no_fault, reads_none}
+use Rattle.domain_layout.specs.NewDomain.{IsNew, IsNewAnchor, IsNewBitmap, IsNewCells, IsNewTablePage, on_first}
+use Rattle.domain_layout.proofs.NewDomain.{no_fault, reads_none}
 use Rattle.domain_making.specs.Making.{IsEmptyDomain, new_anchor, new_frame}
 use Rattle.domain_making.specs.Pages.{AreNew}
 use Rattle.domain_making.specs.Written.{HasNewLabel, HasNewPages}

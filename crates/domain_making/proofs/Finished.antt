@@ -1,18 +1,18 @@
 -- The pages and the anchor of a new domain, written.
 use Rattle.std.proofs.Common.{◌≡◌, ◌∙◌, ◌==◌, inl, inr, ℕ, ◌-◌, ◌*◌, ◌<◌, ◌≤◌, cond, true, Option, Some, None, refl, sym, ap, subst, arith, ⊎_elim}
 use Rattle.std.proofs.lemmas.Bool.{eq-eqb}
-use Rattle.domain_base.specs.Version.{most_pages}
-use Rattle.domain_base.specs.declared.version.Version.{Version}
-use Rattle.volume_disk.specs.Disk.{Disk, MayLeave, Tells, volume_pages}
-use Rattle.volume_disk.specs.Image.{AreBytes, Image, IsIn}
-use Rattle.volume_disk.specs.Run.{LeavesOnly, MayLeaveTorn, OnlyWrites, Touches}
-use Rattle.volume_disk.proofs.Laws.{both, leaves-now, only_writes-then, only_writes-wider, then_on, touches-then, touches-wider, untorn, weaker}
-use Rattle.disk_label.specs.Anchor.{IsAnchor, IsNext, IsWhole}
-use Rattle.disk_label.specs.FirstPages.{first_pages}
-use Rattle.disk_label.specs.Slot.{HasAnchor, HasWritten, IsOldOrNew, IsOnAnchors, IsReady, IsReadyFor, IsSlot, WritesAnchor}
-use Rattle.disk_label.proofs.Bodies.{number_of-cases}
-use Rattle.disk_label.proofs.Elsewhere.{anchor_since, ready_still}
-use Rattle.disk_label.specs.declared.anchor.Anchor.{Anchor}
+use Rattle.domain_layout.specs.domain_base.Version.{most_pages}
+use Rattle.domain_layout.specs.domain_base.declared.version.Version.{Version}
+use Rattle.domain_layout.specs.volume_disk.Disk.{Disk, MayLeave, Tells, volume_pages}
+use Rattle.domain_layout.specs.volume_disk.Image.{AreBytes, Image, IsIn}
+use Rattle.domain_layout.specs.volume_disk.Run.{LeavesOnly, MayLeaveTorn, OnlyWrites, Touches}
+use Rattle.domain_layout.proofs.OfVolumeDisk.Laws.{both, leaves-now, only_writes-then, only_writes-wider, then_on, touches-then, touches-wider, untorn, weaker}
+use Rattle.domain_layout.specs.disk_label.Anchor.{IsAnchor, IsNext, IsWhole}
+use Rattle.domain_layout.specs.disk_label.FirstPages.{first_pages}
+use Rattle.domain_layout.specs.disk_label.Slot.{HasAnchor, HasWritten, IsOldOrNew, IsOnAnchors, IsReady, IsReadyFor, IsSlot, WritesAnchor}
+use Rattle.domain_layout.proofs.OfDiskLabel.Bodies.{number_of-cases}
+use Rattle.domain_layout.proofs.OfDiskLabel.Elsewhere.{anchor_since, ready_still}
+use Rattle.domain_layout.specs.disk_label.declared.anchor.Anchor.{Anchor}
 use Rattle.domain_making.specs.Making.{AreSlotsReady, IsEmptyDomain, IsMade, IsNoneOrEmpty, IsOnFirst, new_anchor}
 use Rattle.domain_making.specs.Pages.{AreNew}
 use Rattle.domain_making.specs.Written.{HasNewLabel, HasNewPages, IsBehindLabel, IsFirstSynced, IsInFront, IsOnPages}

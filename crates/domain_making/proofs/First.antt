@@ -1,17 +1,17 @@
 -- The first volume while its slots are closed and its label is written.
 use Rattle.std.proofs.Common.{◌≡◌, ◌∙◌, ◌⊎◌, inl, inr, ℕ, ◌+◌, ◌-◌, ◌*◌, ◌%◌, ◌≤◌, List, None, sym, ap, subst, arith}
 use Rattle.std.proofs.lemmas.Bool.{cases_eq}
-use Rattle.volume_disk.specs.Disk.{Disk, MayLeave, Tells}
-use Rattle.volume_disk.specs.Image.{Image, IsIn, SameOutside}
-use Rattle.volume_disk.specs.Run.{LeavesOnly, MayLeaveTorn, OnlyWrites, Touches}
-use Rattle.volume_disk.proofs.Bytes.{bytes_from-same}
-use Rattle.volume_disk.proofs.Laws.{leaves-now, only_writes-then, only_writes-wider, then_on}
-use Rattle.disk_label.specs.Anchor.{Counts, IsAnchor, gate_of, volume_of}
-use Rattle.disk_label.specs.Body.{anchor_from}
-use Rattle.disk_label.specs.Slot.{HasAnchor, HasNoAnchorOn, IsGateOf, IsOnAnchors}
-use Rattle.disk_label.proofs.Elsewhere.{anchor_since}
-use Rattle.disk_label.proofs.Gates.{keeps_anchor_by_gates}
-use Rattle.disk_label.proofs.Slots.{Counts-same}
+use Rattle.domain_layout.specs.volume_disk.Disk.{Disk, MayLeave, Tells}
+use Rattle.domain_layout.specs.volume_disk.Image.{Image, IsIn, SameOutside}
+use Rattle.domain_layout.specs.volume_disk.Run.{LeavesOnly, MayLeaveTorn, OnlyWrites, Touches}
+use Rattle.domain_layout.proofs.OfVolumeDisk.Bytes.{bytes_from-same}
+use Rattle.domain_layout.proofs.OfVolumeDisk.Laws.{leaves-now, only_writes-then, only_writes-wider, then_on}
+use Rattle.domain_layout.specs.disk_label.Anchor.{Counts, IsAnchor, gate_of, volume_of}
+use Rattle.domain_layout.specs.disk_label.Body.{anchor_from}
+use Rattle.domain_layout.specs.disk_label.Slot.{HasAnchor, HasNoAnchorOn, IsGateOf, IsOnAnchors}
+use Rattle.domain_layout.proofs.OfDiskLabel.Elsewhere.{anchor_since}
+use Rattle.domain_layout.proofs.OfDiskLabel.Gates.{keeps_anchor_by_gates}
+use Rattle.domain_layout.proofs.OfDiskLabel.Slots.{Counts-same}
 use Rattle.domain_making.specs.Making.{AreSlotsReady, HasNoOtherAnchor}
 use Rattle.domain_making.specs.Written.{IsInFront}
 

@@ -7,3 +7,9 @@ pub mod NewBits
 pub mod NewCellsPage
 pub mod Regions
 pub mod Slots
+pub mod OfDomainLayout
+pub mod OfFilesetModel
+pub mod OfFilesetTable
+pub mod OfLegalHistories
+pub mod OfMetadataCells
+pub mod OfTagDirs

@@ -5,12 +5,12 @@ use Rattle.std.proofs.lemmas.Bool.{le-ltb}
 use Rattle.std.specs.FinSet.{FinSet, contains, contains-empty, empty, insert}
 use Rattle.std.specs.Int.{bit_at}
 use Rattle.std.specs.Ordering.{nat_cmp}
-use Rattle.domain_base.specs.Version.{bitmap_pages, most_pages}
-use Rattle.domain_base.specs.declared.version.Version.{Version}
-use Rattle.domain_base.specs.declared.version.Version.TheVariants.{Three, Four}
-use Rattle.storage_bitmap.specs.Bits.{ShowsMap, is_set}
-use Rattle.storage_bitmap.specs.VolumePages.{VolumePages}
-use Rattle.storage_bitmap.proofs.Used.{contains-inserted}
+use Rattle.domain_layout.specs.domain_base.Version.{bitmap_pages, most_pages}
+use Rattle.domain_layout.specs.domain_base.declared.version.Version.{Version}
+use Rattle.domain_layout.specs.domain_base.declared.version.Version.TheVariants.{Three, Four}
+use Rattle.domain_layout.specs.free_space.Bits.{ShowsMap, is_set}
+use Rattle.domain_layout.specs.free_space.VolumePages.{VolumePages}
+use Rattle.domain_layout.proofs.OfFreeSpace.Used.{contains-inserted}
 use Rattle.domain_making.specs.Pages.{IsUsedTo}
 
 -- ---- the pages that are used

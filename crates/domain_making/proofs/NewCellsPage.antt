@@ -2,23 +2,23 @@
 use Rattle.std.proofs.Common.{◌≡◌, ◌∙◌, ◌&&◌, ◌==◌, ℕ, ◌^◌, ◌<◌, ◌≤◌, cond, true, false, nat_lt, List, [], ◌∷◌, Option, Some, None, IfSome, IsSomeAnd, length, length-append, refl, sym, ap, subst, arith}
 use Rattle.std.proofs.lemmas.Bool.{and_right, lt-ltb, ne_eqb}
 use Rattle.std.specs.Option.{option_and_then, option_map}
-use Rattle.domain_base.specs.Version.{bitmap_pages}
-use Rattle.domain_base.specs.declared.place.CellAt.{CellAt}
-use Rattle.domain_base.specs.declared.place.Home.{Home}
-use Rattle.domain_base.specs.declared.version.Version.{Version}
-use Rattle.domain_base.specs.declared.version.Version.TheVariants.{Three, Four}
-use Rattle.page_store.specs.Pages.{Pages, with_page}
-use Rattle.record_table.specs.Records.{Allowed, spelling}
-use Rattle.record_table.specs.declared.record.Record.{Record}
-use Rattle.record_table.specs.declared.record.Record.TheVariants as written
-use Rattle.record_table.proofs.WholeRecord.{length-spelling}
-use Rattle.bmt_mcells.specs.Cell.{AreRecords, Cell, IsCell, IsFreeCell, spellings}
-use Rattle.bmt_mcells.specs.CellPage.{HasPlace, IsCellPage, IsEmptyPage, KeepsHeaders, KeepsWellFormed, cell_at, cell_of, header, home_of, index_of, is_cell_page, next_of}
-use Rattle.bmt_mcells.specs.Chain.{LeavesOthers, StandsAt, is_at}
-use Rattle.bmt_mcells.specs.declared.head.CellKind.TheVariants.{Volume}
-use Rattle.bmt_mcells.proofs.Changed.{same_itself}
-use Rattle.layout_laws.specs.NewDomain.{IsNewCells}
-use Rattle.layout_laws.proofs.OnePage.{HasOne, one_of, some_same}
+use Rattle.domain_layout.specs.domain_base.Version.{bitmap_pages}
+use Rattle.domain_layout.specs.domain_base.declared.place.CellAt.{CellAt}
+use Rattle.domain_layout.specs.domain_base.declared.place.Home.{Home}
+use Rattle.domain_layout.specs.domain_base.declared.version.Version.{Version}
+use Rattle.domain_layout.specs.domain_base.declared.version.Version.TheVariants.{Three, Four}
+use Rattle.domain_layout.specs.page_store.Pages.{Pages, with_page}
+use Rattle.domain_layout.specs.cell_records.Records.{Allowed, spelling}
+use Rattle.domain_layout.specs.cell_records.declared.record.Record.{Record}
+use Rattle.domain_layout.specs.cell_records.declared.record.Record.TheVariants as written
+use Rattle.domain_layout.proofs.OfCellRecords.WholeRecord.{length-spelling}
+use Rattle.domain_layout.specs.metadata_cells.Cell.{AreRecords, Cell, IsCell, IsFreeCell, spellings}
+use Rattle.domain_layout.specs.metadata_cells.CellPage.{HasPlace, IsCellPage, IsEmptyPage, KeepsHeaders, KeepsWellFormed, cell_at, cell_of, header, home_of, index_of, is_cell_page, next_of}
+use Rattle.domain_layout.specs.metadata_cells.Chain.{LeavesOthers, StandsAt, is_at}
+use Rattle.domain_layout.specs.metadata_cells.declared.head.CellKind.TheVariants.{Volume}
+use Rattle.domain_layout.proofs.OfMetadataCells.Changed.{same_itself}
+use Rattle.domain_layout.specs.NewDomain.{IsNewCells}
+use Rattle.domain_layout.proofs.OnePage.{HasOne, one_of, some_same}
 use Rattle.domain_making.specs.Making.{new_frame}
 
 -- ---- the record

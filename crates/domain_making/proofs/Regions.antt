@@ -3,20 +3,20 @@ use Rattle.std.proofs.Common.{◌≡◌, ◌∙◌, ◌%◌, ◌-◌, ℕ, ◌+�
 use Rattle.std.proofs.lemmas.List.{length-replicate}
 use Rattle.std.specs.List.{flat_map}
 use Rattle.byteorder.specs.Endian.{little_bytes}
-use Rattle.domain_base.specs.Gate.{closed}
-use Rattle.domain_base.specs.Version.{bitmap_pages, number_of}
-use Rattle.domain_base.specs.declared.version.Version.{Version}
-use Rattle.storage_bitmap.specs.Bits.{ShowsMap}
-use Rattle.volume_disk.specs.Disk.{AreBlocks, Disk, HasVolume, Moment, Syncs, Writes, volume_pages}
-use Rattle.volume_disk.specs.Image.{HasBytes, Image, IsIn, page_at}
-use Rattle.volume_disk.specs.Run.{OnlyWrites}
-use Rattle.volume_disk.proofs.Laws.{only_writes-wider}
-use Rattle.log_ring.proofs.HomePages.{bytes_there}
-use Rattle.volume_disk.specs.Gate.{IsOpenAt}
-use Rattle.volume_disk.proofs.Bytes.{bytes_from-same}
-use Rattle.disk_label.specs.Label.{label_bytes}
-use Rattle.disk_label.proofs.Bodies.{length-written}
-use Rattle.disk_label.specs.declared.first_pages.FirstPages.{FirstPages}
+use Rattle.domain_layout.specs.domain_base.Gate.{closed}
+use Rattle.domain_layout.specs.domain_base.Version.{bitmap_pages, number_of}
+use Rattle.domain_layout.specs.domain_base.declared.version.Version.{Version}
+use Rattle.domain_layout.specs.free_space.Bits.{ShowsMap}
+use Rattle.domain_layout.specs.volume_disk.Disk.{AreBlocks, Disk, HasVolume, Moment, Syncs, Writes, volume_pages}
+use Rattle.domain_layout.specs.volume_disk.Image.{HasBytes, Image, IsIn, page_at}
+use Rattle.domain_layout.specs.volume_disk.Run.{OnlyWrites}
+use Rattle.domain_layout.proofs.OfVolumeDisk.Laws.{only_writes-wider}
+use Rattle.domain_layout.proofs.OfLogRing.HomePages.{bytes_there}
+use Rattle.domain_layout.specs.volume_disk.Gate.{IsOpenAt}
+use Rattle.domain_layout.proofs.OfVolumeDisk.Bytes.{bytes_from-same}
+use Rattle.domain_layout.specs.disk_label.Label.{label_bytes}
+use Rattle.domain_layout.proofs.OfDiskLabel.Bodies.{length-written}
+use Rattle.domain_layout.specs.disk_label.declared.first_pages.FirstPages.{FirstPages}
 use Rattle.domain_making.specs.declared.pages.NewPages.{NewPages}
 use Rattle.domain_making.specs.Written.{HasNewPages, IsOnPages}
 

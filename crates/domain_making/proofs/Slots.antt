@@ -1,13 +1,13 @@
 -- Both slots of the first volume made ready, one after the other.
 use Rattle.std.proofs.Common.{◌∙◌, ℕ, ◌+◌, ◌*◌, ◌≤◌, None, sym, subst, arith}
-use Rattle.domain_base.specs.declared.version.Version.{Version}
-use Rattle.volume_disk.specs.Disk.{Disk, Tells}
-use Rattle.volume_disk.specs.Image.{IsIn}
-use Rattle.volume_disk.specs.Run.{LeavesOnly, OnlyWrites, Touches}
-use Rattle.volume_disk.proofs.Laws.{leaves-now, then_on, touches-then, touches-wider}
-use Rattle.disk_label.specs.Anchor.{IsAnchor}
-use Rattle.disk_label.specs.Label.{label_bytes}
-use Rattle.disk_label.specs.Slot.{HasAnchor, HasReadied, IsBody, IsReady, ReadiesSlot, StaysSynced}
+use Rattle.domain_layout.specs.domain_base.declared.version.Version.{Version}
+use Rattle.domain_layout.specs.volume_disk.Disk.{Disk, Tells}
+use Rattle.domain_layout.specs.volume_disk.Image.{IsIn}
+use Rattle.domain_layout.specs.volume_disk.Run.{LeavesOnly, OnlyWrites, Touches}
+use Rattle.domain_layout.proofs.OfVolumeDisk.Laws.{leaves-now, then_on, touches-then, touches-wider}
+use Rattle.domain_layout.specs.disk_label.Anchor.{IsAnchor}
+use Rattle.domain_layout.specs.disk_label.Label.{label_bytes}
+use Rattle.domain_layout.specs.disk_label.Slot.{HasAnchor, HasReadied, IsBody, IsReady, ReadiesSlot, StaysSynced}
 use Rattle.domain_making.specs.Making.{AreSlotsReady}
 use Rattle.domain_making.specs.Written.{HasNewLabel, IsFirstSynced, IsInFront}
 use Rattle.domain_making.proofs.Regions.{bytes_same, length-label}

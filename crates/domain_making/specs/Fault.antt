@@ -1,10 +1,10 @@
 -- Why no domain is made, and what has happened then.
 use Rattle.std.specs.Prelude.{◌≡◌, ◌⊎◌, ◌<◌}
-use Rattle.domain_base.specs.Limits.{min_first_volume_pages}
-use Rattle.volume_disk.specs.Disk.{Disk, volume_pages}
-use Rattle.disk_label.specs.Fault.{HasSlotCause}
-use Rattle.disk_label.specs.declared.fault.SlotFault.{SlotFault}
-use Rattle.disk_label.specs.declared.fault.SlotFault.TheVariants.{Read, Write}
+use Rattle.domain_layout.specs.domain_base.Limits.{min_first_volume_pages}
+use Rattle.domain_layout.specs.volume_disk.Disk.{Disk, volume_pages}
+use Rattle.domain_layout.specs.disk_label.Fault.{HasSlotCause}
+use Rattle.domain_layout.specs.disk_label.declared.fault.SlotFault.{SlotFault}
+use Rattle.domain_layout.specs.disk_label.declared.fault.SlotFault.TheVariants.{Read, Write}
 use Rattle.domain_making.specs.declared.fault.MakeFault.{MakeFault}
 use Rattle.domain_making.specs.declared.fault.MakeFault.TheVariants.{VolumeSmall, Fault, OutOfMemory}
 

@@ -3,3 +3,25 @@ pub mod Laws
 pub mod Making
 pub mod Pages
 pub mod Written
+pub use Rattle.domain_layout.specs.cell_records
+pub use Rattle.domain_layout.specs.directory_pages
+pub use Rattle.domain_layout.specs.directory_rows
+pub use Rattle.domain_layout.specs.disk_label
+pub use Rattle.domain_layout.specs.domain_base
+pub use Rattle.domain_layout.specs as domain_layout
+pub use Rattle.domain_layout.specs.extent_maps
+pub use Rattle.domain_layout.specs.extent_records
+pub use Rattle.domain_layout.specs.file_chains
+pub use Rattle.domain_layout.specs.fileset_files
+pub use Rattle.domain_layout.specs.fileset_model
+pub use Rattle.domain_layout.specs.fileset_table
+pub use Rattle.domain_layout.specs.fileset_values
+pub use Rattle.domain_layout.specs.free_space
+pub use Rattle.domain_layout.specs.legal_histories
+pub use Rattle.domain_layout.specs.log_recovery
+pub use Rattle.domain_layout.specs.log_ring
+pub use Rattle.domain_layout.specs.metadata_cells
+pub use Rattle.domain_layout.specs.name_space
+pub use Rattle.domain_layout.specs.page_store
+pub use Rattle.domain_layout.specs.tag_dirs
+pub use Rattle.domain_layout.specs.volume_disk

@@ -1,21 +1,21 @@
 -- Domains that are made.
 use Rattle.std.specs.Prelude.{◌≡◌, ◌≢◌, ◌⊎◌, ◌≤◌, ℕ, false, List, [], ◌∷◌, Some, None, min}
 use Rattle.std.specs.FinMap.{empty}
-use Rattle.domain_base.specs.Limits.{log_pages, min_first_volume_pages}
-use Rattle.domain_base.specs.Version.{most_pages, number_of}
-use Rattle.domain_base.specs.declared.version.Version.{Version}
-use Rattle.volume_disk.specs.Disk.{Disk, MayLeave, volume_pages}
-use Rattle.volume_disk.specs.Image.{Image, Places}
-use Rattle.disk_label.specs.Anchor.{Counts, IsAnchor, IsNext, volume_of}
-use Rattle.disk_label.specs.Body.{no_member}
-use Rattle.disk_label.specs.FirstPages.{first_pages}
-use Rattle.disk_label.specs.Slot.{IsReady, IsReadyFor}
-use Rattle.disk_label.specs.declared.anchor.Anchor.{Anchor}
-use Rattle.log_ring.specs.Groups.{HasLog, pages_in}
-use Rattle.log_recovery.specs.Outcome.{HasGoodAnchor}
+use Rattle.domain_layout.specs.domain_base.Limits.{log_pages, min_first_volume_pages}
+use Rattle.domain_layout.specs.domain_base.Version.{most_pages, number_of}
+use Rattle.domain_layout.specs.domain_base.declared.version.Version.{Version}
+use Rattle.domain_layout.specs.volume_disk.Disk.{Disk, MayLeave, volume_pages}
+use Rattle.domain_layout.specs.volume_disk.Image.{Image, Places}
+use Rattle.domain_layout.specs.disk_label.Anchor.{Counts, IsAnchor, IsNext, volume_of}
+use Rattle.domain_layout.specs.disk_label.Body.{no_member}
+use Rattle.domain_layout.specs.disk_label.FirstPages.{first_pages}
+use Rattle.domain_layout.specs.disk_label.Slot.{IsReady, IsReadyFor}
+use Rattle.domain_layout.specs.disk_label.declared.anchor.Anchor.{Anchor}
+use Rattle.domain_layout.specs.log_ring.Groups.{HasLog, pages_in}
+use Rattle.domain_layout.specs.log_recovery.Outcome.{HasGoodAnchor}
 use Rattle.domain_layout.specs.Reached.{Frame}
 use Rattle.domain_layout.specs.Read.{Means}
-use Rattle.layout_laws.specs.NewDomain.{IsNew}
+use Rattle.domain_layout.specs.NewDomain.{IsNew}
 
 -- the pages of volume 1 that a domain of this version uses
 abbrev pub pages_in_use : Version → List ℕ → ℕ

@@ -1,12 +1,12 @@
 -- The pages of a domain that was just made, but for those of label, anchors and log.
 use Rattle.std.specs.Prelude.{◌≡◌, ◌+◌, ◌<◌, ℕ, nat_le, IsSomeAnd}
 use Rattle.std.specs.FinSet.{contains}
-use Rattle.domain_base.specs.declared.version.Version.{Version}
-use Rattle.storage_bitmap.specs.VolumePages.{VolumePages}
-use Rattle.disk_label.specs.FirstPages.{first_pages}
-use Rattle.page_store.specs.Pages.{Pages}
+use Rattle.domain_layout.specs.domain_base.declared.version.Version.{Version}
+use Rattle.domain_layout.specs.free_space.VolumePages.{VolumePages}
+use Rattle.domain_layout.specs.disk_label.FirstPages.{first_pages}
+use Rattle.domain_layout.specs.page_store.Pages.{Pages}
 use Rattle.domain_layout.specs.Reached.{Frame}
-use Rattle.layout_laws.specs.NewDomain.{IsNewBitmap, IsNewCells, IsNewTablePage, firsts, on_first}
+use Rattle.domain_layout.specs.NewDomain.{IsNewBitmap, IsNewCells, IsNewTablePage, firsts, on_first}
 use Rattle.domain_making.specs.Making.{new_frame}
 use Rattle.domain_making.specs.declared.pages.NewPages.{NewPages}
 

@@ -1,14 +1,14 @@
 -- What was written to the first volume so far.
 use Rattle.std.specs.Prelude.{◌≡◌, ◌*◌, ◌-◌, ℕ, false, List}
-use Rattle.domain_base.specs.Limits.{page_bytes}
-use Rattle.domain_base.specs.declared.version.Version.{Version}
-use Rattle.storage_bitmap.specs.Bits.{ShowsMap}
-use Rattle.volume_disk.specs.Disk.{Moment}
-use Rattle.volume_disk.specs.Gate.{IsOpenAt}
-use Rattle.volume_disk.specs.Image.{HasBytes, Image, IsIn, Places, page_at}
-use Rattle.disk_label.specs.FirstPages.{label_page}
-use Rattle.disk_label.specs.Label.{label_bytes}
-use Rattle.disk_label.specs.declared.first_pages.FirstPages.{FirstPages}
+use Rattle.domain_layout.specs.domain_base.Limits.{page_bytes}
+use Rattle.domain_layout.specs.domain_base.declared.version.Version.{Version}
+use Rattle.domain_layout.specs.free_space.Bits.{ShowsMap}
+use Rattle.domain_layout.specs.volume_disk.Disk.{Moment}
+use Rattle.domain_layout.specs.volume_disk.Gate.{IsOpenAt}
+use Rattle.domain_layout.specs.volume_disk.Image.{HasBytes, Image, IsIn, Places, page_at}
+use Rattle.domain_layout.specs.disk_label.FirstPages.{label_page}
+use Rattle.domain_layout.specs.disk_label.Label.{label_bytes}
+use Rattle.domain_layout.specs.disk_label.declared.first_pages.FirstPages.{FirstPages}
 use Rattle.domain_making.specs.declared.pages.NewPages.{NewPages}
 
 -- all of the first volume is synced

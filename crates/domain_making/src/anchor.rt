@@ -1,13 +1,12 @@
 //! The anchor of a domain that was just made.
 ghost use Rattle.std.specs.Prelude.{◌≡◌, ◌≤◌};
-ghost use Rattle.domain_base.specs.Version.{most_pages};
+ghost use Rattle.domain_layout.specs.domain_base.Version.{most_pages};
 ghost use Rattle.domain_making.specs.Making.{new_anchor as anchor_of};
 
-use disk_label::{Anchor, FirstPages, Member};
-use domain_base::limits::LOG_PAGES;
-use domain_base::{Home, Version, VolIx};
+use domain_layout::limits::LOG_PAGES;
+use domain_layout::{Anchor, FirstPages, Home, Member, Version, VolIx};
 
-/// A volume that is no member.
+/// A volume that is not a member.
 const NO_MEMBER: Member = Member { pages: 0, state: 0 };
 
 /// The state of an open member.
@@ -23,9 +22,9 @@ pub(crate) fn first_volume() -> VolIx
     vol
 }
 
-/// The anchor of a domain that was just made in this version on a volume of which so many pages are
-/// used: number 1 in slot 0, a log that begins at its first place with group 1, and no member but
-/// volume 1.
+/// The anchor of a domain that was just made in this version on a volume with so many used pages of
+/// 8,192 bytes: number 1 in slot 0, a log that begins at its first place with group 1, and no
+/// member except volume 1.
 pub fn new_anchor(version: Version, pages: u32) -> Anchor
     requires { pages ≤ most_pages version }
     ensures { result ≡ anchor_of version pages }

@@ -1,4 +1,4 @@
-//! The pages of a domain that was just made, put to those of a store.
+//! Adding the pages of a domain that was just made to those of a store.
 ghost use Rattle.std.specs.Prelude.{
   ◌≡◌,
   ◌+◌,
@@ -11,23 +11,20 @@ ghost use Rattle.std.specs.Prelude.{
   length,
   slice_index,
 };
-ghost use Rattle.domain_base.specs.Version.{bitmap_pages, most_pages};
-ghost use Rattle.disk_label.specs.FirstPages.{first_pages};
-ghost use Rattle.page_store.specs.Pages.{with_page};
-ghost use Rattle.layout_laws.specs.NewDomain.{IsNew, on_first};
+ghost use Rattle.domain_layout.specs.domain_base.Version.{bitmap_pages, most_pages};
+ghost use Rattle.domain_layout.specs.disk_label.FirstPages.{first_pages};
+ghost use Rattle.domain_layout.specs.page_store.Pages.{with_page};
+ghost use Rattle.domain_layout.specs.NewDomain.{IsNew, on_first};
 ghost use Rattle.domain_making.specs.Making.{new_frame};
 ghost use Rattle.domain_making.specs.Pages.{AreNew, HasNewBitmaps, IsUsedTo};
 
 use crate::NewPages;
 use crate::anchor::first_volume;
-use disk_label::FirstPages;
-use domain_base::limits::PAGE_BYTES;
-use domain_base::{Home, OutOfMemory, Page, Version};
-use page_store::MetaPages;
+use domain_layout::limits::PAGE_BYTES;
+use domain_layout::{Bitmap, FirstPages, Home, MetaPages, OutOfMemory, Page, Version};
 use std::alloc::Global;
-use storage_bitmap::Bitmap;
 
-/// The page of a bitmap with this number, of which these are the bytes.
+/// The page with this number of the bitmap that has these bytes.
 fn bitmap_page(alloc: Global, bytes: &[u8], number: u32) -> Result<Page, OutOfMemory>
     requires { 8192 * (number + 1) ≤ length bytes.now }
     ensures { IfOk result (λ page. (k : ℕ) → k < 8192
@@ -39,7 +36,7 @@ fn bitmap_page(alloc: Global, bytes: &[u8], number: u32) -> Result<Page, OutOfMe
     Ok(page)
 }
 
-/// Puts a page of volume 1 to those of a store.
+/// Adds a page of volume 1 to those of a store.
 fn put_on_first<M: MetaPages>(
     alloc: Global,
     store: &mut M,
@@ -59,7 +56,7 @@ fn put_on_first<M: MetaPages>(
     Ok(())
 }
 
-/// Puts the pages of a bitmap.
+/// Adds the pages of a bitmap.
 fn put_bitmap<M: MetaPages>(
     alloc: Global,
     store: &mut M,
@@ -82,7 +79,8 @@ fn put_bitmap<M: MetaPages>(
 }
 
 impl NewPages {
-    /// Puts these pages to those of a store, each at its home. After an error some may be there.
+    /// Adds these pages to those of a store, each at its home. After an error some may have been
+    /// added.
     pub fn bring_into<M: MetaPages>(
         &self,
         alloc: Global,

@@ -2,18 +2,18 @@
 ghost use Rattle.std.specs.Prelude.{◌≡◌};
 ghost use Rattle.domain_making.specs.declared.fault.MakeFault.TheVariants.{OutOfMemory};
 
-use domain_base::{OutOfMemory as NoMemory, VolIx};
+use domain_layout::{OutOfMemory as NoMemory, VolIx};
 use std::error::Error;
 use std::fmt;
 
 /// Why no domain is made.
 #[derive(Clone, Copy, Debug, PartialEq, Eq)]
 pub enum MakeFault {
-    /// Volume 1 has fewer pages than one on which a domain is made: so many.
+    /// Volume 1 has only `pages` pages of 8,192 bytes, fewer than a domain needs.
     VolumeSmall { pages: u32 },
     /// A read, a write or a sync of this volume failed.
     Fault { vol: VolIx },
-    /// No memory could be had.
+    /// Memory ran out.
     OutOfMemory,
 }
 

@@ -14,3 +14,6 @@ pub use fault::MakeFault;
 pub use laws::making_laws;
 pub use making::{make_domain, pages_to_use};
 pub use pages::NewPages;
+
+// What stands below and is named above.
+pub use domain_layout::{Anchor, OutOfMemory, Rack, RecoverFault, Version, VolIx, recover};

@@ -1,9 +1,9 @@
-//! A domain that is made.
+//! Making a domain.
 ghost use Rattle.std.specs.Prelude.{◌≡◌, ◌<◌, Err, IfErr, IfOk, OnOk};
-ghost use Rattle.domain_base.specs.Limits.{min_first_volume_pages};
-ghost use Rattle.volume_disk.specs.Disk.{HasVolume, Tells, volume_pages};
-ghost use Rattle.volume_disk.specs.Run.{LeavesOnly, Touches};
-ghost use Rattle.disk_label.specs.Fault.{HasPassed};
+ghost use Rattle.domain_layout.specs.domain_base.Limits.{min_first_volume_pages};
+ghost use Rattle.domain_layout.specs.volume_disk.Disk.{HasVolume, Tells, volume_pages};
+ghost use Rattle.domain_layout.specs.volume_disk.Run.{LeavesOnly, Touches};
+ghost use Rattle.domain_layout.specs.disk_label.Fault.{HasPassed};
 ghost use Rattle.domain_making.specs.Fault.{HasCause, IsFaultOf};
 ghost use Rattle.domain_making.specs.Making.{
   AreSlotsReady,
@@ -22,13 +22,11 @@ use crate::MakeFault;
 use crate::anchor::{first_volume, new_anchor};
 use crate::pages::NewPages;
 use crate::writing::write_domain;
-use disk_label::{Anchor, SlotFault, usable_pages};
-use domain_base::Version;
-use domain_base::limits::MIN_FIRST_VOLUME_PAGES;
+use domain_layout::limits::MIN_FIRST_VOLUME_PAGES;
+use domain_layout::{Anchor, Rack, SlotFault, Version, usable_pages};
 use std::alloc::Global;
-use volume_disk::Rack;
 
-/// What the fault of a slot is to a making.
+/// The fault of making for the fault of a slot.
 fn fault_of(fault: SlotFault) -> MakeFault
     ensures { IsFaultOf fault result }
 {
@@ -45,11 +43,11 @@ pub fn pages_to_use<R: Rack>(rack: &R, version: Version) -> u32
 }
 
 impl NewPages {
-    /// Those of a domain that is made in this version on volume 1 of a rack: all the memory that a
-    /// making wants. The rack is left alone.
+    /// The pages of a domain that is made in this version on volume 1 of a rack: all the memory
+    /// that making a domain needs. The rack is left alone.
     ///
-    /// `VolumeSmall` comes exactly where volume 1 has fewer than 160 pages; else there may only be no
-    /// memory.
+    /// Returns `VolumeSmall` if and only if volume 1 has fewer than 160 pages. Otherwise fails only
+    /// if memory runs out.
     pub fn on_rack<R: Rack>(
         alloc: Global,
         rack: &R,
@@ -96,18 +94,19 @@ impl NewPages {
     }
 }
 
-/// Makes an empty domain of this version on volume 1, whatever that volume held, and answers its
-/// anchor: number 1 in slot 0, with the first group at the first place of the log. Of a volume with
-/// more pages than the version allows it uses the first ones.
+/// Makes an empty domain of this version on volume 1, whatever that volume held, and returns its
+/// anchor: number 1 in slot 0, with the first group at the first place of the log. If the volume
+/// has more pages than the version allows, only the first ones are used.
 ///
-/// Both slots of anchors are closed ahead of anything else. The pages are written behind that, and
-/// synced, and the anchor comes last. So where no anchor could count before, each image that a
-/// stop leaves meanwhile has none, or is the empty domain. Where the volume had a domain, that is
-/// gone as soon as the first gate is closed.
+/// Both slots of anchors are closed before anything else. The pages are written after that, and
+/// synced, and the anchor comes last. So if no anchor could count before, each image that a stop
+/// leaves on the way has none, or is the empty domain. If the volume had a domain, that is gone as
+/// soon as the first gate is closed.
 ///
 /// No image that a stop may leave at the start may have an anchor that counts on another volume.
-/// `VolumeSmall` comes exactly where volume 1 has fewer than 160 pages, and `Fault` where one call
-/// of the volume that it names failed. Nothing is written at `VolumeSmall`, nor at `OutOfMemory`.
+/// Returns `VolumeSmall` if and only if volume 1 has fewer than 160 pages of 8,192 bytes, and
+/// `Fault` only if a call of the volume that it names failed. Nothing is written at `VolumeSmall`,
+/// nor at `OutOfMemory`.
 pub fn make_domain<R: Rack>(
     alloc: Global,
     rack: &mut R,

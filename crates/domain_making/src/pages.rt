@@ -1,25 +1,21 @@
 //! The pages of a domain that was just made, before they are written.
 ghost use Rattle.std.specs.Prelude.{◌≡◌, ◌∷◌, ◌<◌, ◌≤◌, [], IfOk, IsSomeAnd, OnOk};
-ghost use Rattle.domain_base.specs.Version.{bitmap_pages, most_pages};
-ghost use Rattle.record_table.specs.declared.record.Record.TheVariants.{Volume};
-ghost use Rattle.disk_label.specs.FirstPages.{first_pages};
-ghost use Rattle.bmt_mcells.specs.CellPage.{IsEmptyPage};
-ghost use Rattle.layout_laws.specs.NewDomain.{IsNewCells, IsNewTablePage};
+ghost use Rattle.domain_layout.specs.domain_base.Version.{bitmap_pages, most_pages};
+ghost use Rattle.domain_layout.specs.cell_records.declared.record.Record.TheVariants.{Volume};
+ghost use Rattle.domain_layout.specs.disk_label.FirstPages.{first_pages};
+ghost use Rattle.domain_layout.specs.metadata_cells.CellPage.{IsEmptyPage};
+ghost use Rattle.domain_layout.specs.NewDomain.{IsNewCells, IsNewTablePage};
 ghost use Rattle.domain_making.specs.Making.{new_frame};
 ghost use Rattle.domain_making.specs.Pages.{AreNew, IsUsedTo};
 
 use crate::anchor::first_volume;
-use bmt_mcells::{CellHead, CellKind, RecordList, empty_page, write_cell};
-use disk_label::FirstPages;
-use domain_base::{CellAt, Home, OutOfMemory, Page, Version};
-use fileset_table::FilesetTable;
-use memory_store::MemoryPages;
-use page_store::MetaPages;
-use record_table::Record;
+use domain_layout::{
+    Bitmap, CellAt, CellHead, CellKind, FilesetTable, FirstPages, Home, MemoryPages, MetaPages,
+    OutOfMemory, Page, Record, RecordList, Version, empty_page, write_cell,
+};
 use std::alloc::Global;
-use storage_bitmap::Bitmap;
 
-/// The pages of a domain that was just made, but for those of label, anchors and log.
+/// The pages of a domain that was just made, except for those of label, anchors and log.
 #[derive(Drop)]
 pub struct NewPages {
     /// Which pages of the volume are used.
@@ -30,7 +26,7 @@ pub struct NewPages {
     pub(crate) table: Page,
 }
 
-/// The bitmap of a volume of so many pages, of which those up to the last one are used.
+/// The bitmap of a volume of `pages` pages, with those up to page `last` used.
 fn new_bitmap(alloc: Global, pages: u32, last: u32) -> Result<Bitmap, OutOfMemory>
     requires { last < pages }
     ensures { IfOk result (IsUsedTo pages last) }
@@ -94,7 +90,7 @@ fn put_volume_cell<M: MetaPages>(
     write_cell(store, at, &head, records);
 }
 
-/// The first page of cells of a volume of so many pages: its first cell says the volume, and all
+/// The first page of cells of a volume of `pages` pages: its first cell says the volume, and all
 /// others are free.
 fn new_cells(alloc: Global, version: Version, pages: u32) -> Result<Page, OutOfMemory>
     requires { pages ≤ most_pages version }
@@ -125,7 +121,7 @@ fn new_table(alloc: Global) -> Result<Page, OutOfMemory>
 }
 
 impl NewPages {
-    /// Those of a domain that is made in this version on a volume of which so many pages are used.
+    /// The pages of a domain that is made in this version on a volume with `pages` used pages.
     pub(crate) fn new(alloc: Global, version: Version, pages: u32) -> Result<NewPages, OutOfMemory>
         requires some { (first_pages version pages).table < pages }
         requires most { pages ≤ most_pages version }

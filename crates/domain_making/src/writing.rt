@@ -1,14 +1,14 @@
-//! A domain that was just made, written to the first volume of a rack.
+//! Writing a domain that was just made to the first volume of a rack.
 ghost use Rattle.std.specs.Prelude.{◌≡◌, ◌+◌, ◌*◌, ◌%◌, ◌<◌, ◌≤◌, None, IfErr, OnOk, length};
-ghost use Rattle.domain_base.specs.Limits.{max_volume_pages_4};
-ghost use Rattle.domain_base.specs.Version.{most_pages};
-ghost use Rattle.volume_disk.specs.Disk.{HasVolume, Tells, Writes, volume_pages};
-ghost use Rattle.volume_disk.specs.Image.{IsIn};
-ghost use Rattle.volume_disk.specs.Run.{LeavesOnly, NamesWriteFault, OnlyWrites, Touches};
-ghost use Rattle.disk_label.specs.Anchor.{IsAnchor};
-ghost use Rattle.disk_label.specs.Fault.{HasPassed, HasSlotCause};
-ghost use Rattle.disk_label.specs.FirstPages.{first_pages};
-ghost use Rattle.disk_label.specs.Slot.{HasAnchor};
+ghost use Rattle.domain_layout.specs.domain_base.Limits.{max_volume_pages_4};
+ghost use Rattle.domain_layout.specs.domain_base.Version.{most_pages};
+ghost use Rattle.domain_layout.specs.volume_disk.Disk.{HasVolume, Tells, Writes, volume_pages};
+ghost use Rattle.domain_layout.specs.volume_disk.Image.{IsIn};
+ghost use Rattle.domain_layout.specs.volume_disk.Run.{LeavesOnly, NamesWriteFault, OnlyWrites, Touches};
+ghost use Rattle.domain_layout.specs.disk_label.Anchor.{IsAnchor};
+ghost use Rattle.domain_layout.specs.disk_label.Fault.{HasPassed, HasSlotCause};
+ghost use Rattle.domain_layout.specs.disk_label.FirstPages.{first_pages};
+ghost use Rattle.domain_layout.specs.disk_label.Slot.{HasAnchor};
 ghost use Rattle.domain_making.specs.Making.{
   AreSlotsReady,
   HasNoOtherAnchor,
@@ -29,13 +29,14 @@ ghost use Rattle.domain_making.specs.Written.{
 
 use crate::anchor::{first_volume, new_anchor};
 use crate::pages::NewPages;
-use disk_label::{FirstPages, SlotFault, close_gates, ready_slot, write_anchor, write_label};
-use domain_base::gate::closed_block;
-use domain_base::limits::BLOCKS_PER_PAGE;
-use domain_base::{Version, VolIx};
-use volume_disk::{Rack, sync_volume, write_blocks};
+use domain_layout::gate::closed_block;
+use domain_layout::limits::BLOCKS_PER_PAGE;
+use domain_layout::{
+    FirstPages, Rack, SlotFault, Version, VolIx, close_gates, ready_slot, sync_volume,
+    write_anchor, write_blocks, write_label,
+};
 
-/// Closes both slots of volume 1, and writes its label behind that.
+/// Closes both slots of volume 1, and then writes its label.
 fn write_first<R: Rack>(rack: &mut R, version: Version, pages: u32) -> Result<(), VolIx>
     requires there { HasVolume (R.disk rack.old) 1 }
     requires some { 2 ≤ pages }
@@ -75,7 +76,7 @@ fn ready_slots<R: Rack>(rack: &mut R) -> Result<(), SlotFault>
     }
 }
 
-/// Makes volume 1 one on which no anchor counts, with both slots ready, and with a label.
+/// Prepares volume 1: no anchor counts on it, both slots are ready, and it has a label.
 fn prepare<R: Rack>(rack: &mut R, version: Version, pages: u32) -> Result<(), SlotFault>
     requires there { HasVolume (R.disk rack.old) 1 }
     requires some { 2 ≤ pages }
@@ -98,7 +99,7 @@ fn prepare<R: Rack>(rack: &mut R, version: Version, pages: u32) -> Result<(), Sl
     }
 }
 
-/// Writes whole blocks of volume 1 from a page on, behind the anchors and up to the table.
+/// Writes whole blocks of volume 1 from a page on, after the anchors and up to the table.
 fn write_page<R: Rack>(
     rack: &mut R,
     firsts: &FirstPages,
@@ -150,7 +151,7 @@ fn write_pages<R: Rack>(
     sync_volume(rack, first_volume())
 }
 
-/// Writes the pages, and the anchor behind that.
+/// Writes the pages, and then the anchor.
 fn finish<R: Rack>(rack: &mut R, version: Version, pages: u32, new: &NewPages) -> Result<(), VolIx>
     requires there { HasVolume (R.disk rack.old) 1 }
     requires room { (first_pages version pages).table < pages }

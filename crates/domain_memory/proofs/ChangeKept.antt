@@ -5,41 +5,41 @@ use Rattle.std.proofs.lemmas.Bool.{cases_eq, cases_lt}
 use Rattle.std.specs.FinMap.{get}
 use Rattle.std.specs.FinSet.{contains}
 use Rattle.std.specs.Option.{is_some, option_map, unwrap_or}
-use Rattle.domain_base.specs.Version.{bitmap_pages, most_pages}
-use Rattle.domain_base.specs.declared.place.Home.{Home}
-use Rattle.domain_base.specs.declared.version.Version.{Version}
-use Rattle.domain_base.specs.declared.version.Version.TheVariants.{Three, Four}
-use Rattle.page_store.specs.Pages.{Pages}
-use Rattle.log_ring.specs.Homes.{IsMember, member_of}
-use Rattle.bmt_mcells.proofs.Changed.{homes_same}
-use Rattle.free_space.specs.Spaces.{change_volumes, kept_spaces, volume_of}
-use Rattle.free_space.specs.VolumeSpace.{VolumeSpace, as_kept, is_among, keeping}
-use Rattle.free_cells.specs.Cells.{Holds as HoldsCells, is_closed, is_free, kept_of, table_of, taken_back}
-use Rattle.fileset_model.specs.Filesets.{FilesetMap}
-use Rattle.quota_book.specs.Sums.{IsBookOf}
-use Rattle.domain_layout.specs.Filled.{Contents}
-use Rattle.domain_layout.specs.Read.{contents_of}
-use Rattle.bitmap_marks.specs.Marks.{bitmap_home, is_marked}
-use Rattle.bitmap_marks.specs.Marking.{ChangeBits, IsHeldIn, IsOfBitmap, IsPageIn, SayHeld}
-use Rattle.bitmap_marks.proofs.Volumes.{volume_changed}
-use Rattle.standing_laws.specs.Chains.{IndexesAt}
-use Rattle.standing_laws.specs.Domain.{DomainNow, item_in}
-use Rattle.standing_laws.specs.Holders.{AreHeldAt, Holder, Holds}
-use Rattle.standing_laws.specs.Sources.{StandAlone}
-use Rattle.standing_laws.specs.Standing.{HaveParents, IsMarkedBut, StandsDomain}
-use Rattle.deferred_delete.specs.Standing.{Files}
-use Rattle.page_ways.specs.Frame.{frame_in}
-use Rattle.quota_book.specs.Book.{Book}
+use Rattle.standing_laws.specs.domain_base.Version.{bitmap_pages, most_pages}
+use Rattle.standing_laws.specs.domain_base.declared.place.Home.{Home}
+use Rattle.standing_laws.specs.domain_base.declared.version.Version.{Version}
+use Rattle.standing_laws.specs.domain_base.declared.version.Version.TheVariants.{Three, Four}
+use Rattle.standing_laws.specs.page_store.Pages.{Pages}
+use Rattle.standing_laws.specs.log_ring.Homes.{IsMember, member_of}
+use Rattle.standing_laws.proofs.OfMetadataCells.Changed.{homes_same}
+use Rattle.standing_laws.specs.free_space.Spaces.{change_volumes, kept_spaces, volume_of}
+use Rattle.standing_laws.specs.free_space.VolumeSpace.{VolumeSpace, as_kept, is_among, keeping}
+use Rattle.standing_laws.specs.free_cells.Cells.{Holds as HoldsCells, is_closed, is_free, kept_of, table_of, taken_back}
+use Rattle.standing_laws.specs.fileset_model.Filesets.{FilesetMap}
+use Rattle.standing_laws.specs.quota_book.Sums.{IsBookOf}
+use Rattle.standing_laws.specs.domain_layout.Filled.{Contents}
+use Rattle.standing_laws.specs.domain_layout.Read.{contents_of}
+use Rattle.standing_laws.specs.free_cells.Marks.{bitmap_home, is_marked}
+use Rattle.standing_laws.specs.free_cells.Marking.{ChangeBits, IsHeldIn, IsOfBitmap, IsPageIn, SayHeld}
+use Rattle.standing_laws.proofs.OfFreeCells.MarkVolumes.{volume_changed}
+use Rattle.standing_laws.specs.domain_standing.Chains.{IndexesAt}
+use Rattle.standing_laws.specs.domain_standing.Domain.{DomainNow, item_in}
+use Rattle.standing_laws.specs.domain_standing.Holders.{AreHeldAt, Holder, Holds}
+use Rattle.standing_laws.specs.domain_standing.Sources.{StandAlone}
+use Rattle.standing_laws.specs.domain_standing.Standing.{HaveParents, IsMarkedBut, StandsDomain}
+use Rattle.standing_laws.specs.release_list.Standing.{Files}
+use Rattle.standing_laws.specs.page_ways.Frame.{frame_in}
+use Rattle.standing_laws.specs.quota_book.Book.{Book}
 use Rattle.staged_pages.specs.Store.{before_of, pages_of}
 use Rattle.staged_pages.specs.declared.pages.StagedPages.{StagedPages}
-use Rattle.domain_parts.specs.Listing.{HaveOnce, list_with}
-use Rattle.domain_parts.specs.Slots.{ChangesSlots, IsKept, slot_in}
+use Rattle.domain_memory.specs.Listing.{HaveOnce, list_with}
+use Rattle.domain_memory.specs.Slots.{ChangesSlots, IsKept, slot_in}
 use Rattle.domain_memory.specs.Memory.{StandsFor, kept_in, with_was}
 use Rattle.domain_memory.specs.Staged.{IsSettled, IsStaged, IsStagedForSome, MayBeKept, staged_in}
 use Rattle.domain_memory.specs.declared.memory.DomainMemory.{DomainMemory}
 use Rattle.domain_memory.proofs.KeptSpace.{kept_is}
 use Rattle.domain_memory.proofs.SlotsKept.{book_kept, book_same, places_kept, places_same}
-use Rattle.standing_laws.proofs.SourcesStay.{sources_stay}
+use Rattle.standing_laws.proofs.OfDomainStanding.SourcesStay.{sources_stay}
 use Rattle.standing_laws.specs.Leads.{StandsBelow}
 use Rattle.standing_laws.specs.OtherPages.{KeepsPages, KeepsWhere}
 use Rattle.standing_laws.proofs.MemoryKept.{all_kept_stands, below_kept}

@@ -2,20 +2,20 @@
 use Rattle.std.proofs.Common.{◌≡◌, ◌∙◌, ◌≤◌, ℕ, zero, suc, List, [], ◌∷◌, Option, Some, None, IfSome, IsSomeAnd, length, slice_get, take, refl, sym, ap, subst, arith}
 use Rattle.std.proofs.Math.Logic.{∥∥₁_map, ∥∥₁_map₂}
 use Rattle.std.specs.Option.{option_and_then}
-use Rattle.domain_base.specs.declared.place.Home.{Home}
-use Rattle.tag_dirs.specs.declared.dir.TagPlace.{TagPlace}
-use Rattle.fileset_model.specs.Filesets.{FilesetMap}
-use Rattle.fileset_table.specs.Page.{IsTablePage}
-use Rattle.fileset_table.specs.Table.{IsTable}
-use Rattle.fileset_table.specs.declared.slot.SlotItem.{SlotItem}
-use Rattle.domain_layout.specs.Layout.{AreTagPlaces, first_tag_of}
-use Rattle.layout_laws.proofs.OnePage.{one_of}
-use Rattle.standing_laws.specs.Chains.{StandsInSlot}
-use Rattle.standing_laws.specs.Domain.{DomainNow, item_in}
-use Rattle.standing_laws.specs.Standing.{StandsDomain}
-use Rattle.domain_parts.specs.Slots.{CanGoBack, ChangesSlot, ChangesSlots, HasNumber, IsKept, IsTakenBack, places_in, slot_in}
-use Rattle.domain_parts.specs.declared.slots.SlotFiles.{SlotFiles}
-use Rattle.domain_parts.proofs.TagsForgotten.{taken_was}
+use Rattle.standing_laws.specs.domain_base.declared.place.Home.{Home}
+use Rattle.standing_laws.specs.tag_dirs.declared.dir.TagPlace.{TagPlace}
+use Rattle.standing_laws.specs.fileset_model.Filesets.{FilesetMap}
+use Rattle.standing_laws.specs.fileset_table.Page.{IsTablePage}
+use Rattle.standing_laws.specs.fileset_table.Table.{IsTable}
+use Rattle.standing_laws.specs.fileset_table.declared.slot.SlotItem.{SlotItem}
+use Rattle.standing_laws.specs.domain_layout.Layout.{AreTagPlaces, first_tag_of}
+use Rattle.standing_laws.proofs.OfDomainLayout.OnePage.{one_of}
+use Rattle.standing_laws.specs.domain_standing.Chains.{StandsInSlot}
+use Rattle.standing_laws.specs.domain_standing.Domain.{DomainNow, item_in}
+use Rattle.standing_laws.specs.domain_standing.Standing.{StandsDomain}
+use Rattle.domain_memory.specs.Slots.{CanGoBack, ChangesSlot, ChangesSlots, HasNumber, IsKept, IsTakenBack, places_in, slot_in}
+use Rattle.domain_memory.specs.declared.slots.SlotFiles.{SlotFiles}
+use Rattle.domain_memory.proofs.TagsForgotten.{taken_was}
 use Rattle.domain_memory.specs.Memory.{with_was}
 use Rattle.domain_memory.specs.Staged.{IsStagedForSome, MayGoBack, staged_in}
 use Rattle.domain_memory.specs.declared.memory.DomainMemory.{DomainMemory}

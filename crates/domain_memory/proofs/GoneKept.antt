@@ -2,24 +2,24 @@
 use Rattle.std.proofs.Common.{◌≡◌, ◌∙◌, ℕ, Bool, true, false, List, [], Option, Some, None, IsSome, is_some, slice_get, refl, sym, ap, subst, true≢false}
 use Rattle.std.proofs.Math.Logic.{∥∥₁_elim}
 use Rattle.std.specs.Option.{option_and_then}
-use Rattle.domain_base.specs.declared.place.CellAt.{CellAt}
-use Rattle.domain_base.specs.declared.place.Home.{Home}
-use Rattle.domain_base.specs.declared.place.Tag.{Tag}
-use Rattle.page_store.specs.Pages.{Pages}
-use Rattle.tag_dirs.specs.Directory.{cell_of}
-use Rattle.tag_dirs.specs.declared.dir.TagPlace.{TagPlace}
-use Rattle.free_cells.specs.Cells.{is_free}
-use Rattle.bitfile_core.proofs.Tags.{cell_same, pages_same}
-use Rattle.bitmap_marks.specs.Marking.{ChangeBits}
-use Rattle.fileset_model.specs.Filesets.{FilesetMap}
-use Rattle.fileset_table.specs.declared.slot.SlotItem.{SlotItem}
-use Rattle.domain_layout.specs.Layout.{AreTagPlaces, first_tag_of}
-use Rattle.standing_laws.specs.Chains.{StandsInSlot}
-use Rattle.standing_laws.specs.Domain.{DomainNow}
-use Rattle.standing_laws.specs.Holders.{Holder}
-use Rattle.standing_laws.specs.Standing.{StandsDomain}
+use Rattle.standing_laws.specs.domain_base.declared.place.CellAt.{CellAt}
+use Rattle.standing_laws.specs.domain_base.declared.place.Home.{Home}
+use Rattle.standing_laws.specs.domain_base.declared.place.Tag.{Tag}
+use Rattle.standing_laws.specs.page_store.Pages.{Pages}
+use Rattle.standing_laws.specs.tag_dirs.Directory.{cell_of}
+use Rattle.standing_laws.specs.tag_dirs.declared.dir.TagPlace.{TagPlace}
+use Rattle.standing_laws.specs.free_cells.Cells.{is_free}
+use Rattle.standing_laws.proofs.OfFilesetFiles.Tags.{cell_same, pages_same}
+use Rattle.standing_laws.specs.free_cells.Marking.{ChangeBits}
+use Rattle.standing_laws.specs.fileset_model.Filesets.{FilesetMap}
+use Rattle.standing_laws.specs.fileset_table.declared.slot.SlotItem.{SlotItem}
+use Rattle.standing_laws.specs.domain_layout.Layout.{AreTagPlaces, first_tag_of}
+use Rattle.standing_laws.specs.domain_standing.Chains.{StandsInSlot}
+use Rattle.standing_laws.specs.domain_standing.Domain.{DomainNow}
+use Rattle.standing_laws.specs.domain_standing.Holders.{Holder}
+use Rattle.standing_laws.specs.domain_standing.Standing.{StandsDomain}
 use Rattle.staged_pages.specs.Store.{pages_of}
-use Rattle.domain_parts.specs.Slots.{ChangesSlots, IsKept, places_in, slot_in}
+use Rattle.domain_memory.specs.Slots.{ChangesSlots, IsKept, places_in, slot_in}
 use Rattle.domain_memory.specs.Going.{IsUsedIn, KeepsGone}
 use Rattle.domain_memory.specs.Staged.{IsStagedForSome, staged_in}
 use Rattle.domain_memory.specs.declared.memory.DomainMemory.{DomainMemory}

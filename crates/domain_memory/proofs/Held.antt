@@ -8,14 +8,14 @@ use Rattle.std.specs.List.{AllByRecursion, IsDistinct}
 use Rattle.std.specs.Option.{IfSome, option_map}
 use Rattle.std.specs.Ordering.{nat_cmp}
 use Rattle.std.specs.FinSet.{FinSet, contains, len, len-remove, remove}
-use Rattle.storage_bitmap.proofs.Used.{contains-removed, same_pages, some_used}
-use Rattle.free_space.specs.Sound.{AreSound, IsSoundVolume, same_page}
-use Rattle.free_space.specs.Spaces.{Spaces, change_volume, change_volumes, kept_spaces, volume_of}
-use Rattle.free_space.specs.VolumeSpace.{VolumeSpace, is_among, keeping, with_none_waiting, with_waiting, without_waiting}
-use Rattle.free_space.specs.declared.waiting.Waiting.{Waiting}
-use Rattle.free_space.proofs.Apart.{head_apart, tail_apart}
-use Rattle.free_space.proofs.Freeing.{contains-without_waiting}
-use Rattle.free_space.proofs.Kept.{kept-keeping}
+use Rattle.standing_laws.proofs.OfFreeSpace.Used.{contains-removed, same_pages, some_used}
+use Rattle.standing_laws.specs.free_space.Sound.{AreSound, IsSoundVolume, same_page}
+use Rattle.standing_laws.specs.free_space.Spaces.{Spaces, change_volume, change_volumes, kept_spaces, volume_of}
+use Rattle.standing_laws.specs.free_space.VolumeSpace.{VolumeSpace, is_among, keeping, with_none_waiting, with_waiting, without_waiting}
+use Rattle.standing_laws.specs.free_space.declared.waiting.Waiting.{Waiting}
+use Rattle.standing_laws.proofs.OfFreeSpace.Apart.{head_apart, tail_apart}
+use Rattle.standing_laws.proofs.OfFreeSpace.Freeing.{contains-without_waiting}
+use Rattle.standing_laws.proofs.OfFreeSpace.Kept.{kept-keeping}
 use Rattle.domain_memory.specs.Held.{held_if_open, held_open}
 use Rattle.domain_memory.specs.Memory.{kept_in}
 use Rattle.domain_memory.specs.declared.memory.DomainMemory.{DomainMemory}

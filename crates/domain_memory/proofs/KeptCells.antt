@@ -1,11 +1,11 @@
 -- Free cells that are the same in two layouts of the same tables.
 use Rattle.std.proofs.Common.{◌≡◌, ◌∙◌, ℕ, Contains, sym, subst}
-use Rattle.domain_base.specs.declared.place.CellAt.{CellAt}
-use Rattle.page_store.specs.Pages.{Pages}
-use Rattle.free_cells.specs.Cells.{Cells, is_closed, is_free, table_of}
-use Rattle.log_ring.specs.Homes.{IsMember}
-use Rattle.attached_space.specs.Space.{AreCellsOf, IsFreeAt, IsOpen}
-use Rattle.domain_layout.specs.Layout.{Layout}
+use Rattle.standing_laws.specs.domain_base.declared.place.CellAt.{CellAt}
+use Rattle.standing_laws.specs.page_store.Pages.{Pages}
+use Rattle.standing_laws.specs.free_cells.Cells.{Cells, is_closed, is_free, table_of}
+use Rattle.standing_laws.specs.log_ring.Homes.{IsMember}
+use Rattle.standing_laws.specs.domain_standing.Space.{AreCellsOf, IsFreeAt, IsOpen}
+use Rattle.standing_laws.specs.domain_layout.Layout.{Layout}
 
 module _ (pages : Pages) (one other : Layout) (same_anchor : other.anchor ≡ one.anchor) (tables : (vol : ℕ) → IsMember one.anchor vol → other.cells vol ≡ one.cells vol) where
   member : (vol : ℕ) → IsMember other.anchor vol → IsMember one.anchor vol

@@ -1,11 +1,11 @@
 -- Free space that was just kept.
 use Rattle.std.proofs.Common.{◌≡◌, ℕ, zero, suc, ◌-◌, List, [], ◌∷◌, Option, Some, None, map, slice_index_or, refl, sym, subst}
 use Rattle.std.specs.Option.{option_map}
-use Rattle.page_store.specs.Pages.{Pages}
-use Rattle.domain_layout.specs.Reached.{Frame}
-use Rattle.free_space.specs.Spaces.{Spaces, change_volumes, kept_spaces, volume_of}
-use Rattle.free_space.specs.VolumeSpace.{VolumeSpace, as_kept, keeping}
-use Rattle.attached_space.specs.Marks.{IsMarked, IsMarkedAt}
+use Rattle.standing_laws.specs.page_store.Pages.{Pages}
+use Rattle.standing_laws.specs.domain_layout.Reached.{Frame}
+use Rattle.standing_laws.specs.free_space.Spaces.{Spaces, change_volumes, kept_spaces, volume_of}
+use Rattle.standing_laws.specs.free_space.VolumeSpace.{VolumeSpace, as_kept, keeping}
+use Rattle.standing_laws.specs.domain_standing.Marks.{IsMarked, IsMarkedAt}
 
 kept_once : (o : Option VolumeSpace) → option_map as_kept (option_map keeping o) ≡ option_map keeping o
 kept_once None = refl

@@ -3,22 +3,22 @@ use Rattle.std.proofs.Common.{◌≡◌, ◌∙◌, ◌↔◌, ℕ, true, false,
 use Rattle.std.specs.FinMap.{get}
 use Rattle.std.specs.FinSet.{contains}
 use Rattle.std.specs.Option.{option_map}
-use Rattle.free_space.specs.Spaces.{kept_spaces, volume_of}
-use Rattle.free_space.specs.VolumeSpace.{VolumeSpace, as_kept, is_waiting, keeping}
-use Rattle.free_cells.specs.Cells.{taken_back}
-use Rattle.free_cells.proofs.Kept.{back_same}
-use Rattle.fileset_model.specs.Filesets.{FilesetMap}
-use Rattle.fileset_table.specs.Table.{Table}
-use Rattle.page_ways.specs.Frame.{frame_in}
-use Rattle.quota_book.specs.Book.{Book}
-use Rattle.quota_book.specs.Sums.{IsBookOf}
-use Rattle.bitmap_marks.specs.Marks.{is_marked}
-use Rattle.bitmap_marks.proofs.Volumes.{volume_changed}
-use Rattle.domain_layout.specs.Read.{contents_of}
-use Rattle.standing_laws.specs.Domain.{DomainNow}
-use Rattle.standing_laws.specs.Sources.{StandAlone}
-use Rattle.standing_laws.specs.Standing.{AreBooksOf, HaveParents, IsMarkedBut, StandsDomain}
-use Rattle.standing_laws.proofs.SourcesStay.{sources_stay}
+use Rattle.standing_laws.specs.free_space.Spaces.{kept_spaces, volume_of}
+use Rattle.standing_laws.specs.free_space.VolumeSpace.{VolumeSpace, as_kept, is_waiting, keeping}
+use Rattle.standing_laws.specs.free_cells.Cells.{taken_back}
+use Rattle.standing_laws.proofs.OfFreeCells.Kept.{back_same}
+use Rattle.standing_laws.specs.fileset_model.Filesets.{FilesetMap}
+use Rattle.standing_laws.specs.fileset_table.Table.{Table}
+use Rattle.standing_laws.specs.page_ways.Frame.{frame_in}
+use Rattle.standing_laws.specs.quota_book.Book.{Book}
+use Rattle.standing_laws.specs.quota_book.Sums.{IsBookOf}
+use Rattle.standing_laws.specs.free_cells.Marks.{is_marked}
+use Rattle.standing_laws.proofs.OfFreeCells.MarkVolumes.{volume_changed}
+use Rattle.standing_laws.specs.domain_layout.Read.{contents_of}
+use Rattle.standing_laws.specs.domain_standing.Domain.{DomainNow}
+use Rattle.standing_laws.specs.domain_standing.Sources.{StandAlone}
+use Rattle.standing_laws.specs.domain_standing.Standing.{AreBooksOf, HaveParents, IsMarkedBut, StandsDomain}
+use Rattle.standing_laws.proofs.OfDomainStanding.SourcesStay.{sources_stay}
 use Rattle.standing_laws.proofs.MemoryKept.{all_kept_stands, below_kept}
 use Rattle.standing_laws.specs.Sound.{IsSound}
 use Rattle.standing_laws.proofs.SoundInPlace.{sound_memory}

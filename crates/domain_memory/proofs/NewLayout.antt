@@ -1,18 +1,18 @@
 -- Where the pages of metadata of a domain that was just made stand.
 use Rattle.std.proofs.Common.{◌≡◌, ◌∙◌, ℕ, zero, suc, ◌<◌, List, [], ◌∷◌, Option, Some, None, IsSomeAnd, length, slice_index, refl, sym, subst, arith}
 use Rattle.std.specs.List.{AllByRecursion}
-use Rattle.domain_base.specs.Version.{number_of}
-use Rattle.page_store.specs.Pages.{Pages}
-use Rattle.fileset_table.specs.Page.{IsTablePage}
-use Rattle.fileset_table.specs.Table.{IsNewTable, Table}
-use Rattle.fileset_table.specs.declared.slot.SlotItem.{SlotItem}
-use Rattle.fileset_table.specs.declared.slot.SlotItem.TheVariants.{Free}
-use Rattle.disk_label.specs.FirstPages.{first_pages}
-use Rattle.log_ring.specs.Homes.{member_of}
-use Rattle.domain_layout.specs.Layout.{AreTagPlaces, IsCellTable, IsLayout, IsPageAt, Layout, first_tag_of}
-use Rattle.domain_layout.specs.Reached.{Frame}
-use Rattle.layout_laws.specs.NewDomain.{IsNew, IsNewCells, IsNewTablePage, firsts, on_first}
-use Rattle.layout_laws.proofs.NewTags.{all_free}
+use Rattle.standing_laws.specs.domain_base.Version.{number_of}
+use Rattle.standing_laws.specs.page_store.Pages.{Pages}
+use Rattle.standing_laws.specs.fileset_table.Page.{IsTablePage}
+use Rattle.standing_laws.specs.fileset_table.Table.{IsNewTable, Table}
+use Rattle.standing_laws.specs.fileset_table.declared.slot.SlotItem.{SlotItem}
+use Rattle.standing_laws.specs.fileset_table.declared.slot.SlotItem.TheVariants.{Free}
+use Rattle.standing_laws.specs.disk_label.FirstPages.{first_pages}
+use Rattle.standing_laws.specs.log_ring.Homes.{member_of}
+use Rattle.standing_laws.specs.domain_layout.Layout.{AreTagPlaces, IsCellTable, IsLayout, IsPageAt, Layout, first_tag_of}
+use Rattle.standing_laws.specs.domain_layout.Reached.{Frame}
+use Rattle.standing_laws.specs.domain_layout.NewDomain.{IsNew, IsNewCells, IsNewTablePage, firsts, on_first}
+use Rattle.standing_laws.proofs.OfDomainLayout.NewTags.{all_free}
 
 -- ---- one new table
 

@@ -3,18 +3,18 @@ use Rattle.std.proofs.Common.{◌≡◌, ◌∙◌, inr, ℕ, ◌*◌, ◌/◌, 
 use Rattle.std.specs.Prelude.{◌↔◌}
 use Rattle.std.specs.FinSet.{contains}
 use Rattle.std.specs.Option.{option_map_or}
-use Rattle.domain_base.specs.Version.{bitmap_pages, most_pages}
-use Rattle.domain_base.specs.declared.version.Version.{Version}
-use Rattle.domain_base.specs.declared.version.Version.TheVariants.{Three, Four}
-use Rattle.page_store.specs.Pages.{Pages}
-use Rattle.storage_bitmap.specs.Bits.{is_set}
-use Rattle.log_ring.specs.Homes.{IsMember, member_of}
-use Rattle.free_space.specs.Spaces.{IsHeld, Spaces, volume_of}
-use Rattle.free_space.specs.VolumeSpace.{VolumeSpace, is_among}
-use Rattle.attached_space.specs.Marks.{HasBitmaps, IsMarked, IsMarkedAt}
-use Rattle.bitmap_marks.specs.Marks.{bitmap_home, is_marked}
-use Rattle.domain_layout.specs.Reached.{Frame}
-use Rattle.layout_laws.specs.NewDomain.{IsNew, IsNewBitmap, size_of}
+use Rattle.standing_laws.specs.domain_base.Version.{bitmap_pages, most_pages}
+use Rattle.standing_laws.specs.domain_base.declared.version.Version.{Version}
+use Rattle.standing_laws.specs.domain_base.declared.version.Version.TheVariants.{Three, Four}
+use Rattle.standing_laws.specs.page_store.Pages.{Pages}
+use Rattle.standing_laws.specs.free_space.Bits.{is_set}
+use Rattle.standing_laws.specs.log_ring.Homes.{IsMember, member_of}
+use Rattle.standing_laws.specs.free_space.Spaces.{IsHeld, Spaces, volume_of}
+use Rattle.standing_laws.specs.free_space.VolumeSpace.{VolumeSpace, is_among}
+use Rattle.standing_laws.specs.domain_standing.Marks.{HasBitmaps, IsMarked, IsMarkedAt}
+use Rattle.standing_laws.specs.free_cells.Marks.{bitmap_home, is_marked}
+use Rattle.standing_laws.specs.domain_layout.Reached.{Frame}
+use Rattle.standing_laws.specs.domain_layout.NewDomain.{IsNew, IsNewBitmap, size_of}
 
 -- a page of a volume has its bit on a page of the bitmap
 in_bitmap : (version : Version) (pages page : ℕ) → pages ≤ most_pages version → page < pages → page / 65536 < bitmap_pages version pages

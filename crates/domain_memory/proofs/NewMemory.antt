@@ -1,41 +1,41 @@
 -- The memory of a domain that was just made stands for no fileset.
 use Rattle.std.proofs.Common.{◌≡◌, ◌∙◌, ℕ, ◌<◌, ◌≤◌, List, [], ◌∷◌, Option, Some, None, IsSomeAnd, replicate, refl, sym, ap, subst, arith}
 use Rattle.std.specs.FinMap.{empty}
-use Rattle.domain_base.specs.Version.{most_pages, number_of}
-use Rattle.domain_base.specs.declared.version.Version.{Version}
-use Rattle.page_store.specs.Pages.{Pages}
-use Rattle.log_recovery.specs.Range.{IsLogInside}
-use Rattle.log_ring.specs.Homes.{IsMember, member_of}
-use Rattle.free_cells.specs.Cells.{Cells, Holds, is_closed, is_free, table_of, taken_back}
-use Rattle.free_cells.specs.VolumeTable.{KeptTable}
-use Rattle.free_space.specs.Spaces.{Spaces, change_volumes, kept_spaces}
-use Rattle.free_space.specs.VolumeSpace.{keeping}
-use Rattle.disk_label.specs.FirstPages.{first_pages}
-use Rattle.fileset_table.specs.Page.{IsTablePage}
-use Rattle.fileset_table.specs.Table.{IsNewTable}
-use Rattle.fileset_table.specs.declared.slot.SlotItem.TheVariants as slot
-use Rattle.quota_book.specs.Book.{Book}
-use Rattle.deferred_delete.specs.Listing.{IsEmpty}
-use Rattle.attached_space.specs.Good.{AreGood}
-use Rattle.attached_space.specs.Marks.{IsMarked}
-use Rattle.attached_space.specs.Space.{AreCellsOf, AreFew, IsSpaceOf}
-use Rattle.attached_space.proofs.Marked.{marked_space}
-use Rattle.domain_layout.specs.Layout.{IsLayout, Layout}
-use Rattle.domain_layout.specs.Owners.{frame_of}
-use Rattle.domain_layout.specs.Reached.{Frame}
-use Rattle.domain_layout.proofs.NoTables.{none_of_tables}
-use Rattle.layout_laws.specs.NewDomain.{IsNew, IsNewTablePage, firsts, on_first, size_of}
-use Rattle.layout_laws.proofs.NewDomain.{no_fault}
-use Rattle.layout_laws.proofs.NewTags.{all_free, has_none}
-use Rattle.standing_laws.specs.Domain.{DomainNow, layout_of}
-use Rattle.standing_laws.specs.Sources.{StandAlone}
-use Rattle.standing_laws.specs.Standing.{AreBooksOf, HaveParents, IsMarkedBut, StandsDomain}
-use Rattle.standing_laws.proofs.NewDomain.{new_alone, new_stands}
+use Rattle.standing_laws.specs.domain_base.Version.{most_pages, number_of}
+use Rattle.standing_laws.specs.domain_base.declared.version.Version.{Version}
+use Rattle.standing_laws.specs.page_store.Pages.{Pages}
+use Rattle.standing_laws.specs.log_recovery.Range.{IsLogInside}
+use Rattle.standing_laws.specs.log_ring.Homes.{IsMember, member_of}
+use Rattle.standing_laws.specs.free_cells.Cells.{Cells, Holds, is_closed, is_free, table_of, taken_back}
+use Rattle.standing_laws.specs.free_cells.VolumeTable.{KeptTable}
+use Rattle.standing_laws.specs.free_space.Spaces.{Spaces, change_volumes, kept_spaces}
+use Rattle.standing_laws.specs.free_space.VolumeSpace.{keeping}
+use Rattle.standing_laws.specs.disk_label.FirstPages.{first_pages}
+use Rattle.standing_laws.specs.fileset_table.Page.{IsTablePage}
+use Rattle.standing_laws.specs.fileset_table.Table.{IsNewTable}
+use Rattle.standing_laws.specs.fileset_table.declared.slot.SlotItem.TheVariants as slot
+use Rattle.standing_laws.specs.quota_book.Book.{Book}
+use Rattle.standing_laws.specs.release_list.Listing.{IsEmpty}
+use Rattle.standing_laws.specs.filesets_reading.Good.{AreGood}
+use Rattle.standing_laws.specs.domain_standing.Marks.{IsMarked}
+use Rattle.standing_laws.specs.domain_standing.Space.{AreCellsOf, AreFew, IsSpaceOf}
+use Rattle.standing_laws.proofs.OfDomainStanding.Marked.{marked_space}
+use Rattle.standing_laws.specs.domain_layout.Layout.{IsLayout, Layout}
+use Rattle.standing_laws.specs.domain_layout.Owners.{frame_of}
+use Rattle.standing_laws.specs.domain_layout.Reached.{Frame}
+use Rattle.standing_laws.proofs.OfDomainLayout.NoTables.{none_of_tables}
+use Rattle.standing_laws.specs.domain_layout.NewDomain.{IsNew, IsNewTablePage, firsts, on_first, size_of}
+use Rattle.standing_laws.proofs.OfDomainLayout.NewDomain.{no_fault}
+use Rattle.standing_laws.proofs.OfDomainLayout.NewTags.{all_free, has_none}
+use Rattle.standing_laws.specs.domain_standing.Domain.{DomainNow, layout_of}
+use Rattle.standing_laws.specs.domain_standing.Sources.{StandAlone}
+use Rattle.standing_laws.specs.domain_standing.Standing.{AreBooksOf, HaveParents, IsMarkedBut, StandsDomain}
+use Rattle.standing_laws.proofs.OfDomainStanding.NewDomain.{new_alone, new_stands}
 use Rattle.standing_laws.specs.Sound.{IsSound}
 use Rattle.domain_making.specs.Making.{new_frame}
-use Rattle.page_ways.specs.Frame.{frame_in}
+use Rattle.standing_laws.specs.page_ways.Frame.{frame_in}
 use Rattle.staged_pages.specs.Store.{before_of}
-use Rattle.domain_parts.specs.Slots.{kept_places, slot_in}
+use Rattle.domain_memory.specs.Slots.{kept_places, slot_in}
 use Rattle.domain_memory.specs.Memory.{StandsFor, books_in, kept_in, with_was}
 use Rattle.domain_memory.specs.declared.memory.DomainMemory.{DomainMemory}
 use Rattle.domain_memory.proofs.KeptCells.{cells_of_other}

@@ -1,31 +1,31 @@
 -- A domain of which no tag names a file, no slot quota cells and no list anything is as rules of pages ask beside.
 use Rattle.std.proofs.Common.{◌≡◌, ◌∙◌, ℕ, true, false, List, [], ◌∷◌, Option, Some, None, Contains, slice_get, refl, sym, ap, subst, arith, ⊎_elim, true≢false}
 use Rattle.std.specs.Option.{is_some, option_and_then, option_map_or}
-use Rattle.domain_base.specs.declared.place.CellAt.{CellAt}
-use Rattle.domain_base.specs.declared.place.Home.{Home}
-use Rattle.domain_base.specs.declared.place.Tag.{Tag}
-use Rattle.record_table.specs.declared.record.Leftover.TheVariants.{Remove}
-use Rattle.bmt_mcells.specs.Chain.{PlacedCell}
-use Rattle.tag_dirs.specs.Directory.{cell_of, has_home}
-use Rattle.tag_dirs.specs.declared.dir.TagPlace.{TagPlace}
-use Rattle.extent_maps.specs.declared.run.PagePlace.TheVariants.{Absent, At}
-use Rattle.bitfile_cells.specs.Files.{places_of}
-use Rattle.bitfile_core.specs.Shown.{index_of}
-use Rattle.stored_index.specs.Homes.{AreIndexHomes}
-use Rattle.fileset_model.specs.Filesets.{FilesetMap}
-use Rattle.fileset_table.specs.declared.slot.SlotItem.{SlotItem}
-use Rattle.fileset_table.specs.declared.slot.SlotItem.TheVariants as slot
-use Rattle.deferred_delete.specs.Listed.{left_of}
-use Rattle.deferred_delete.specs.Listing.{IsEmpty}
-use Rattle.deferred_delete.specs.declared.list.Entry.{Entry}
-use Rattle.domain_layout.specs.Faults.{HasNoFault}
-use Rattle.domain_layout.specs.Reached.{IsWithin}
-use Rattle.domain_layout.specs.TagRules.{quota_of}
-use Rattle.standing_laws.specs.Chains.{IsQuotaOf, IsTagged}
-use Rattle.standing_laws.specs.Domain.{DomainNow, item_in}
-use Rattle.standing_laws.specs.Holders.{Holder, Holds}
-use Rattle.standing_laws.specs.Holders.Holder.{of_cells, of_file, of_index, of_log, of_table, of_tags, of_volume}
-use Rattle.standing_laws.specs.Standing.{StandsDomain}
+use Rattle.standing_laws.specs.domain_base.declared.place.CellAt.{CellAt}
+use Rattle.standing_laws.specs.domain_base.declared.place.Home.{Home}
+use Rattle.standing_laws.specs.domain_base.declared.place.Tag.{Tag}
+use Rattle.standing_laws.specs.cell_records.declared.record.Leftover.TheVariants.{Remove}
+use Rattle.standing_laws.specs.metadata_cells.Chain.{PlacedCell}
+use Rattle.standing_laws.specs.tag_dirs.Directory.{cell_of, has_home}
+use Rattle.standing_laws.specs.tag_dirs.declared.dir.TagPlace.{TagPlace}
+use Rattle.standing_laws.specs.extent_maps.declared.run.PagePlace.TheVariants.{Absent, At}
+use Rattle.standing_laws.specs.file_chains.Files.{places_of}
+use Rattle.standing_laws.specs.fileset_files.Shown.{index_of}
+use Rattle.standing_laws.specs.index_pages.Homes.{AreIndexHomes}
+use Rattle.standing_laws.specs.fileset_model.Filesets.{FilesetMap}
+use Rattle.standing_laws.specs.fileset_table.declared.slot.SlotItem.{SlotItem}
+use Rattle.standing_laws.specs.fileset_table.declared.slot.SlotItem.TheVariants as slot
+use Rattle.standing_laws.specs.release_list.Listed.{left_of}
+use Rattle.standing_laws.specs.release_list.Listing.{IsEmpty}
+use Rattle.standing_laws.specs.release_list.declared.list.Entry.{Entry}
+use Rattle.standing_laws.specs.domain_layout.Faults.{HasNoFault}
+use Rattle.standing_laws.specs.domain_layout.Reached.{IsWithin}
+use Rattle.standing_laws.specs.domain_layout.TagRules.{quota_of}
+use Rattle.standing_laws.specs.domain_standing.Chains.{IsQuotaOf, IsTagged}
+use Rattle.standing_laws.specs.domain_standing.Domain.{DomainNow, item_in}
+use Rattle.standing_laws.specs.domain_standing.Holders.{Holder, Holds}
+use Rattle.standing_laws.specs.domain_standing.Holders.Holder.{of_cells, of_file, of_index, of_log, of_table, of_tags, of_volume}
+use Rattle.standing_laws.specs.domain_standing.Standing.{StandsDomain}
 use Rattle.standing_laws.specs.Sound.{IsSound}
 use Rattle.standing_laws.proofs.SoundTables.{faultless_cells, faultless_laters}
 

@@ -1,14 +1,14 @@
 -- Memory over which no change is laid may be kept as it is.
 use Rattle.std.proofs.Common.{◌≡◌, ℕ, length, sym, ap, subst, arith}
-use Rattle.fileset_model.specs.Filesets.{FilesetMap}
-use Rattle.page_ways.specs.Frame.{frame_in}
-use Rattle.quota_book.specs.Book.{Book}
-use Rattle.domain_layout.specs.Read.{contents_of}
-use Rattle.standing_laws.specs.Domain.{DomainNow}
-use Rattle.standing_laws.specs.Sources.{StandAlone}
-use Rattle.standing_laws.specs.Standing.{AreBooksOf, HaveParents, IsMarkedBut, StandsDomain}
+use Rattle.standing_laws.specs.fileset_model.Filesets.{FilesetMap}
+use Rattle.standing_laws.specs.page_ways.Frame.{frame_in}
+use Rattle.standing_laws.specs.quota_book.Book.{Book}
+use Rattle.standing_laws.specs.domain_layout.Read.{contents_of}
+use Rattle.standing_laws.specs.domain_standing.Domain.{DomainNow}
+use Rattle.standing_laws.specs.domain_standing.Sources.{StandAlone}
+use Rattle.standing_laws.specs.domain_standing.Standing.{AreBooksOf, HaveParents, IsMarkedBut, StandsDomain}
 use Rattle.standing_laws.specs.Sound.{IsSound}
-use Rattle.domain_parts.specs.Listing.{list_with}
+use Rattle.domain_memory.specs.Listing.{list_with}
 use Rattle.domain_memory.specs.Memory.{StandsFor, books_in, kept_in, with_was}
 use Rattle.domain_memory.specs.Staged.{IsSettled, MayBeKept, staged_books, staged_in}
 use Rattle.domain_memory.specs.declared.memory.DomainMemory.{DomainMemory}

@@ -1,9 +1,9 @@
 -- Slots that were kept, or taken back.
 use Rattle.std.proofs.Common.{◌≡◌, ◌∙◌, ℕ, List, [], ◌∷◌, Option, Some, None, IsSomeAnd, length, replicate, take, zero, suc, refl, sym, ap}
-use Rattle.tag_dirs.specs.declared.dir.TagPlace.{TagPlace}
-use Rattle.domain_parts.specs.Slots.{ChangesSlot, IsKept, IsTakenBack, book_in, kept_book, kept_places, places_in, slot_in}
-use Rattle.domain_parts.specs.declared.slots.SlotFiles.{SlotFiles}
-use Rattle.domain_parts.proofs.TagsForgotten.{take_length}
+use Rattle.standing_laws.specs.tag_dirs.declared.dir.TagPlace.{TagPlace}
+use Rattle.domain_memory.specs.Slots.{ChangesSlot, IsKept, IsTakenBack, book_in, kept_book, kept_places, places_in, slot_in}
+use Rattle.domain_memory.specs.declared.slots.SlotFiles.{SlotFiles}
+use Rattle.domain_memory.proofs.TagsForgotten.{take_length}
 
 taken_whole : (xs : List TagPlace) (n : ℕ) → n ≡ length xs → take n xs ≡ xs
 taken_whole xs n is = ap (λ (k : ℕ). take k xs) is ∙ take_length xs

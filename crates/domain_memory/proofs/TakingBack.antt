@@ -3,15 +3,15 @@ use Rattle.std.proofs.Common.{◌≡◌, ◌∙◌, ℕ, zero, suc, List, [], �
 use Rattle.std.proofs.Math.Logic.{∥∥₁_elim, ∥∥₁_map}
 use Rattle.std.proofs.lemmas.Bool.{cases_eq, cases_lt}
 use Rattle.std.specs.Option.{option_map}
-use Rattle.free_space.specs.Spaces.{Spaces, kept_spaces}
-use Rattle.free_space.specs.VolumeSpace.{VolumeSpace, as_kept}
-use Rattle.free_cells.specs.Cells.{taken_back}
-use Rattle.fileset_table.specs.Table.{IsTable}
-use Rattle.page_ways.specs.Frame.{frame_in}
-use Rattle.domain_layout.specs.Read.{contents_of}
+use Rattle.standing_laws.specs.free_space.Spaces.{Spaces, kept_spaces}
+use Rattle.standing_laws.specs.free_space.VolumeSpace.{VolumeSpace, as_kept}
+use Rattle.standing_laws.specs.free_cells.Cells.{taken_back}
+use Rattle.standing_laws.specs.fileset_table.Table.{IsTable}
+use Rattle.standing_laws.specs.page_ways.Frame.{frame_in}
+use Rattle.standing_laws.specs.domain_layout.Read.{contents_of}
 use Rattle.staged_pages.specs.Store.{before_of, pages_of}
-use Rattle.domain_parts.specs.Slots.{CanGoBack, ChangesSlots, HasNumber, IsTakenBack, book_in, kept_book, kept_places, places_in, slot_in}
-use Rattle.domain_parts.specs.declared.slots.SlotFiles.{SlotFiles}
+use Rattle.domain_memory.specs.Slots.{CanGoBack, ChangesSlots, HasNumber, IsTakenBack, book_in, kept_book, kept_places, places_in, slot_in}
+use Rattle.domain_memory.specs.declared.slots.SlotFiles.{SlotFiles}
 use Rattle.domain_memory.specs.Memory.{books_in, kept_in, with_was}
 use Rattle.domain_memory.specs.Staged.{IsSettled, MayGoBack}
 use Rattle.domain_memory.specs.declared.memory.DomainMemory.{DomainMemory}

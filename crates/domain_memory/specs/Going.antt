@@ -2,23 +2,23 @@
 -- its slots.
 use Rattle.std.specs.Prelude.{◌≡◌, ◌&&◌, ◌||◌, ◌⊎◌, ℕ, Bool, true, false, not, List, [], None, Contains, IfSome, IsSome, slice_get, sum_by}
 use Rattle.std.specs.Option.{option_and_then, option_map_or}
-use Rattle.domain_base.specs.declared.place.CellAt.{CellAt}
-use Rattle.domain_base.specs.declared.place.Tag.{Tag}
-use Rattle.record_table.specs.declared.record.Record.{Record}
-use Rattle.bmt_mcells.specs.Cell.{Cell, record_of}
-use Rattle.bmt_mcells.specs.Chain.{StandsAt}
-use Rattle.tag_dirs.specs.Directory.{cell_of}
-use Rattle.free_cells.specs.Cells.{is_free}
-use Rattle.free_space.specs.Spaces.{Spaces, free_pages, volume_of}
-use Rattle.deferred_delete.specs.Listing.{IsEmpty}
-use Rattle.deferred_delete.specs.declared.list.Entry.{Entry}
+use Rattle.standing_laws.specs.domain_base.declared.place.CellAt.{CellAt}
+use Rattle.standing_laws.specs.domain_base.declared.place.Tag.{Tag}
+use Rattle.standing_laws.specs.cell_records.declared.record.Record.{Record}
+use Rattle.standing_laws.specs.metadata_cells.Cell.{Cell, record_of}
+use Rattle.standing_laws.specs.metadata_cells.Chain.{StandsAt}
+use Rattle.standing_laws.specs.tag_dirs.Directory.{cell_of}
+use Rattle.standing_laws.specs.free_cells.Cells.{is_free}
+use Rattle.standing_laws.specs.free_space.Spaces.{Spaces, free_pages, volume_of}
+use Rattle.standing_laws.specs.release_list.Listing.{IsEmpty}
+use Rattle.standing_laws.specs.release_list.declared.list.Entry.{Entry}
 use Rattle.staged_pages.specs.Store.{pages_of}
-use Rattle.domain_layout.specs.CellRules.{has_kind, say_removed, says_directory}
-use Rattle.domain_layout.specs.TagRules.{quota_of}
-use Rattle.standing_laws.specs.Chains.{IsQuotaOf, IsRemoved}
-use Rattle.standing_laws.specs.Domain.{item_in}
-use Rattle.standing_laws.specs.Kept.{HasNoEntry}
-use Rattle.domain_parts.specs.Slots.{places_in, slot_in}
+use Rattle.standing_laws.specs.domain_layout.CellRules.{has_kind, say_removed, says_directory}
+use Rattle.standing_laws.specs.domain_layout.TagRules.{quota_of}
+use Rattle.standing_laws.specs.domain_standing.Chains.{IsQuotaOf, IsRemoved}
+use Rattle.standing_laws.specs.domain_standing.Domain.{item_in}
+use Rattle.standing_laws.specs.release_steps.Kept.{HasNoEntry}
+use Rattle.domain_memory.specs.Slots.{places_in, slot_in}
 use Rattle.domain_memory.specs.Staged.{staged_in}
 use Rattle.domain_memory.specs.declared.memory.DomainMemory.{DomainMemory}
 

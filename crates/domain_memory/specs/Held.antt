@@ -1,7 +1,7 @@
 -- How many pages of open volumes are held.
 use Rattle.std.specs.Prelude.{ℕ, Option, Some, None, if◌then◌else◌, sum_by}
-use Rattle.free_space.specs.VolumeSpace.{VolumeSpace}
-use Rattle.free_space.specs.Spaces.{Spaces, held_pages}
+use Rattle.standing_laws.specs.free_space.VolumeSpace.{VolumeSpace}
+use Rattle.standing_laws.specs.free_space.Spaces.{Spaces, held_pages}
 
 -- those of a volume, if it is there and open
 abbrev pub held_if_open : Option VolumeSpace → ℕ

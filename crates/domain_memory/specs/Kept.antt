@@ -1,12 +1,12 @@
 -- What was kept of a domain's memory, over which a change is laid.
 use Rattle.std.specs.Prelude.{◌≡◌, ℕ, Some}
-use Rattle.free_space.specs.Spaces.{kept_spaces, volume_of}
-use Rattle.free_cells.specs.Cells.{is_closed, kept_of}
-use Rattle.fileset_table.specs.declared.slot.FilesetEntry.{FilesetEntry}
-use Rattle.fileset_table.specs.declared.slot.SlotItem.TheVariants as slot
+use Rattle.standing_laws.specs.free_space.Spaces.{kept_spaces, volume_of}
+use Rattle.standing_laws.specs.free_cells.Cells.{is_closed, kept_of}
+use Rattle.standing_laws.specs.fileset_table.declared.slot.FilesetEntry.{FilesetEntry}
+use Rattle.standing_laws.specs.fileset_table.declared.slot.SlotItem.TheVariants as slot
 use Rattle.staged_pages.specs.Store.{before_of}
-use Rattle.standing_laws.specs.Domain.{item_in}
-use Rattle.domain_parts.specs.Slots.{kept_places, slot_in}
+use Rattle.standing_laws.specs.domain_standing.Domain.{item_in}
+use Rattle.domain_memory.specs.Slots.{kept_places, slot_in}
 use Rattle.domain_memory.specs.Memory.{books_in, kept_in, with_was}
 use Rattle.domain_memory.specs.declared.memory.DomainMemory.{DomainMemory}
 

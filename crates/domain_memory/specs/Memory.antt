@@ -1,18 +1,18 @@
 -- What a domain keeps in memory, as it was when that was last kept.
 use Rattle.std.specs.Prelude.{ℕ, Option, Some, None}
-use Rattle.free_space.specs.Spaces.{kept_spaces}
-use Rattle.free_cells.specs.Cells.{taken_back}
-use Rattle.fileset_model.specs.Filesets.{FilesetMap}
-use Rattle.fileset_table.specs.Table.{Table, with_slot}
+use Rattle.standing_laws.specs.free_space.Spaces.{kept_spaces}
+use Rattle.standing_laws.specs.free_cells.Cells.{taken_back}
+use Rattle.standing_laws.specs.fileset_model.Filesets.{FilesetMap}
+use Rattle.standing_laws.specs.fileset_table.Table.{Table, with_slot}
 use Rattle.staged_pages.specs.Store.{before_of}
-use Rattle.page_ways.specs.Frame.{frame_in}
-use Rattle.quota_book.specs.Book.{Book}
-use Rattle.domain_layout.specs.Read.{contents_of}
-use Rattle.standing_laws.specs.Domain.{DomainNow}
-use Rattle.standing_laws.specs.Sources.{StandAlone}
-use Rattle.standing_laws.specs.Standing.{AreBooksOf, HaveParents, IsMarkedBut, StandsDomain}
+use Rattle.standing_laws.specs.page_ways.Frame.{frame_in}
+use Rattle.standing_laws.specs.quota_book.Book.{Book}
+use Rattle.standing_laws.specs.domain_layout.Read.{contents_of}
+use Rattle.standing_laws.specs.domain_standing.Domain.{DomainNow}
+use Rattle.standing_laws.specs.domain_standing.Sources.{StandAlone}
+use Rattle.standing_laws.specs.domain_standing.Standing.{AreBooksOf, HaveParents, IsMarkedBut, StandsDomain}
 use Rattle.standing_laws.specs.Sound.{IsSound}
-use Rattle.domain_parts.specs.Slots.{kept_book, kept_places, slot_in}
+use Rattle.domain_memory.specs.Slots.{kept_book, kept_places, slot_in}
 use Rattle.domain_memory.specs.declared.memory.DomainMemory.{DomainMemory}
 use Rattle.domain_memory.specs.declared.memory.ReplacedSlot.{ReplacedSlot}
 

@@ -1,19 +1,18 @@
-//! A change that is laid over a domain's memory, kept or taken back.
+//! Keeping a change that is laid over a domain's memory, or taking it back.
 ghost use Rattle.std.specs.Prelude.{◌≡◌, None};
-ghost use Rattle.fileset_model.specs.Filesets.{FilesetMap};
-ghost use Rattle.fileset_table.specs.Table.{IsTable};
-ghost use Rattle.free_space.specs.Spaces.{change_volumes};
-ghost use Rattle.free_space.specs.VolumeSpace.{keeping};
+ghost use Rattle.standing_laws.specs.fileset_model.Filesets.{FilesetMap};
+ghost use Rattle.standing_laws.specs.fileset_table.Table.{IsTable};
+ghost use Rattle.standing_laws.specs.free_space.Spaces.{change_volumes};
+ghost use Rattle.standing_laws.specs.free_space.VolumeSpace.{keeping};
 ghost use Rattle.domain_memory.specs.Going.{KeepsGone};
 ghost use Rattle.domain_memory.specs.Memory.{StandsFor, books_in, kept_in, with_was};
 ghost use Rattle.domain_memory.specs.Staged.{IsSettled, IsStagedForSome, MayBeKept, MayGoBack};
 
 use crate::memory::{DomainMemory, ReplacedSlot};
-use bitmap_marks::mark_changes;
-use domain_parts::{keep_slots, put_on_list, take_back_slots};
-use fileset_table::FilesetTable;
+use crate::{keep_slots, put_on_list, take_back_slots};
+use standing_laws::{FilesetTable, mark_changes};
 
-/// Puts into the slot that was set anew, if one was, what it had.
+/// Puts back what the slot that was set anew had, if there is one.
 fn put_slot_back(table: &mut FilesetTable, was: &mut Option<ReplacedSlot>)
     requires { ∥ IsTable (with_was was.old table.old) ∥₁ }
     ensures table { table.new ≡ with_was was.old table.old }
@@ -27,12 +26,12 @@ fn put_slot_back(table: &mut FilesetTable, was: &mut Option<ReplacedSlot>)
 }
 
 impl DomainMemory {
-    /// Keeps the change: the domain stands for the filesets then for which it stood with it, if
-    /// directories say their parents with it and books are theirs. The bits of its bitmaps say
-    /// which pages are used, and what the change left to be let go of is on the list; slots, cells
-    /// and tags that came free with it are free. It takes no memory, and the time of what the
-    /// change has changed, with a look through what waits to be let go of for each file that it
-    /// lists.
+    /// Keeps the change. The domain then stands for the filesets for which it stood with the
+    /// change, if with it directories say their parents and books are those of the filesets. The
+    /// bits of the bitmaps say which pages are used, and what the change left to be let go of is on
+    /// the list. Slots, cells and tags that came free with it are free. It takes no memory. It
+    /// takes the time of what the change has changed, and a look through what waits to be let go of
+    /// for each file that the change lists.
     pub fn keep(&mut self)
         requires staged { ∥ IsStagedForSome self.old ∥₁ }
         requires back { ∥ MayGoBack self.old ∥₁ }
@@ -53,7 +52,7 @@ impl DomainMemory {
         self.was = None;
     }
 
-    /// Takes the change back: all is as it was when it was last kept. It takes no memory, and the
+    /// Takes back the change: all is as it was when it was last kept. It takes no memory, and the
     /// time of what the change has changed.
     pub fn take_back(&mut self)
         requires { ∥ MayGoBack self.old ∥₁ }

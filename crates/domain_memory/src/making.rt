@@ -1,31 +1,26 @@
 //! The memory of a domain that is made.
 ghost use Rattle.std.specs.Prelude.{◌≡◌, ◌<◌, ◌≤◌, IfOk};
 ghost use Rattle.std.specs.FinMap.{empty};
-ghost use Rattle.domain_base.specs.Version.{most_pages};
-ghost use Rattle.disk_label.specs.FirstPages.{first_pages};
-ghost use Rattle.page_ways.specs.Frame.{frame_in};
+ghost use Rattle.standing_laws.specs.domain_base.Version.{most_pages};
+ghost use Rattle.standing_laws.specs.disk_label.FirstPages.{first_pages};
+ghost use Rattle.standing_laws.specs.page_ways.Frame.{frame_in};
 ghost use Rattle.staged_pages.specs.Store.{before_of};
-ghost use Rattle.layout_laws.specs.NewDomain.{IsNew};
+ghost use Rattle.standing_laws.specs.domain_layout.NewDomain.{IsNew};
 ghost use Rattle.domain_making.specs.Making.{new_frame};
 ghost use Rattle.domain_making.specs.Pages.{AreNew};
 ghost use Rattle.domain_memory.specs.Memory.{StandsFor};
 ghost use Rattle.domain_memory.specs.Staged.{IsSettled, MayGoBack};
 
-use crate::DomainMemory;
-use attached_space::{read_cells, read_space};
-use deferred_delete::Deferred;
-use domain_base::{OutOfMemory, Version};
+use crate::{DomainMemory, free_slots, read_cells, read_space};
 use domain_making::{NewPages, new_anchor};
-use domain_parts::free_slots;
-use fileset_table::FilesetTable;
-use page_ways::DomainFrame;
 use staged_pages::StagedPages;
+use standing_laws::{Deferred, DomainFrame, FilesetTable, OutOfMemory, Version};
 use std::alloc::Global;
 
 impl DomainMemory {
-    /// That of a domain which is made in this version of these pages, on a volume of which so many
-    /// pages are used: it has no fileset, and no change is laid over it. There may only be no
-    /// memory.
+    /// The memory of a domain that is made in this version from these pages, with so many pages of
+    /// its volume used. It has no fileset, and no change is laid over it. Fails only if memory runs
+    /// out.
     pub fn of_new(
         alloc: Global,
         new: &NewPages,

@@ -1,12 +1,9 @@
 //! What a domain keeps in memory.
-use deferred_delete::Deferred;
-use domain_base::{CellAt, FilesetNo};
-use domain_parts::SlotFiles;
-use fileset_table::{FilesetTable, SlotItem};
-use free_cells::FreeCells;
-use free_space::FreeSpace;
-use page_ways::DomainFrame;
+use crate::SlotFiles;
 use staged_pages::StagedPages;
+use standing_laws::{
+    CellAt, Deferred, DomainFrame, FilesetNo, FilesetTable, FreeCells, FreeSpace, SlotItem,
+};
 
 /// A slot of the fileset table, and what it had before a change that is not kept yet.
 #[derive(Drop)]
@@ -35,9 +32,10 @@ pub struct DomainMemory {
     pub list: Deferred,
     /// What is in each of the 32 slots.
     pub slots: Vec<Option<SlotFiles>>,
-    /// The slot of the table that the change has set anew, if it has: one at most.
+    /// The slot of the table that the change has set anew, if there is one: one at most.
     pub was: Option<ReplacedSlot>,
-    /// The first cells of files that the change leaves to be let go of, all of them or their last
-    /// pages, in the order in which they came: they come on the list once the change is kept.
+    /// The first cells of files that the change leaves to be let go of, whole or only their last
+    /// pages, in the order in which they were added. They are put on the list once the change is
+    /// kept.
     pub listed: Vec<CellAt>,
 }

@@ -3,34 +3,34 @@ use Rattle.std.proofs.Common.{◌≡◌, ◌∙◌, inl, ℕ, ◌<◌, ◌≤◌
 use Rattle.std.specs.FinMap.{empty, get-empty}
 use Rattle.std.specs.List.{AllByRecursion}
 use Rattle.std.specs.Option.{option_and_then}
-use Rattle.domain_base.specs.declared.place.CellAt.{CellAt}
-use Rattle.domain_base.specs.declared.place.Home.{Home}
-use Rattle.record_table.specs.Records.{kind_of, last_kind}
-use Rattle.bmt_mcells.specs.Cell.{Cell}
-use Rattle.bmt_mcells.specs.declared.head.CellKind.TheVariants.{Primary, Volume}
-use Rattle.extent_maps.specs.declared.run.PagePlace.TheVariants.{Absent, At}
-use Rattle.log_recovery.specs.Range.{IsLogInside}
-use Rattle.fileset_model.specs.Orders.{name_cmp}
-use Rattle.fileset_table.specs.Table.{entry_of}
-use Rattle.fileset_table.specs.declared.slot.SlotItem.{SlotItem}
-use Rattle.fileset_table.specs.declared.slot.SlotItem.TheVariants as slot
-use Rattle.chain_release.specs.Releases.{AreAllOnce}
-use Rattle.deferred_delete.specs.Listed.{IsListed}
-use Rattle.deferred_delete.specs.Listing.{IsEmpty}
-use Rattle.deferred_delete.specs.Standing.{StandTogether}
-use Rattle.deferred_delete.specs.declared.list.Entry.{Entry}
-use Rattle.attaching_laws.specs.Space.{AreCellsOf, AreFew, IsSpaceOf}
-use Rattle.attaching_laws.proofs.Tables.{allocated}
-use Rattle.domain_layout.specs.CellRules.{of_clone, of_original}
-use Rattle.domain_layout.specs.Faults.{HasNoFault}
-use Rattle.domain_layout.specs.Layout.{IsLayout, first_tag_of}
-use Rattle.domain_layout.specs.Shape.{IsShapeOf}
-use Rattle.domain_layout.specs.TagRules.{quota_of}
-use Rattle.domain_layout.proofs.NoTables.{none_of_tables}
-use Rattle.layout_laws.specs.NewDomain.{IsNew}
-use Rattle.layout_laws.proofs.NewDomain.{no_fault}
-use Rattle.layout_laws.proofs.OwnedOnce.{owned_once}
-use Rattle.layout_laws.proofs.OnePage.{in_none}
+use Rattle.fileset_shapes.specs.domain_base.declared.place.CellAt.{CellAt}
+use Rattle.fileset_shapes.specs.domain_base.declared.place.Home.{Home}
+use Rattle.fileset_shapes.specs.cell_records.Records.{kind_of, last_kind}
+use Rattle.fileset_shapes.specs.metadata_cells.Cell.{Cell}
+use Rattle.fileset_shapes.specs.metadata_cells.declared.head.CellKind.TheVariants.{Primary, Volume}
+use Rattle.fileset_shapes.specs.extent_maps.declared.run.PagePlace.TheVariants.{Absent, At}
+use Rattle.fileset_shapes.specs.log_recovery.Range.{IsLogInside}
+use Rattle.fileset_shapes.specs.fileset_values.Orders.{name_cmp}
+use Rattle.fileset_shapes.specs.fileset_table.Table.{entry_of}
+use Rattle.fileset_shapes.specs.fileset_table.declared.slot.SlotItem.{SlotItem}
+use Rattle.fileset_shapes.specs.fileset_table.declared.slot.SlotItem.TheVariants as slot
+use Rattle.fileset_shapes.specs.file_release.Releases.{AreAllOnce}
+use Rattle.release_steps.specs.release_list.Listed.{IsListed}
+use Rattle.release_steps.specs.release_list.Listing.{IsEmpty}
+use Rattle.release_steps.specs.release_list.Standing.{StandTogether}
+use Rattle.release_steps.specs.release_list.declared.list.Entry.{Entry}
+use Rattle.domain_standing.specs.Space.{AreCellsOf, AreFew, IsSpaceOf}
+use Rattle.domain_standing.proofs.Tables.{allocated}
+use Rattle.fileset_shapes.specs.domain_layout.CellRules.{of_clone, of_original}
+use Rattle.fileset_shapes.specs.domain_layout.Faults.{HasNoFault}
+use Rattle.fileset_shapes.specs.domain_layout.Layout.{IsLayout, first_tag_of}
+use Rattle.fileset_shapes.specs.domain_layout.Shape.{IsShapeOf}
+use Rattle.fileset_shapes.specs.domain_layout.TagRules.{quota_of}
+use Rattle.fileset_shapes.proofs.OfDomainLayout.NoTables.{none_of_tables}
+use Rattle.fileset_shapes.specs.domain_layout.NewDomain.{IsNew}
+use Rattle.fileset_shapes.proofs.OfDomainLayout.NewDomain.{no_fault}
+use Rattle.fileset_shapes.proofs.OfDomainLayout.OwnedOnce.{owned_once}
+use Rattle.fileset_shapes.proofs.OfDomainLayout.OnePage.{in_none}
 use Rattle.domain_standing.specs.Chains.{IsQuotaOf, StandChains, StandsInSlot, no_files, no_indexes}
 use Rattle.domain_standing.specs.Domain.{DomainNow, item_in, layout_of, named_by}
 use Rattle.domain_standing.specs.Rest.{IsOfOriginal, SaysTheRest}

@@ -1,16 +1,16 @@
 -- For what the pages of a domain that was just made are held.
 use Rattle.std.proofs.Common.{◌≡◌, ◌∙◌, ℕ, true, false, List, [], Option, Some, None, refl, sym, ap}
-use Rattle.domain_base.specs.declared.place.Home.{Home}
-use Rattle.tag_dirs.specs.Directory.{has_home}
-use Rattle.tag_dirs.specs.declared.dir.TagPlace.{TagPlace}
-use Rattle.extent_maps.specs.declared.run.PagePlace.TheVariants.{Absent, At}
-use Rattle.free_space.specs.Spaces.{volume_of}
-use Rattle.free_space.specs.VolumeSpace.{VolumeSpace, is_among, is_waiting}
-use Rattle.attaching_laws.specs.Space.{IsSpaceAt, IsSpaceOf, IsVolumeSpace}
-use Rattle.domain_layout.specs.Layout.{IsLayout}
-use Rattle.domain_layout.specs.Owners.{BelongsTo, IsOwned, IsOwnedOnce, Owner}
+use Rattle.fileset_shapes.specs.domain_base.declared.place.Home.{Home}
+use Rattle.fileset_shapes.specs.tag_dirs.Directory.{has_home}
+use Rattle.fileset_shapes.specs.tag_dirs.declared.dir.TagPlace.{TagPlace}
+use Rattle.fileset_shapes.specs.extent_maps.declared.run.PagePlace.TheVariants.{Absent, At}
+use Rattle.fileset_shapes.specs.free_space.Spaces.{volume_of}
+use Rattle.fileset_shapes.specs.free_space.VolumeSpace.{VolumeSpace, is_among, is_waiting}
+use Rattle.domain_standing.specs.Space.{IsSpaceAt, IsSpaceOf, IsVolumeSpace}
+use Rattle.fileset_shapes.specs.domain_layout.Layout.{IsLayout}
+use Rattle.fileset_shapes.specs.domain_layout.Owners.{BelongsTo, IsOwned, IsOwnedOnce, Owner}
 use Rattle.domain_standing.proofs.NewTables.{no_extent_page, no_index_page}
-use Rattle.layout_laws.specs.NewDomain.{IsNew}
+use Rattle.fileset_shapes.specs.domain_layout.NewDomain.{IsNew}
 use Rattle.domain_standing.specs.Chains.{no_files, no_indexes}
 use Rattle.domain_standing.specs.Domain.{DomainNow, layout_of}
 use Rattle.domain_standing.specs.Holders.{AreHeldAt, AreHeldOn, Holder, Holds, HoldsOwned, IsUnheld}

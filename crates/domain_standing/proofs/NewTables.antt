@@ -1,27 +1,27 @@
 -- The tables of a domain that was just made: free slots, and one cell in use, which says the volume.
 use Rattle.std.proofs.Common.{◌≡◌, ◌∙◌, ℕ, ◌≤◌, Some, slice_get, sym, ap, subst, arith}
 use Rattle.std.specs.List.{AllByRecursion}
-use Rattle.domain_base.specs.declared.place.CellAt.{CellAt}
-use Rattle.domain_base.specs.declared.place.Home.{Home}
-use Rattle.page_store.specs.Pages.{Pages}
-use Rattle.record_table.specs.Records.{kind_of, last_kind}
-use Rattle.bmt_mcells.specs.Cell.{Cell}
-use Rattle.bmt_mcells.specs.CellPage.{cell_of}
-use Rattle.bmt_mcells.specs.Chain.{StandsAt}
-use Rattle.fileset_table.specs.Table.{IsNewTable}
-use Rattle.fileset_table.specs.declared.slot.SlotItem.{SlotItem}
-use Rattle.fileset_table.specs.declared.slot.SlotItem.TheVariants as slot
-use Rattle.domain_layout.specs.CellRules.{IsFirstPlace, IsPlace, IsUsed, SaysVolume}
-use Rattle.domain_layout.specs.Layout.{IsLayout, Layout}
-use Rattle.domain_layout.specs.Owners.{HasExtent, HasIndexPage, IsOnTable, frame_of}
-use Rattle.domain_layout.specs.Reached.{MayBe, first_cells}
-use Rattle.layout_laws.specs.NewDomain.{IsNew, IsNewCells, firsts, on_first}
-use Rattle.layout_laws.proofs.NewCells.{kind_is, known, used_is}
-use Rattle.layout_laws.proofs.NewDomain.{cells, laid_table, no_reserved}
-use Rattle.layout_laws.proofs.NewPages.{no_extent, no_index}
-use Rattle.layout_laws.proofs.NewTags.{all_free}
-use Rattle.layout_laws.proofs.OnePage.{HasOne, at_first, cell_said, first_read, some_same}
-use Rattle.layout_laws.proofs.OneTable.{used_there}
+use Rattle.fileset_shapes.specs.domain_base.declared.place.CellAt.{CellAt}
+use Rattle.fileset_shapes.specs.domain_base.declared.place.Home.{Home}
+use Rattle.fileset_shapes.specs.page_store.Pages.{Pages}
+use Rattle.fileset_shapes.specs.cell_records.Records.{kind_of, last_kind}
+use Rattle.fileset_shapes.specs.metadata_cells.Cell.{Cell}
+use Rattle.fileset_shapes.specs.metadata_cells.CellPage.{cell_of}
+use Rattle.fileset_shapes.specs.metadata_cells.Chain.{StandsAt}
+use Rattle.fileset_shapes.specs.fileset_table.Table.{IsNewTable}
+use Rattle.fileset_shapes.specs.fileset_table.declared.slot.SlotItem.{SlotItem}
+use Rattle.fileset_shapes.specs.fileset_table.declared.slot.SlotItem.TheVariants as slot
+use Rattle.fileset_shapes.specs.domain_layout.CellRules.{IsFirstPlace, IsPlace, IsUsed, SaysVolume}
+use Rattle.fileset_shapes.specs.domain_layout.Layout.{IsLayout, Layout}
+use Rattle.fileset_shapes.specs.domain_layout.Owners.{HasExtent, HasIndexPage, IsOnTable, frame_of}
+use Rattle.fileset_shapes.specs.domain_layout.Reached.{MayBe, first_cells}
+use Rattle.fileset_shapes.specs.domain_layout.NewDomain.{IsNew, IsNewCells, firsts, on_first}
+use Rattle.fileset_shapes.proofs.OfDomainLayout.NewCells.{kind_is, known, used_is}
+use Rattle.fileset_shapes.proofs.OfDomainLayout.NewDomain.{cells, laid_table, no_reserved}
+use Rattle.fileset_shapes.proofs.OfDomainLayout.NewPages.{no_extent, no_index}
+use Rattle.fileset_shapes.proofs.OfDomainLayout.NewTags.{all_free}
+use Rattle.fileset_shapes.proofs.OfDomainLayout.OnePage.{HasOne, at_first, cell_said, first_read, some_same}
+use Rattle.fileset_shapes.proofs.OfDomainLayout.OneTable.{used_there}
 
 -- the one cell in use, which says the volume
 pub record VolumeCell (pages : Pages) (layout : Layout) : Type 0 where

@@ -1,17 +1,17 @@
 -- What a domain that stands means.
 use Rattle.std.proofs.Common.{◌≡◌, Some, IsSomeAnd, subst}
 use Rattle.std.specs.FinMap.{get}
-use Rattle.domain_base.specs.declared.place.Home.{Home}
-use Rattle.fileset_model.specs.Filesets.{FilesetMap}
-use Rattle.fileset_model.specs.LooksLike.{LooksLike}
-use Rattle.fileset_table.specs.Page.{IsTablePage}
-use Rattle.domain_layout.specs.Filled.{AreFilled, Contents}
-use Rattle.domain_layout.specs.Read.{ReadsFrom, contents_of}
-use Rattle.domain_layout.specs.Shape.{HaveShapes}
-use Rattle.domain_layout.proofs.OneShape.{one_shape}
-use Rattle.domain_layout.proofs.OneSlot.{one_filling}
-use Rattle.layout_laws.proofs.OneMeaning.{there_same}
-use Rattle.layout_laws.proofs.OnePage.{HasOne, one_of}
+use Rattle.fileset_shapes.specs.domain_base.declared.place.Home.{Home}
+use Rattle.fileset_shapes.specs.fileset_model.Filesets.{FilesetMap}
+use Rattle.fileset_shapes.specs.fileset_model.LooksLike.{LooksLike}
+use Rattle.fileset_shapes.specs.fileset_table.Page.{IsTablePage}
+use Rattle.fileset_shapes.specs.domain_layout.Filled.{AreFilled, Contents}
+use Rattle.fileset_shapes.specs.domain_layout.Read.{ReadsFrom, contents_of}
+use Rattle.fileset_shapes.specs.domain_layout.Shape.{HaveShapes}
+use Rattle.fileset_shapes.proofs.OfDomainLayout.OneShape.{one_shape}
+use Rattle.fileset_shapes.proofs.OfDomainLayout.OneSlot.{one_filling}
+use Rattle.fileset_shapes.proofs.OfDomainLayout.OneMeaning.{there_same}
+use Rattle.fileset_shapes.proofs.OfDomainLayout.OnePage.{HasOne, one_of}
 use Rattle.domain_standing.specs.Domain.{DomainNow}
 use Rattle.domain_standing.specs.Standing.{StandsDomain}
 

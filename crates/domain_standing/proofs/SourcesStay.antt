@@ -1,10 +1,10 @@
 -- No file comes to be read through another one where pages of cells stay.
 use Rattle.std.proofs.Common.{◌≡◌, ◌∙◌, ℕ, List, Option, Contains, sym, ap, subst}
-use Rattle.domain_base.specs.declared.place.CellAt.{CellAt}
-use Rattle.domain_base.specs.declared.place.Home.{Home}
-use Rattle.bmt_mcells.specs.CellPage.{cell_at, home_of}
-use Rattle.free_cells.specs.Cells.{table_of}
-use Rattle.log_ring.specs.Homes.{IsMember}
+use Rattle.fileset_shapes.specs.domain_base.declared.place.CellAt.{CellAt}
+use Rattle.fileset_shapes.specs.domain_base.declared.place.Home.{Home}
+use Rattle.fileset_shapes.specs.metadata_cells.CellPage.{cell_at, home_of}
+use Rattle.fileset_shapes.specs.free_cells.Cells.{table_of}
+use Rattle.fileset_shapes.specs.log_ring.Homes.{IsMember}
 use Rattle.domain_standing.specs.Domain.{DomainNow, layout_of}
 use Rattle.domain_standing.specs.Sources.{HasSource, StandAlone}
 

@@ -2,29 +2,29 @@
 -- of, or of the quota cells of a slot; and each cell in use is one of theirs.
 use Rattle.std.specs.Prelude.{◌≡◌, ◌⊎◌, ◌∷◌, ℕ, List, [], Option, Some, None, IsSome, IsSomeAnd, Contains}
 use Rattle.std.specs.Option.{option_and_then}
-use Rattle.domain_base.specs.declared.place.CellAt.{CellAt}
-use Rattle.domain_base.specs.declared.place.Home.{Home}
-use Rattle.domain_base.specs.declared.place.Tag.{Tag}
-use Rattle.record_table.specs.declared.record.Leftover.TheVariants.{Remove}
-use Rattle.bmt_mcells.specs.Cell.{Cell}
-use Rattle.bmt_mcells.specs.Chain.{PlacedCell, places, records_of}
-use Rattle.tag_dirs.specs.Directory.{cell_of}
-use Rattle.bitfile_core.specs.Files.{AreFiles, Chains}
-use Rattle.bitfile_core.specs.Shown.{index_of}
-use Rattle.stored_index.specs.Homes.{AreIndexHomes}
-use Rattle.fileset_table.specs.declared.slot.SlotItem.{SlotItem}
-use Rattle.fileset_table.specs.declared.slot.SlotItem.TheVariants as slot
-use Rattle.quota_book.specs.QuotaCells.{AreOnce, said_by}
-use Rattle.deferred_delete.specs.Listed.{left_of}
-use Rattle.deferred_delete.specs.Standing.{Files, IsQuotas}
-use Rattle.deferred_delete.specs.Steps.{IsWell}
-use Rattle.deferred_delete.specs.declared.list.Entry.{Entry}
-use Rattle.deferred_laws.specs.Links.{homes_of}
-use Rattle.deferred_laws.specs.Tags.{AreAmong}
-use Rattle.domain_layout.specs.CellRules.{IsFirstPlace}
-use Rattle.domain_layout.specs.Layout.{first_tag_of}
-use Rattle.domain_layout.specs.Owners.{IsOnTable}
-use Rattle.domain_layout.specs.TagRules.{quota_of}
+use Rattle.fileset_shapes.specs.domain_base.declared.place.CellAt.{CellAt}
+use Rattle.fileset_shapes.specs.domain_base.declared.place.Home.{Home}
+use Rattle.fileset_shapes.specs.domain_base.declared.place.Tag.{Tag}
+use Rattle.fileset_shapes.specs.cell_records.declared.record.Leftover.TheVariants.{Remove}
+use Rattle.fileset_shapes.specs.metadata_cells.Cell.{Cell}
+use Rattle.fileset_shapes.specs.metadata_cells.Chain.{PlacedCell, places, records_of}
+use Rattle.fileset_shapes.specs.tag_dirs.Directory.{cell_of}
+use Rattle.fileset_shapes.specs.fileset_files.Files.{AreFiles, Chains}
+use Rattle.fileset_shapes.specs.fileset_files.Shown.{index_of}
+use Rattle.stored_set.specs.index_pages.Homes.{AreIndexHomes}
+use Rattle.fileset_shapes.specs.fileset_table.declared.slot.SlotItem.{SlotItem}
+use Rattle.fileset_shapes.specs.fileset_table.declared.slot.SlotItem.TheVariants as slot
+use Rattle.fileset_shapes.specs.quota_book.QuotaCells.{AreOnce, said_by}
+use Rattle.release_steps.specs.release_list.Listed.{left_of}
+use Rattle.release_steps.specs.release_list.Standing.{Files, IsQuotas}
+use Rattle.release_steps.specs.release_list.Steps.{IsWell}
+use Rattle.release_steps.specs.release_list.declared.list.Entry.{Entry}
+use Rattle.release_steps.specs.Links.{homes_of}
+use Rattle.release_steps.specs.Tags.{AreAmong}
+use Rattle.fileset_shapes.specs.domain_layout.CellRules.{IsFirstPlace}
+use Rattle.fileset_shapes.specs.domain_layout.Layout.{first_tag_of}
+use Rattle.fileset_shapes.specs.domain_layout.Owners.{IsOnTable}
+use Rattle.fileset_shapes.specs.domain_layout.TagRules.{quota_of}
 use Rattle.domain_standing.specs.Domain.{DomainNow, all_of, item_in, layout_of, named_by}
 
 -- where the pages of the index stand that the file names which begins at a cell

@@ -1,18 +1,18 @@
 -- A domain's pages, and what is kept in memory beside them.
 use Rattle.std.specs.Prelude.{ℕ, List, Option, slice_get}
 use Rattle.std.specs.Option.{option_and_then}
-use Rattle.page_store.specs.Pages.{Pages}
-use Rattle.tag_dirs.specs.declared.dir.TagPlace.{TagPlace}
-use Rattle.free_cells.specs.Cells.{Cells, table_of}
-use Rattle.free_space.specs.Spaces.{Spaces}
-use Rattle.fileset_table.specs.Table.{Table}
-use Rattle.fileset_table.specs.declared.slot.SlotItem.{SlotItem}
-use Rattle.deferred_delete.specs.Listing.{Listing}
-use Rattle.deferred_delete.specs.Standing.{Files}
-use Rattle.deferred_delete.specs.Steps.{Now, now_of}
-use Rattle.domain_layout.specs.Filled.{Contents}
-use Rattle.domain_layout.specs.Layout.{Layout}
-use Rattle.domain_layout.specs.Reached.{Frame}
+use Rattle.fileset_shapes.specs.page_store.Pages.{Pages}
+use Rattle.fileset_shapes.specs.tag_dirs.declared.dir.TagPlace.{TagPlace}
+use Rattle.fileset_shapes.specs.free_cells.Cells.{Cells, table_of}
+use Rattle.fileset_shapes.specs.free_space.Spaces.{Spaces}
+use Rattle.fileset_shapes.specs.fileset_table.Table.{Table}
+use Rattle.fileset_shapes.specs.fileset_table.declared.slot.SlotItem.{SlotItem}
+use Rattle.release_steps.specs.release_list.Listing.{Listing}
+use Rattle.release_steps.specs.release_list.Standing.{Files}
+use Rattle.release_steps.specs.release_list.Steps.{Now, now_of}
+use Rattle.fileset_shapes.specs.domain_layout.Filled.{Contents}
+use Rattle.fileset_shapes.specs.domain_layout.Layout.{Layout}
+use Rattle.fileset_shapes.specs.domain_layout.Reached.{Frame}
 
 -- the anchor and its version; the fileset table; where the pages of each slot's tag directory
 -- stand; the pages of metadata, and the bytes of all pages; the free space and the free cells; and

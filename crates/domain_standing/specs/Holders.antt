@@ -1,17 +1,17 @@
 -- For what each used page of a domain is held: for one thing alone, or it waits until it is free.
 use Rattle.std.specs.Prelude.{◌≡◌, ◌<◌, ◌≤◌, ◌↔◌, ℕ, true, false, Option, Some, None, Contains, slice_get}
 use Rattle.std.specs.FinSet.{contains}
-use Rattle.domain_base.specs.declared.place.CellAt.{CellAt}
-use Rattle.domain_base.specs.declared.place.Home.{Home}
-use Rattle.log_ring.specs.Homes.{IsLogPage, IsMember, member_of}
-use Rattle.tag_dirs.specs.Directory.{has_home}
-use Rattle.extent_maps.specs.declared.run.PagePlace.TheVariants.{At}
-use Rattle.free_cells.specs.Cells.{table_of}
-use Rattle.free_space.specs.Spaces.{volume_of}
-use Rattle.free_space.specs.VolumeSpace.{VolumeSpace, is_waiting}
-use Rattle.deferred_delete.specs.Standing.{Files, place_in}
-use Rattle.attaching_laws.specs.Space.{IsOpen}
-use Rattle.domain_layout.specs.Reached.{first_cells}
+use Rattle.fileset_shapes.specs.domain_base.declared.place.CellAt.{CellAt}
+use Rattle.fileset_shapes.specs.domain_base.declared.place.Home.{Home}
+use Rattle.fileset_shapes.specs.log_ring.Homes.{IsLogPage, IsMember, member_of}
+use Rattle.fileset_shapes.specs.tag_dirs.Directory.{has_home}
+use Rattle.fileset_shapes.specs.extent_maps.declared.run.PagePlace.TheVariants.{At}
+use Rattle.fileset_shapes.specs.free_cells.Cells.{table_of}
+use Rattle.fileset_shapes.specs.free_space.Spaces.{volume_of}
+use Rattle.fileset_shapes.specs.free_space.VolumeSpace.{VolumeSpace, is_waiting}
+use Rattle.release_steps.specs.release_list.Standing.{Files, place_in}
+use Rattle.domain_standing.specs.Space.{IsOpen}
+use Rattle.fileset_shapes.specs.domain_layout.Reached.{first_cells}
 use Rattle.domain_standing.specs.Chains.{IndexesAt}
 use Rattle.domain_standing.specs.Domain.{DomainNow}
 

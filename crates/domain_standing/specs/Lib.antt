@@ -1,3 +1,6 @@
+pub mod Space
+pub mod Marks
+pub mod Keeping
 pub mod Domain
 pub mod Tables
 pub mod Chains
@@ -6,10 +9,38 @@ pub mod Slots
 pub mod Rest
 pub mod Sources
 pub mod Standing
-pub use Rattle.attaching_laws.specs.Space
-pub use Rattle.attaching_laws.specs.Sets
-pub use Rattle.attaching_laws.specs.Keeping
-pub use Rattle.attaching_laws.specs.Marks
-pub use Rattle.attaching_laws.specs.Files
-pub use Rattle.attaching_laws.specs.Found
-pub use Rattle.attaching_laws.specs.Good
+pub use Rattle.fileset_shapes.specs.cell_records
+pub use Rattle.fileset_shapes.specs.directory_pages
+pub use Rattle.fileset_shapes.specs.directory_rows
+pub use Rattle.fileset_shapes.specs.disk_label
+pub use Rattle.fileset_shapes.specs.domain_base
+pub use Rattle.fileset_shapes.specs.domain_layout
+pub use Rattle.fileset_shapes.specs.extent_maps
+pub use Rattle.fileset_shapes.specs.extent_records
+pub use Rattle.fileset_shapes.specs.file_chains
+pub use Rattle.fileset_shapes.specs.file_release
+pub use Rattle.fileset_shapes.specs.fileset_files
+pub use Rattle.fileset_shapes.specs.fileset_model
+pub use Rattle.fileset_shapes.specs as fileset_shapes
+pub use Rattle.fileset_shapes.specs.fileset_table
+pub use Rattle.fileset_shapes.specs.fileset_values
+pub use Rattle.fileset_shapes.specs.filesets_reading
+pub use Rattle.fileset_shapes.specs.free_cells
+pub use Rattle.fileset_shapes.specs.free_space
+pub use Rattle.stored_set.specs.index_pages
+pub use Rattle.fileset_shapes.specs.legal_histories
+pub use Rattle.fileset_shapes.specs.log_recovery
+pub use Rattle.fileset_shapes.specs.log_ring
+pub use Rattle.fileset_shapes.specs.metadata_cells
+pub use Rattle.fileset_shapes.specs.name_space
+pub use Rattle.fileset_shapes.specs.page_store
+pub use Rattle.fileset_shapes.specs.page_ways
+pub use Rattle.fileset_shapes.specs.plain_program
+pub use Rattle.fileset_shapes.specs.quota_book
+pub use Rattle.release_steps.specs.release_list
+pub use Rattle.release_steps.specs as release_steps
+pub use Rattle.fileset_shapes.specs.sorted_sets
+pub use Rattle.stored_set.specs as stored_set
+pub use Rattle.fileset_shapes.specs.tag_dirs
+pub use Rattle.fileset_shapes.specs.volume_disk
+pub use Rattle.fileset_shapes.specs.word_forms

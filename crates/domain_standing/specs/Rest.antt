@@ -1,19 +1,19 @@
 -- What is asked of single cells of a domain, beside that they stand in chains.
 use Rattle.std.specs.Prelude.{◌≡◌, ◌≤◌, ℕ, true, false, Some, List, [], ◌∷◌}
 use Rattle.std.specs.List.{AllByRecursion}
-use Rattle.domain_base.specs.declared.place.CellAt.{CellAt}
-use Rattle.domain_base.specs.declared.place.Tag.{Tag}
-use Rattle.record_table.specs.Records.{kind_of, last_kind}
-use Rattle.record_table.specs.declared.record.Record.{Record}
-use Rattle.bmt_mcells.specs.Cell.{Cell, record_of}
-use Rattle.bmt_mcells.specs.Chain.{PlacedCell, StandsAt}
-use Rattle.bmt_mcells.specs.declared.head.CellKind.TheVariants.{Primary}
-use Rattle.tag_dirs.specs.Directory.{cell_of}
-use Rattle.bitfile_core.specs.Files.{is_removed}
-use Rattle.deferred_delete.specs.Standing.{Files}
-use Rattle.domain_layout.specs.CellRules.{has_kind, is_good_first, item_of, of_original}
-use Rattle.domain_layout.specs.Owners.{IsOnTable}
-use Rattle.domain_layout.specs.TagRules.{IsLate}
+use Rattle.fileset_shapes.specs.domain_base.declared.place.CellAt.{CellAt}
+use Rattle.fileset_shapes.specs.domain_base.declared.place.Tag.{Tag}
+use Rattle.fileset_shapes.specs.cell_records.Records.{kind_of, last_kind}
+use Rattle.fileset_shapes.specs.cell_records.declared.record.Record.{Record}
+use Rattle.fileset_shapes.specs.metadata_cells.Cell.{Cell, record_of}
+use Rattle.fileset_shapes.specs.metadata_cells.Chain.{PlacedCell, StandsAt}
+use Rattle.fileset_shapes.specs.metadata_cells.declared.head.CellKind.TheVariants.{Primary}
+use Rattle.fileset_shapes.specs.tag_dirs.Directory.{cell_of}
+use Rattle.fileset_shapes.specs.fileset_files.Files.{is_removed}
+use Rattle.release_steps.specs.release_list.Standing.{Files}
+use Rattle.fileset_shapes.specs.domain_layout.CellRules.{has_kind, is_good_first, item_of, of_original}
+use Rattle.fileset_shapes.specs.domain_layout.Owners.{IsOnTable}
+use Rattle.fileset_shapes.specs.domain_layout.TagRules.{IsLate}
 use Rattle.domain_standing.specs.Domain.{DomainNow, item_in, layout_of}
 
 -- a tag of an original leads to a cell

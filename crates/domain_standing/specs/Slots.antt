@@ -1,12 +1,12 @@
 -- The filesets of a domain: what its pages mean, and each as a set of files and directories.
 use Rattle.std.specs.Prelude.{◌≡◌, ℕ, false, Some}
-use Rattle.fileset_model.specs.Filesets.{FilesetMap}
-use Rattle.fileset_table.specs.declared.slot.FilesetEntry.{FilesetEntry}
-use Rattle.fileset_table.specs.declared.slot.SlotItem.TheVariants as slot
-use Rattle.attaching_laws.specs.Sets.{StandsAsSet}
-use Rattle.domain_layout.specs.CellRules.{of_clone}
-use Rattle.domain_layout.specs.Filled.{AreFilled}
-use Rattle.domain_layout.specs.Shape.{AreShapesOf, FilesetShape, Shapes}
+use Rattle.fileset_shapes.specs.fileset_model.Filesets.{FilesetMap}
+use Rattle.fileset_shapes.specs.fileset_table.declared.slot.FilesetEntry.{FilesetEntry}
+use Rattle.fileset_shapes.specs.fileset_table.declared.slot.SlotItem.TheVariants as slot
+use Rattle.stored_set.specs.Sets.{StandsAsSet}
+use Rattle.fileset_shapes.specs.domain_layout.CellRules.{of_clone}
+use Rattle.fileset_shapes.specs.domain_layout.Filled.{AreFilled}
+use Rattle.fileset_shapes.specs.domain_layout.Shape.{AreShapesOf, FilesetShape, Shapes}
 use Rattle.domain_standing.specs.Domain.{DomainNow, item_in}
 
 -- the pages have these filesets; each is an original, and stands as the set that its shape shows

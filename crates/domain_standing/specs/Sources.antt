@@ -1,14 +1,14 @@
 -- Files that are read through other ones.
 use Rattle.std.specs.Prelude.{◌≡◌, List, IsSome}
 use Rattle.std.specs.Option.{option_and_then}
-use Rattle.domain_base.specs.declared.place.CellAt.{CellAt}
-use Rattle.page_store.specs.Pages.{Pages}
-use Rattle.record_table.specs.declared.record.Record.{Record}
-use Rattle.bmt_mcells.specs.Cell.{Cell, record_of}
-use Rattle.bmt_mcells.specs.declared.head.CellKind.TheVariants.{Primary}
-use Rattle.deferred_delete.specs.Standing.{source_in}
-use Rattle.domain_layout.specs.Layout.{Layout}
-use Rattle.domain_layout.specs.Owners.{IsOnTable}
+use Rattle.fileset_shapes.specs.domain_base.declared.place.CellAt.{CellAt}
+use Rattle.fileset_shapes.specs.page_store.Pages.{Pages}
+use Rattle.fileset_shapes.specs.cell_records.declared.record.Record.{Record}
+use Rattle.fileset_shapes.specs.metadata_cells.Cell.{Cell, record_of}
+use Rattle.fileset_shapes.specs.metadata_cells.declared.head.CellKind.TheVariants.{Primary}
+use Rattle.release_steps.specs.release_list.Standing.{source_in}
+use Rattle.fileset_shapes.specs.domain_layout.Layout.{Layout}
+use Rattle.fileset_shapes.specs.domain_layout.Owners.{IsOnTable}
 use Rattle.domain_standing.specs.Domain.{DomainNow, layout_of}
 
 -- records say through which file another one is read

@@ -1,22 +1,22 @@
 -- A domain that stands: its pages, and what is kept in memory beside them, are those of filesets.
 use Rattle.std.specs.Prelude.{◌≡◌, ◌*◌, ◌<◌, ◌≤◌, ◌↔◌, ℕ, true, List, Some, IsSomeAnd}
 use Rattle.std.specs.FinMap.{get}
-use Rattle.domain_base.specs.Version.{bitmap_pages}
-use Rattle.domain_base.specs.declared.place.Kind.TheVariants.{Directory}
-use Rattle.domain_base.specs.declared.place.Tag.{Tag}
-use Rattle.bmt_mcells.specs.Chain.{PlacedCell}
-use Rattle.free_space.specs.Spaces.{IsHeld}
-use Rattle.log_ring.specs.Homes.{IsMember, member_of}
-use Rattle.fileset_model.specs.Filesets.{FilesetMap}
-use Rattle.fileset_table.specs.declared.slot.FilesetEntry.{FilesetEntry}
-use Rattle.fileset_table.specs.declared.slot.SlotItem.TheVariants as slot
-use Rattle.quota_book.specs.Book.{Book}
-use Rattle.quota_book.specs.Sums.{IsBookOf}
-use Rattle.deferred_delete.specs.Standing.{Files}
-use Rattle.attaching_laws.specs.Marks.{HasBitmaps}
-use Rattle.bitmap_marks.specs.Marks.{is_marked}
-use Rattle.domain_layout.specs.DirectoryRules.{Has, HasWrongParent}
-use Rattle.domain_layout.specs.Seen.{SeenFile}
+use Rattle.fileset_shapes.specs.domain_base.Version.{bitmap_pages}
+use Rattle.fileset_shapes.specs.domain_base.declared.place.Kind.TheVariants.{Directory}
+use Rattle.fileset_shapes.specs.domain_base.declared.place.Tag.{Tag}
+use Rattle.fileset_shapes.specs.metadata_cells.Chain.{PlacedCell}
+use Rattle.fileset_shapes.specs.free_space.Spaces.{IsHeld}
+use Rattle.fileset_shapes.specs.log_ring.Homes.{IsMember, member_of}
+use Rattle.fileset_shapes.specs.fileset_model.Filesets.{FilesetMap}
+use Rattle.fileset_shapes.specs.fileset_table.declared.slot.FilesetEntry.{FilesetEntry}
+use Rattle.fileset_shapes.specs.fileset_table.declared.slot.SlotItem.TheVariants as slot
+use Rattle.fileset_shapes.specs.quota_book.Book.{Book}
+use Rattle.fileset_shapes.specs.quota_book.Sums.{IsBookOf}
+use Rattle.release_steps.specs.release_list.Standing.{Files}
+use Rattle.domain_standing.specs.Marks.{HasBitmaps}
+use Rattle.fileset_shapes.specs.free_cells.Marks.{is_marked}
+use Rattle.fileset_shapes.specs.domain_layout.DirectoryRules.{Has, HasWrongParent}
+use Rattle.fileset_shapes.specs.domain_layout.Seen.{SeenFile}
 use Rattle.domain_standing.specs.Chains.{IndexesAt, StandChains}
 use Rattle.domain_standing.specs.Domain.{DomainNow, item_in}
 use Rattle.domain_standing.specs.Holders.{HoldsOwned}

@@ -1,15 +1,15 @@
 -- The tables of a domain: pages of metadata, free space and cells as they say them.
 use Rattle.std.specs.Prelude.{◌≡◌, ℕ, Some}
-use Rattle.domain_base.specs.declared.place.CellAt.{CellAt}
-use Rattle.domain_base.specs.declared.place.Home.{Home}
-use Rattle.bmt_mcells.specs.Cell.{Cell}
-use Rattle.bmt_mcells.specs.Chain.{StandsAt}
-use Rattle.log_recovery.specs.Range.{IsLogInside}
-use Rattle.log_ring.specs.Homes.{IsMember}
-use Rattle.attaching_laws.specs.Space.{AreCellsOf, AreFew}
-use Rattle.domain_layout.specs.CellRules.{SaysVolume}
-use Rattle.domain_layout.specs.Layout.{IsLayout}
-use Rattle.domain_layout.specs.Reached.{Frame, MayBe, first_cells}
+use Rattle.fileset_shapes.specs.domain_base.declared.place.CellAt.{CellAt}
+use Rattle.fileset_shapes.specs.domain_base.declared.place.Home.{Home}
+use Rattle.fileset_shapes.specs.metadata_cells.Cell.{Cell}
+use Rattle.fileset_shapes.specs.metadata_cells.Chain.{StandsAt}
+use Rattle.fileset_shapes.specs.log_recovery.Range.{IsLogInside}
+use Rattle.fileset_shapes.specs.log_ring.Homes.{IsMember}
+use Rattle.domain_standing.specs.Space.{AreCellsOf, AreFew}
+use Rattle.fileset_shapes.specs.domain_layout.CellRules.{SaysVolume}
+use Rattle.fileset_shapes.specs.domain_layout.Layout.{IsLayout}
+use Rattle.fileset_shapes.specs.domain_layout.Reached.{Frame, MayBe, first_cells}
 use Rattle.domain_standing.specs.Domain.{DomainNow, layout_of}
 
 -- the place of a volume's first cell

@@ -1,11 +1,11 @@
 //! A domain that was just made.
 ghost use Rattle.std.specs.Prelude.{◌≡◌, ℕ, []};
 ghost use Rattle.std.specs.FinMap.{empty};
-ghost use Rattle.log_recovery.specs.Range.{IsLogInside};
-ghost use Rattle.layout_laws.specs.NewDomain.{IsNew};
-ghost use Rattle.deferred_delete.specs.Listing.{IsEmpty};
-ghost use Rattle.domain_layout.specs.Layout.{IsLayout};
-ghost use Rattle.attaching_laws.specs.Space.{AreCellsOf, AreFew, IsSpaceOf};
+ghost use Rattle.fileset_shapes.specs.log_recovery.Range.{IsLogInside};
+ghost use Rattle.fileset_shapes.specs.domain_layout.NewDomain.{IsNew};
+ghost use Rattle.release_steps.specs.release_list.Listing.{IsEmpty};
+ghost use Rattle.fileset_shapes.specs.domain_layout.Layout.{IsLayout};
+ghost use Rattle.domain_standing.specs.Space.{AreCellsOf, AreFew, IsSpaceOf};
 ghost use Rattle.domain_standing.specs.Domain.{DomainNow, layout_of};
 ghost use Rattle.domain_standing.specs.Standing.{StandsDomain};
 

@@ -1,13 +1,13 @@
 //! What a domain that stands means.
 ghost use Rattle.std.specs.Prelude.{◌≡◌, Some};
-ghost use Rattle.domain_base.specs.declared.place.Home.{Home};
-ghost use Rattle.fileset_model.specs.Filesets.{FilesetMap};
-ghost use Rattle.fileset_model.specs.LooksLike.{LooksLike};
-ghost use Rattle.domain_layout.specs.Read.{ReadsFrom, contents_of};
+ghost use Rattle.fileset_shapes.specs.domain_base.declared.place.Home.{Home};
+ghost use Rattle.fileset_shapes.specs.fileset_model.Filesets.{FilesetMap};
+ghost use Rattle.fileset_shapes.specs.fileset_model.LooksLike.{LooksLike};
+ghost use Rattle.fileset_shapes.specs.domain_layout.Read.{ReadsFrom, contents_of};
 ghost use Rattle.domain_standing.specs.Domain.{DomainNow};
 ghost use Rattle.domain_standing.specs.Standing.{StandsDomain};
 
-/// Where the bytes of a domain that stands are those of its pages, the pages have the filesets for
+/// If the bytes of a domain that stands are those of its pages, the pages have the filesets for
 /// which it stands.
 pub fn a_domain_reads_so()
     ensures { (d : DomainNow) (all : FilesetMap) (home : Home) → StandsDomain d all

@@ -1,15 +1,15 @@
 -- The pages of a domain that is kept in memory mean a state.
 use Rattle.std.proofs.Common.{ℕ, List, length, refl}
 use Rattle.std.specs.FinSet as set
-use Rattle.fileset_model.specs.Filesets.{FilesetMap}
-use Rattle.history_model.specs.State.{State, rack_of}
-use Rattle.page_ways.specs.Frame.{frame_in}
-use Rattle.staged_pages.specs.Store.{before_of}
-use Rattle.domain_standing.specs.Domain.{DomainNow}
-use Rattle.domain_standing.specs.Standing.{StandsDomain}
-use Rattle.domain_standing.proofs.OneMeaning.{reads_so}
-use Rattle.domain_memory.specs.Memory.{StandsFor, kept_in}
-use Rattle.domain_memory.specs.declared.memory.DomainMemory.{DomainMemory}
+use Rattle.no_faults.specs.fileset_model.Filesets.{FilesetMap}
+use Rattle.no_faults.specs.legal_histories.State.{State, rack_of}
+use Rattle.no_faults.specs.page_ways.Frame.{frame_in}
+use Rattle.no_faults.specs.staged_pages.Store.{before_of}
+use Rattle.no_faults.specs.domain_standing.Domain.{DomainNow}
+use Rattle.no_faults.specs.domain_standing.Standing.{StandsDomain}
+use Rattle.no_faults.proofs.OfDomainStanding.OneMeaning.{reads_so}
+use Rattle.no_faults.specs.domain_memory.Memory.{StandsFor, kept_in}
+use Rattle.no_faults.specs.domain_memory.declared.memory.DomainMemory.{DomainMemory}
 use Rattle.domain_state.specs.Opening.{IsStartOf}
 use Rattle.domain_state.proofs.OldPages.{old_counted, old_homes}
 use Rattle.domain_state.proofs.StartMembers.{are_members, members_of}

@@ -2,26 +2,26 @@
 use Rattle.std.proofs.Common.{◌≡◌, List, [], None, ℕ, IsSomeAnd, refl, sym, subst}
 use Rattle.std.proofs.Math.Logic.{∥∥₁_map}
 use Rattle.std.specs.FinMap.{get}
-use Rattle.domain_base.specs.declared.place.Home.{Home}
-use Rattle.page_store.specs.Pages.{Pages}
-use Rattle.fileset_model.specs.Filesets.{FilesetMap}
-use Rattle.fileset_model.specs.LooksLike.{LooksLike}
-use Rattle.fileset_table.specs.Page.{IsTablePage}
-use Rattle.history_model.specs.Legal.{Legal, stays}
-use Rattle.history_model.specs.Point.{start_point}
-use Rattle.history_model.specs.State.{State}
-use Rattle.page_ways.specs.Frame.{frame_in}
-use Rattle.staged_pages.specs.Store.{before_of}
-use Rattle.domain_layout.specs.Read.{ReadsFrom, contents_of}
-use Rattle.domain_layout.specs.Reached.{Frame}
-use Rattle.domain_layout.proofs.OneShape.{one_shape}
-use Rattle.domain_layout.proofs.OneSlot.{one_filling}
-use Rattle.layout_laws.proofs.OneMeaning.{there_same}
-use Rattle.layout_laws.proofs.OnePage.{HasOne, one_of}
-use Rattle.domain_standing.specs.Domain.{DomainNow}
-use Rattle.domain_standing.proofs.OneMeaning.{reads_so}
-use Rattle.domain_memory.specs.Memory.{StandsFor, kept_in}
-use Rattle.domain_memory.specs.declared.memory.DomainMemory.{DomainMemory}
+use Rattle.no_faults.specs.domain_base.declared.place.Home.{Home}
+use Rattle.no_faults.specs.page_store.Pages.{Pages}
+use Rattle.no_faults.specs.fileset_model.Filesets.{FilesetMap}
+use Rattle.no_faults.specs.fileset_model.LooksLike.{LooksLike}
+use Rattle.no_faults.specs.fileset_table.Page.{IsTablePage}
+use Rattle.no_faults.specs.legal_histories.Legal.{Legal, stays}
+use Rattle.no_faults.specs.legal_histories.Point.{start_point}
+use Rattle.no_faults.specs.legal_histories.State.{State}
+use Rattle.no_faults.specs.page_ways.Frame.{frame_in}
+use Rattle.no_faults.specs.staged_pages.Store.{before_of}
+use Rattle.no_faults.specs.domain_layout.Read.{ReadsFrom, contents_of}
+use Rattle.no_faults.specs.domain_layout.Reached.{Frame}
+use Rattle.no_faults.proofs.OfDomainLayout.OneShape.{one_shape}
+use Rattle.no_faults.proofs.OfDomainLayout.OneSlot.{one_filling}
+use Rattle.no_faults.proofs.OfDomainLayout.OneMeaning.{there_same}
+use Rattle.no_faults.proofs.OfDomainLayout.OnePage.{HasOne, one_of}
+use Rattle.no_faults.specs.domain_standing.Domain.{DomainNow}
+use Rattle.no_faults.proofs.OfDomainStanding.OneMeaning.{reads_so}
+use Rattle.no_faults.specs.domain_memory.Memory.{StandsFor, kept_in}
+use Rattle.no_faults.specs.domain_memory.declared.memory.DomainMemory.{DomainMemory}
 use Rattle.domain_state.specs.History.{GoesOn, LeadsTo, StandsForSome}
 use Rattle.domain_state.specs.Opening.{IsStartOf}
 use Rattle.domain_state.specs.Room.{IsWithinRoom}

@@ -1,15 +1,15 @@
 -- No more pages are held where a history begins than its state has room for.
 use Rattle.std.proofs.Common.{◌≡◌, ◌+◌, ◌-◌, ℕ, List, [], arith, subst, sym}
 use Rattle.std.proofs.Math.Logic.{∥∥₁_map}
-use Rattle.fileset_model.specs.Filesets.{FilesetMap}
-use Rattle.history_model.specs.Room.{room}
-use Rattle.page_ways.specs.Frame.{frame_in}
-use Rattle.staged_pages.specs.Store.{before_of}
-use Rattle.domain_memory.specs.Held.{held_open}
-use Rattle.domain_memory.specs.Memory.{StandsFor, kept_in}
-use Rattle.domain_memory.specs.Sound.{AreSound}
-use Rattle.domain_memory.specs.Staged.{IsSettled}
-use Rattle.domain_memory.specs.declared.memory.DomainMemory.{DomainMemory}
+use Rattle.no_faults.specs.fileset_model.Filesets.{FilesetMap}
+use Rattle.no_faults.specs.legal_histories.Room.{room}
+use Rattle.no_faults.specs.page_ways.Frame.{frame_in}
+use Rattle.no_faults.specs.staged_pages.Store.{before_of}
+use Rattle.no_faults.specs.domain_memory.Held.{held_open}
+use Rattle.no_faults.specs.domain_memory.Memory.{StandsFor, kept_in}
+use Rattle.no_faults.specs.free_space.Sound.{AreSound}
+use Rattle.no_faults.specs.domain_memory.Staged.{IsSettled}
+use Rattle.no_faults.specs.domain_memory.declared.memory.DomainMemory.{DomainMemory}
 use Rattle.domain_state.specs.Room.{IsWithinRoom}
 use Rattle.domain_state.proofs.MemberSums.{one_number}
 use Rattle.domain_state.proofs.WithinRoom.{begins_within_room}

@@ -2,11 +2,11 @@
 use Rattle.std.proofs.Common.{◌≡◌, ◌∙◌, ◌++◌, ◌∷◌, ℕ, List, [], Contains, length, map, get_or, refl, sym, ap, subst, arith, ⊎_elim}
 use Rattle.std.proofs.lemmas.Bool.{cases_lt}
 use Rattle.std.proofs.lemmas.List.{map-append}
-use Rattle.fileset_model.specs.declared.entry.Entry.{Entry}
-use Rattle.fileset_model.specs.declared.reply.Refusal.TheVariants.{Panicked}
-use Rattle.fileset_model.specs.declared.reply.Reply.{Reply}
-use Rattle.fileset_model.specs.declared.reply.Reply.TheVariants.{Refused}
-use Rattle.deferred_delete.proofs.Lists.{get_front, get_last, longer}
+use Rattle.no_faults.specs.fileset_values.declared.entry.Entry.{Entry}
+use Rattle.no_faults.specs.fileset_values.declared.reply.Refusal.TheVariants.{Panicked}
+use Rattle.no_faults.specs.fileset_values.declared.reply.Reply.{Reply}
+use Rattle.no_faults.specs.fileset_values.declared.reply.Reply.TheVariants.{Refused}
+use Rattle.no_faults.proofs.OfReleaseList.Lists.{get_front, get_last, longer}
 use Rattle.domain_state.specs.History.{IsCalm, NonePanicked, with_last_stamped}
 
 pub none_yet_panicked : NonePanicked []

@@ -1,26 +1,26 @@
 -- A history goes on by an entry whose change is kept.
 use Rattle.std.proofs.Common.{◌≡◌, ◌∙◌, ◌++◌, ◌∷◌, [], ℕ, List, Option, ap, arith}
 use Rattle.std.proofs.Math.Logic.{∥∥₁_map}
-use Rattle.page_store.specs.Pages.{Pages}
-use Rattle.fileset_model.specs.Filesets.{FilesetMap}
-use Rattle.fileset_model.specs.declared.command.Command.{Command}
-use Rattle.fileset_model.specs.declared.entry.Entry.{Entry}
-use Rattle.deferred_delete.proofs.Lists.{longer}
-use Rattle.history_model.specs.State.{State}
-use Rattle.history_laws.specs.GoingOn.{job_left}
-use Rattle.history_laws.proofs.GoesOn.{goes_on_from}
-use Rattle.page_ways.specs.Frame.{frame_in}
-use Rattle.domain_layout.specs.Reached.{Frame}
-use Rattle.domain_standing.specs.Domain.{DomainNow}
-use Rattle.domain_memory.specs.Held.{held_open}
-use Rattle.domain_memory.specs.Memory.{StandsFor, books_in, kept_in}
-use Rattle.domain_memory.specs.Staged.{IsStagedForSome, MayBeKept}
-use Rattle.domain_memory.specs.declared.memory.DomainMemory.{DomainMemory}
+use Rattle.no_faults.specs.page_store.Pages.{Pages}
+use Rattle.no_faults.specs.fileset_model.Filesets.{FilesetMap}
+use Rattle.no_faults.specs.fileset_values.declared.command.Command.{Command}
+use Rattle.no_faults.specs.fileset_values.declared.entry.Entry.{Entry}
+use Rattle.no_faults.proofs.OfReleaseList.Lists.{longer}
+use Rattle.no_faults.specs.legal_histories.State.{State}
+use Rattle.no_faults.specs.legal_histories.GoingOn.{job_left}
+use Rattle.no_faults.proofs.OfLegalHistories.GoesOn.{goes_on_from}
+use Rattle.no_faults.specs.page_ways.Frame.{frame_in}
+use Rattle.no_faults.specs.domain_layout.Reached.{Frame}
+use Rattle.no_faults.specs.domain_standing.Domain.{DomainNow}
+use Rattle.no_faults.specs.domain_memory.Held.{held_open}
+use Rattle.no_faults.specs.domain_memory.Memory.{StandsFor, books_in, kept_in}
+use Rattle.no_faults.specs.domain_memory.Staged.{IsStagedForSome, MayBeKept}
+use Rattle.no_faults.specs.domain_memory.declared.memory.DomainMemory.{DomainMemory}
 use Rattle.domain_state.specs.History.{GoesOn, MayCommit, MayCommitUnchanged}
 use Rattle.domain_state.specs.Room.{HoldsFew}
 use Rattle.domain_state.proofs.NoClones.{have_no_clone}
 use Rattle.domain_state.proofs.StaysWithin.{within_back, within_committed, within_longer}
-use Rattle.domain_memory.proofs.KeptStands.{stands_still}
+use Rattle.no_faults.proofs.OfDomainMemory.KeptStands.{stands_still}
 
 module _ (pages : Pages) (frame : Frame) (sizes : List ℕ) (old : DomainMemory) (entries : List Entry) (job : Option Command) (e : Entry) (held : ∥ GoesOn pages frame sizes old entries job ∥₁)
     (may : (all : FilesetMap) → StandsFor old all → MayCommit pages frame sizes old entries job e all) where

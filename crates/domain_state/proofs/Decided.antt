@@ -1,10 +1,10 @@
 -- Facts that are decided.
 use Rattle.std.proofs.Common.{◌≡◌, ◌∙◌, ◌⊎◌, inl, inr, ℕ, ◌<◌, ◌≤◌, Bool, true, false, Option, Some, None, refl, sym, ap, arith, ⊎_elim}
 use Rattle.std.proofs.lemmas.Bool.{cases_Bool, cases_lt, true≢false}
-use Rattle.domain_base.specs.declared.place.Home.{Home}
-use Rattle.page_store.specs.Pages.{same_home}
-use Rattle.bmt_mcells.proofs.Changed.{homes_same, same_itself}
-use Rattle.layout_laws.proofs.OnePage.{some_same}
+use Rattle.no_faults.specs.domain_base.declared.place.Home.{Home}
+use Rattle.no_faults.specs.page_store.Pages.{same_home}
+use Rattle.no_faults.proofs.OfMetadataCells.Changed.{homes_same, same_itself}
+use Rattle.no_faults.proofs.OfDomainLayout.OnePage.{some_same}
 
 abbrev pub Decided : Type 0 → Type 0
 Decided P = P ⊎ ¬ P

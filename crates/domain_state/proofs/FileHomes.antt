@@ -13,39 +13,39 @@ use Rattle.std.specs.List.{flat_map, sum_by}
 use Rattle.std.specs.Option.{option_and_then, option_map, option_map_or}
 use Rattle.std.specs.Ordering.{eq_by_cmp}
 use Rattle.std.specs.declared.cmp.Ordering.{Ordering}
-use Rattle.domain_base.specs.declared.place.Home.{Home}
-use Rattle.domain_base.specs.declared.place.Kind.{Kind}
-use Rattle.domain_base.specs.declared.place.Kind.TheVariants as kind
-use Rattle.domain_base.specs.declared.place.Tag.{Tag}
-use Rattle.page_store.specs.Bitfiles.{Bitfile}
-use Rattle.page_store.specs.Pages.{Pages}
-use Rattle.bmt_mcells.specs.Chain.{PlacedCell}
-use Rattle.fileset_model.specs.Filesets.{FilesetMap}
-use Rattle.fileset_model.specs.LooksLike.{IsShown as IsShownPath}
-use Rattle.fileset_model.specs.Orders.{Name, Path, name_cmp-IsAntisymmetric}
-use Rattle.fileset_model.specs.Paths.{is_out_of_sync}
-use Rattle.fileset_model.specs.declared.fileset.FilesetSlot.{FilesetSlot}
-use Rattle.fileset_model.specs.declared.fileset.Role.{Role}
-use Rattle.fileset_model.specs.declared.fileset.Role.TheVariants.{Original}
-use Rattle.fileset_model.specs.declared.node.Node.{Node}
-use Rattle.fileset_model.specs.declared.node.Node.TheVariants.{Directory, File}
-use Rattle.fileset_table.specs.Table.{Table, entry_of}
-use Rattle.fileset_table.specs.declared.slot.FilesetEntry.{FilesetEntry}
-use Rattle.fileset_table.specs.declared.slot.SlotItem.{SlotItem}
-use Rattle.fileset_table.specs.declared.slot.SlotItem.TheVariants as slot
-use Rattle.history_model.specs.Room.{page_count, present_pages}
-use Rattle.domain_layout.specs.CellRules.{of_clone}
-use Rattle.domain_layout.specs.DirectoryRules.{Has, IsInItem, IsInOriginal}
-use Rattle.domain_layout.specs.Filled.{Contents, Fills, FillsThere, IsFilled}
-use Rattle.domain_layout.specs.Seen.{SeenFile, seen_in}
-use Rattle.domain_layout.specs.Shape.{FilesetShape, IsOriginal, IsShapeOf, Shapes}
-use Rattle.domain_layout.proofs.There.{chain_is, is_there}
-use Rattle.layout_laws.proofs.OnePage.{HasOne, one_of, some_same}
-use Rattle.layout_laws.proofs.OneTable.{one_in}
-use Rattle.domain_standing.specs.Domain.{DomainNow, item_in}
-use Rattle.domain_standing.specs.Standing.{StandsDomain}
-use Rattle.no_fault_laws.proofs.Originals.{IsOriginalSlot, is_role}
-use Rattle.no_fault_laws.proofs.Shown.{IsShown, original_shown}
+use Rattle.no_faults.specs.domain_base.declared.place.Home.{Home}
+use Rattle.no_faults.specs.domain_base.declared.place.Kind.{Kind}
+use Rattle.no_faults.specs.domain_base.declared.place.Kind.TheVariants as kind
+use Rattle.no_faults.specs.domain_base.declared.place.Tag.{Tag}
+use Rattle.no_faults.specs.page_store.Bitfiles.{Bitfile}
+use Rattle.no_faults.specs.page_store.Pages.{Pages}
+use Rattle.no_faults.specs.metadata_cells.Chain.{PlacedCell}
+use Rattle.no_faults.specs.fileset_model.Filesets.{FilesetMap}
+use Rattle.no_faults.specs.fileset_model.LooksLike.{IsShown as IsShownPath}
+use Rattle.no_faults.specs.fileset_values.Orders.{Name, Path, name_cmp-IsAntisymmetric}
+use Rattle.no_faults.specs.fileset_model.Paths.{is_out_of_sync}
+use Rattle.no_faults.specs.fileset_model.declared.fileset.FilesetSlot.{FilesetSlot}
+use Rattle.no_faults.specs.fileset_model.declared.fileset.Role.{Role}
+use Rattle.no_faults.specs.fileset_model.declared.fileset.Role.TheVariants.{Original}
+use Rattle.no_faults.specs.fileset_model.declared.node.Node.{Node}
+use Rattle.no_faults.specs.fileset_model.declared.node.Node.TheVariants.{Directory, File}
+use Rattle.no_faults.specs.fileset_table.Table.{Table, entry_of}
+use Rattle.no_faults.specs.fileset_table.declared.slot.FilesetEntry.{FilesetEntry}
+use Rattle.no_faults.specs.fileset_table.declared.slot.SlotItem.{SlotItem}
+use Rattle.no_faults.specs.fileset_table.declared.slot.SlotItem.TheVariants as slot
+use Rattle.no_faults.specs.legal_histories.Room.{page_count, present_pages}
+use Rattle.no_faults.specs.domain_layout.CellRules.{of_clone}
+use Rattle.no_faults.specs.domain_layout.DirectoryRules.{Has, IsInItem, IsInOriginal}
+use Rattle.no_faults.specs.domain_layout.Filled.{Contents, Fills, FillsThere, IsFilled}
+use Rattle.no_faults.specs.domain_layout.Seen.{SeenFile, seen_in}
+use Rattle.no_faults.specs.domain_layout.Shape.{FilesetShape, IsOriginal, IsShapeOf, Shapes}
+use Rattle.no_faults.proofs.OfDomainLayout.There.{chain_is, is_there}
+use Rattle.no_faults.proofs.OfDomainLayout.OnePage.{HasOne, one_of, some_same}
+use Rattle.no_faults.proofs.OfDomainLayout.OneTable.{one_in}
+use Rattle.no_faults.specs.domain_standing.Domain.{DomainNow, item_in}
+use Rattle.no_faults.specs.domain_standing.Standing.{StandsDomain}
+use Rattle.no_faults.proofs.Originals.{IsOriginalSlot, is_role}
+use Rattle.no_faults.proofs.Shown.{IsShown, original_shown}
 use Rattle.domain_state.proofs.HomeLists.{found_in, listed_in}
 
 -- ---- the list

@@ -11,10 +11,10 @@ use Rattle.std.specs.FinMap.{nat_cmp-IsAntisymmetric}
 use Rattle.std.specs.FinSet.{FinSet, contains, contains-empty, contains-remove, empty, len, len-empty, len-remove, remove, same_set}
 use Rattle.std.specs.List.{list_any, sum_by}
 use Rattle.std.specs.Ordering.{eq_by_cmp, is_eq, nat_cmp}
-use Rattle.domain_base.specs.declared.place.Home.{Home}
-use Rattle.domain_memory.specs.Held.{held_if_open, held_open}
-use Rattle.domain_memory.specs.Spaces.{Spaces, held_pages, volume_of}
-use Rattle.domain_memory.specs.VolumeSpace.{VolumeSpace, is_waiting}
+use Rattle.no_faults.specs.domain_base.declared.place.Home.{Home}
+use Rattle.no_faults.specs.domain_memory.Held.{held_if_open, held_open}
+use Rattle.no_faults.specs.free_space.Spaces.{Spaces, held_pages, volume_of}
+use Rattle.no_faults.specs.free_space.VolumeSpace.{VolumeSpace, is_waiting}
 
 -- ---- lists
 

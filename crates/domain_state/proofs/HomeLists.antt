@@ -6,9 +6,9 @@ use Rattle.std.proofs.lemmas.Map.Made.{is_member-Decides}
 use Rattle.std.specs.Bool.{Decides}
 use Rattle.std.specs.List.{flat_map}
 use Rattle.std.specs.Set.{is_member}
-use Rattle.domain_base.specs.declared.place.Home.{Home}
-use Rattle.page_store.specs.Pages.{same_home}
-use Rattle.bmt_mcells.proofs.Changed.{homes_same, same_itself}
+use Rattle.no_faults.specs.domain_base.declared.place.Home.{Home}
+use Rattle.no_faults.specs.page_store.Pages.{same_home}
+use Rattle.no_faults.proofs.OfMetadataCells.Changed.{homes_same, same_itself}
 
 -- ---- lists of lists
 

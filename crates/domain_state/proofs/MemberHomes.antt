@@ -1,9 +1,9 @@
 -- The pages of volumes at which a test is true, each once.
 use Rattle.std.proofs.Common.{◌≡◌, ◌∙◌, ◌⊎◌, inl, inr, ℕ, zero, suc, ◌<◌, ◌≤◌, Bool, true, false, cond, List, [], ◌∷◌, Some, Contains, slice_get, refl, sym, ap, subst, arith, ⊎_elim}
 use Rattle.std.proofs.lemmas.Bool.{cases_order}
-use Rattle.domain_base.specs.declared.place.Home.{Home}
-use Rattle.layout_laws.proofs.OnePage.{some_same}
-use Rattle.no_fault_laws.proofs.Ways.{contains_of, nothing}
+use Rattle.no_faults.specs.domain_base.declared.place.Home.{Home}
+use Rattle.no_faults.proofs.OfDomainLayout.OnePage.{some_same}
+use Rattle.no_faults.proofs.Ways.{contains_of, nothing}
 
 abbrev pub on : ℕ → ℕ → Home
 on vol page = record { vol = vol; page = page }

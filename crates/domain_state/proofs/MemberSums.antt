@@ -9,10 +9,10 @@ use Rattle.std.specs.Ordering.{nat_cmp}
 use Rattle.std.specs.Cmp.{nat_cmp_total}
 use Rattle.std.specs.FinMap as map
 use Rattle.std.specs.FinMap.{nat_cmp-IsAntisymmetric}
-use Rattle.fileset_model.proofs.MapLemmas.{get-remove_other, got-remove}
-use Rattle.fileset_model.proofs.MoveLemmas.{entries-empty}
-use Rattle.history_model.specs.State.{Member}
-use Rattle.history_laws.proofs.SumLemmas.{taken_out}
+use Rattle.no_faults.proofs.OfFilesetValues.MapLemmas.{get-remove_other, got-remove}
+use Rattle.no_faults.proofs.OfFilesetModel.MoveLemmas.{entries-empty}
+use Rattle.no_faults.specs.legal_histories.State.{Member}
+use Rattle.no_faults.proofs.OfLegalHistories.SumLemmas.{taken_out}
 
 -- ---- a map whose keys are the places of a row
 

@@ -4,26 +4,26 @@ use Rattle.std.specs.FinMap as map
 use Rattle.std.specs.FinMap.{empty, get, nat_cmp-IsAntisymmetric}
 use Rattle.std.specs.Ordering.{nat_cmp}
 use Rattle.std.specs.Cmp.{nat_cmp_total}
-use Rattle.domain_base.specs.Version.{most_pages}
-use Rattle.domain_base.specs.declared.place.Home.{Home}
-use Rattle.domain_base.specs.declared.version.Version.{Version}
-use Rattle.page_store.specs.Pages.{Pages}
-use Rattle.fileset_model.proofs.MapLemmas.{get-insert_same, got-insert}
-use Rattle.fileset_table.specs.Table.{IsNewTable, Table}
-use Rattle.history_model.specs.State.{Member, new_domain}
-use Rattle.domain_layout.specs.Layout.{IsLayout, Layout}
-use Rattle.domain_layout.specs.Owners.{BelongsTo, HasTagPage, Owner}
-use Rattle.domain_layout.specs.Read.{ReadsFrom}
-use Rattle.domain_layout.specs.Reached.{Frame}
-use Rattle.layout_laws.specs.NewDomain.{IsNew, IsNewCells, IsNewTablePage, firsts, on_first}
-use Rattle.layout_laws.proofs.NewDomain.{reads_none}
-use Rattle.layout_laws.proofs.NewPages.{no_extent, no_index}
-use Rattle.layout_laws.proofs.NewTags.{has_none}
-use Rattle.layout_laws.proofs.OnePage.{HasOne, one_of, some_same}
-use Rattle.layout_laws.proofs.OneTable.{one_in, used_there}
-use Rattle.domain_making.specs.Making.{new_frame, pages_in_use}
-use Rattle.domain_memory.proofs.NewLayout.{laid_with, layout_with}
-use Rattle.domain_memory.proofs.NewMemory.{first_table}
+use Rattle.no_faults.specs.domain_base.Version.{most_pages}
+use Rattle.no_faults.specs.domain_base.declared.place.Home.{Home}
+use Rattle.no_faults.specs.domain_base.declared.version.Version.{Version}
+use Rattle.no_faults.specs.page_store.Pages.{Pages}
+use Rattle.no_faults.proofs.OfFilesetValues.MapLemmas.{get-insert_same, got-insert}
+use Rattle.no_faults.specs.fileset_table.Table.{IsNewTable, Table}
+use Rattle.no_faults.specs.legal_histories.State.{Member, new_domain}
+use Rattle.no_faults.specs.domain_layout.Layout.{IsLayout, Layout}
+use Rattle.no_faults.specs.domain_layout.Owners.{BelongsTo, HasTagPage, Owner}
+use Rattle.no_faults.specs.domain_layout.Read.{ReadsFrom}
+use Rattle.no_faults.specs.domain_layout.Reached.{Frame}
+use Rattle.no_faults.specs.domain_layout.NewDomain.{IsNew, IsNewCells, IsNewTablePage, firsts, on_first}
+use Rattle.no_faults.proofs.OfDomainLayout.NewDomain.{reads_none}
+use Rattle.no_faults.proofs.OfDomainLayout.NewPages.{no_extent, no_index}
+use Rattle.no_faults.proofs.OfDomainLayout.NewTags.{has_none}
+use Rattle.no_faults.proofs.OfDomainLayout.OnePage.{HasOne, one_of, some_same}
+use Rattle.no_faults.proofs.OfDomainLayout.OneTable.{one_in, used_there}
+use Rattle.no_faults.specs.domain_making.Making.{new_frame, pages_in_use}
+use Rattle.no_faults.proofs.OfDomainMemory.NewLayout.{laid_with, layout_with}
+use Rattle.no_faults.proofs.OfDomainMemory.NewMemory.{first_table}
 use Rattle.domain_state.specs.Opening.{CountsOld, IsFixed, IsMemberAs, IsOldPage, IsStartOf}
 use Rattle.domain_state.proofs.Decided.{one_home, stands_so}
 

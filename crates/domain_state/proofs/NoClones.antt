@@ -1,22 +1,22 @@
 -- A domain that stands has no clone among its filesets.
 use Rattle.std.proofs.Common.{◌≡◌, ◌∙◌, ℕ, Option, Some, None, IfSome, IsSome, IsSomeAnd, slice_get, refl, sym, ap, subst, true≢false}
 use Rattle.std.specs.FinMap as map
-use Rattle.fileset_model.specs.Apply.{original_of}
-use Rattle.fileset_model.specs.Filesets.{FilesetMap}
-use Rattle.fileset_model.specs.LooksLike.{LooksLike, LooksLikeThere}
-use Rattle.fileset_model.specs.Orders.{Name, name_cmp-IsAntisymmetric, name_cmp-total}
-use Rattle.fileset_model.specs.declared.fileset.FilesetSlot.{FilesetSlot}
-use Rattle.fileset_model.specs.declared.fileset.Role.{Role}
-use Rattle.fileset_model.specs.declared.fileset.Role.TheVariants as role
-use Rattle.fileset_table.specs.Table.{entry_of}
-use Rattle.fileset_table.specs.declared.slot.SlotItem.{SlotItem}
-use Rattle.fileset_table.specs.declared.slot.SlotItem.TheVariants as slot
-use Rattle.history_laws.specs.GoingOn.{HaveNoClone}
-use Rattle.domain_layout.specs.CellRules.{of_clone}
-use Rattle.domain_layout.specs.Filled.{FillsThere, IsRole}
-use Rattle.domain_layout.specs.Shape.{FilesetShape, IsOriginal, IsShapeOf}
-use Rattle.domain_standing.specs.Domain.{DomainNow}
-use Rattle.domain_standing.specs.Slots.{StandSlots}
+use Rattle.no_faults.specs.fileset_model.Apply.{original_of}
+use Rattle.no_faults.specs.fileset_model.Filesets.{FilesetMap}
+use Rattle.no_faults.specs.fileset_model.LooksLike.{LooksLike, LooksLikeThere}
+use Rattle.no_faults.specs.fileset_values.Orders.{Name, name_cmp-IsAntisymmetric, name_cmp-total}
+use Rattle.no_faults.specs.fileset_model.declared.fileset.FilesetSlot.{FilesetSlot}
+use Rattle.no_faults.specs.fileset_model.declared.fileset.Role.{Role}
+use Rattle.no_faults.specs.fileset_model.declared.fileset.Role.TheVariants as role
+use Rattle.no_faults.specs.fileset_table.Table.{entry_of}
+use Rattle.no_faults.specs.fileset_table.declared.slot.SlotItem.{SlotItem}
+use Rattle.no_faults.specs.fileset_table.declared.slot.SlotItem.TheVariants as slot
+use Rattle.no_faults.specs.legal_histories.GoingOn.{HaveNoClone}
+use Rattle.no_faults.specs.domain_layout.CellRules.{of_clone}
+use Rattle.no_faults.specs.domain_layout.Filled.{FillsThere, IsRole}
+use Rattle.no_faults.specs.domain_layout.Shape.{FilesetShape, IsOriginal, IsShapeOf}
+use Rattle.no_faults.specs.domain_standing.Domain.{DomainNow}
+use Rattle.no_faults.specs.domain_standing.Slots.{StandSlots}
 
 is_original : (name : Option Name) (r : Role) → IsRole name r → name ≡ None → r ≡ role.Original
 is_original None r is none = is

@@ -2,20 +2,20 @@
 use Rattle.std.proofs.Common.{◌≡◌, ◌∙◌, inl, inr, ℕ, ◌+◌, ◌<◌, ◌≤◌, ◌&&◌, Bool, true, false, not, List, Option, Some, None, Contains, length, refl, sym, subst, ⊎_elim}
 use Rattle.std.proofs.lemmas.Bool.{and_from, and_parts, cases_Bool, not_from_false, not_from_true, true≢false}
 use Rattle.std.specs.FinSet.{contains}
-use Rattle.domain_base.specs.Limits.{log_pages}
-use Rattle.domain_base.specs.declared.place.Home.{Home}
-use Rattle.domain_memory.specs.Spaces.{volume_of}
-use Rattle.domain_memory.specs.VolumeSpace.{VolumeSpace, is_waiting}
-use Rattle.disk_label.specs.declared.anchor.Anchor.{Anchor}
-use Rattle.log_ring.specs.Homes.{IsLogPage, IsMember, member_of}
-use Rattle.fileset_model.specs.Filesets.{FilesetMap}
-use Rattle.domain_layout.specs.Owners.{IsOwned}
-use Rattle.domain_layout.specs.Reached.{IsWithin, first_cells}
-use Rattle.domain_standing.specs.Domain.{DomainNow, layout_of}
-use Rattle.domain_standing.specs.Holders.{AreHeldAt, Holder, Holds, IsUnheld}
-use Rattle.domain_standing.specs.Standing.{StandsDomain}
-use Rattle.no_fault_laws.specs.Sound.{StandsSound}
-use Rattle.no_fault_laws.proofs.Owners.{held_for, owned_as}
+use Rattle.no_faults.specs.domain_base.Limits.{log_pages}
+use Rattle.no_faults.specs.domain_base.declared.place.Home.{Home}
+use Rattle.no_faults.specs.free_space.Spaces.{volume_of}
+use Rattle.no_faults.specs.free_space.VolumeSpace.{VolumeSpace, is_waiting}
+use Rattle.no_faults.specs.disk_label.declared.anchor.Anchor.{Anchor}
+use Rattle.no_faults.specs.log_ring.Homes.{IsLogPage, IsMember, member_of}
+use Rattle.no_faults.specs.fileset_model.Filesets.{FilesetMap}
+use Rattle.no_faults.specs.domain_layout.Owners.{IsOwned}
+use Rattle.no_faults.specs.domain_layout.Reached.{IsWithin, first_cells}
+use Rattle.no_faults.specs.domain_standing.Domain.{DomainNow, layout_of}
+use Rattle.no_faults.specs.domain_standing.Holders.{AreHeldAt, Holder, Holds, IsUnheld}
+use Rattle.no_faults.specs.domain_standing.Standing.{StandsDomain}
+use Rattle.no_faults.specs.standing_laws.Sound.{StandsSound}
+use Rattle.no_faults.proofs.Owners.{held_for, owned_as}
 use Rattle.domain_state.specs.Opening.{CountsOld, IsFixed, IsNoFiles, IsOldPage}
 use Rattle.domain_state.proofs.Decided.{Decided, answer, answered, answers, at_most, both, either, is_there, is_true, less, not_so, one_number, same_as, stands_so}
 use Rattle.domain_state.proofs.FileHomes.{file_homes, listed, only_files}

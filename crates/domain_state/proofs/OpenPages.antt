@@ -6,20 +6,20 @@ use Rattle.std.proofs.lemmas.List.Sums.{sum_by-cons}
 use Rattle.std.specs.List.{sum_by}
 use Rattle.std.specs.Option.{option_map_or}
 use Rattle.std.specs.FinMap as map
-use Rattle.page_store.specs.Pages.{Pages}
-use Rattle.page_ways.specs.Frame.{frame_in}
-use Rattle.deferred_delete.specs.Standing.{Files}
-use Rattle.domain_memory.specs.Spaces.{free_pages, kept_spaces, volume_of}
-use Rattle.domain_memory.specs.VolumeSpace.{VolumeSpace}
-use Rattle.fileset_model.specs.Filesets.{FilesetMap}
-use Rattle.history_model.specs.Room.{open_pages}
-use Rattle.history_model.specs.State.{Member, State}
-use Rattle.domain_memory.specs.Held.{held_if_open}
-use Rattle.domain_memory.specs.Memory.{StandsFor, kept_in}
-use Rattle.domain_memory.specs.declared.memory.DomainMemory.{DomainMemory}
-use Rattle.domain_standing.specs.Domain.{DomainNow}
-use Rattle.domain_standing.specs.Holders.{AreHeldAt}
-use Rattle.domain_standing.specs.Chains.{IndexesAt}
+use Rattle.no_faults.specs.page_store.Pages.{Pages}
+use Rattle.no_faults.specs.page_ways.Frame.{frame_in}
+use Rattle.no_faults.specs.release_list.Standing.{Files}
+use Rattle.no_faults.specs.free_space.Spaces.{free_pages, kept_spaces, volume_of}
+use Rattle.no_faults.specs.free_space.VolumeSpace.{VolumeSpace}
+use Rattle.no_faults.specs.fileset_model.Filesets.{FilesetMap}
+use Rattle.no_faults.specs.legal_histories.Room.{open_pages}
+use Rattle.no_faults.specs.legal_histories.State.{Member, State}
+use Rattle.no_faults.specs.domain_memory.Held.{held_if_open}
+use Rattle.no_faults.specs.domain_memory.Memory.{StandsFor, kept_in}
+use Rattle.no_faults.specs.domain_memory.declared.memory.DomainMemory.{DomainMemory}
+use Rattle.no_faults.specs.domain_standing.Domain.{DomainNow}
+use Rattle.no_faults.specs.domain_standing.Holders.{AreHeldAt}
+use Rattle.no_faults.specs.domain_standing.Chains.{IndexesAt}
 use Rattle.domain_state.specs.Opening.{IsMemberAs, IsStartOf}
 use Rattle.domain_state.proofs.MemberSums.{open_sum, opened_pages, row_sum}
 

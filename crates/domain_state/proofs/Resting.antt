@@ -1,21 +1,21 @@
 -- A rack at rest: of a domain that was just made, and where all is as it was.
 use Rattle.std.proofs.Common.{◌≡◌, ◌∙◌, ℕ, ◌*◌, ◌<◌, ◌≤◌, List, Some, length, false, refl, sym, ap, subst, arith}
 use Rattle.std.proofs.Math.Nat.{le-min, min-le_left, min-le_right}
-use Rattle.domain_base.specs.Version.{most_pages}
-use Rattle.domain_base.specs.declared.place.Home.{Home}
-use Rattle.domain_base.specs.declared.version.Version.{Version}
-use Rattle.domain_base.specs.declared.version.Version.TheVariants.{Four, Three}
-use Rattle.volume_disk.specs.Disk.{Disk, HasVolume, MayLeave, Tells, volume_pages}
-use Rattle.volume_disk.specs.Image.{Image, bytes_from}
-use Rattle.disk_label.specs.FirstPages.{first_pages}
-use Rattle.disk_label.specs.declared.anchor.Anchor.{Anchor}
-use Rattle.log_ring.specs.Groups.{pages_in}
-use Rattle.log_ring.specs.Homes.{HasMembers, IsMember, member_of}
-use Rattle.domain_making.specs.Making.{IsLarge, IsMade, new_anchor, pages_in_use}
-use Rattle.domain_making.proofs.Empty.{new_anchor_is}
-use Rattle.page_ways.specs.declared.frame.DomainFrame.{DomainFrame}
-use Rattle.domain_memory.specs.Kept.{KeepsKept}
-use Rattle.domain_memory.specs.declared.memory.DomainMemory.{DomainMemory}
+use Rattle.no_faults.specs.domain_base.Version.{most_pages}
+use Rattle.no_faults.specs.domain_base.declared.place.Home.{Home}
+use Rattle.no_faults.specs.domain_base.declared.version.Version.{Version}
+use Rattle.no_faults.specs.domain_base.declared.version.Version.TheVariants.{Four, Three}
+use Rattle.no_faults.specs.volume_disk.Disk.{Disk, HasVolume, MayLeave, Tells, volume_pages}
+use Rattle.no_faults.specs.volume_disk.Image.{Image, bytes_from}
+use Rattle.no_faults.specs.disk_label.FirstPages.{first_pages}
+use Rattle.no_faults.specs.disk_label.declared.anchor.Anchor.{Anchor}
+use Rattle.no_faults.specs.log_ring.Groups.{pages_in}
+use Rattle.no_faults.specs.log_ring.Homes.{HasMembers, IsMember, member_of}
+use Rattle.no_faults.specs.domain_making.Making.{IsLarge, IsMade, new_anchor, pages_in_use}
+use Rattle.no_faults.proofs.OfDomainMaking.Empty.{new_anchor_is}
+use Rattle.no_faults.specs.page_ways.declared.frame.DomainFrame.{DomainFrame}
+use Rattle.no_faults.specs.domain_memory.Kept.{KeepsKept}
+use Rattle.no_faults.specs.domain_memory.declared.memory.DomainMemory.{DomainMemory}
 use Rattle.domain_state.specs.Rest.{IsAtRest}
 
 -- ---- a domain that was just made

@@ -5,10 +5,10 @@ use Rattle.std.proofs.lemmas.List.{length-append}
 use Rattle.std.proofs.lemmas.List.Concat.{flat_map-cons}
 use Rattle.std.proofs.lemmas.List.Elements.{Contains-append_right}
 use Rattle.std.specs.List.{flat_map}
-use Rattle.domain_base.specs.Version.{bitmap_pages, most_pages}
-use Rattle.domain_base.specs.declared.place.Home.{Home}
-use Rattle.domain_base.specs.declared.version.Version.{Version}
-use Rattle.domain_base.specs.declared.version.Version.TheVariants.{Four, Three}
+use Rattle.no_faults.specs.domain_base.Version.{bitmap_pages, most_pages}
+use Rattle.no_faults.specs.domain_base.declared.place.Home.{Home}
+use Rattle.no_faults.specs.domain_base.declared.version.Version.{Version}
+use Rattle.no_faults.specs.domain_base.declared.version.Version.TheVariants.{Four, Three}
 
 -- so many pages of a volume from one on
 pub run_homes : ℕ → ℕ → ℕ → List Home

@@ -2,14 +2,14 @@
 use Rattle.std.proofs.Common.{Bool, ◌≡◌, ◌∙◌, ◌+◌, ◌<◌, ◌≤◌, ◌++◌, ℕ, zero, suc, true, false, List, [], ◌∷◌, Option, All, get_or, length, set, refl, sym, ap, subst, arith, ⊎_elim, if◌then◌else◌}
 use Rattle.std.proofs.Math.Logic.{∥∥₁_map}
 use Rattle.std.proofs.lemmas.Bool.{cases_lt}
-use Rattle.page_store.specs.Pages.{Pages}
-use Rattle.fileset_model.specs.declared.command.Command.{Command}
-use Rattle.fileset_model.specs.declared.entry.Entry.{Entry}
-use Rattle.deferred_delete.proofs.Lists.{get_front, get_last, longer}
-use Rattle.history_laws.specs.GoingOn.{stamped}
-use Rattle.history_laws.proofs.Restamped.{restamped}
-use Rattle.domain_layout.specs.Reached.{Frame}
-use Rattle.domain_memory.specs.declared.memory.DomainMemory.{DomainMemory}
+use Rattle.no_faults.specs.page_store.Pages.{Pages}
+use Rattle.no_faults.specs.fileset_values.declared.command.Command.{Command}
+use Rattle.no_faults.specs.fileset_values.declared.entry.Entry.{Entry}
+use Rattle.no_faults.proofs.OfReleaseList.Lists.{get_front, get_last, longer}
+use Rattle.no_faults.specs.legal_histories.GoingOn.{stamped}
+use Rattle.no_faults.proofs.OfLegalHistories.Restamped.{restamped}
+use Rattle.no_faults.specs.domain_layout.Reached.{Frame}
+use Rattle.no_faults.specs.domain_memory.declared.memory.DomainMemory.{DomainMemory}
 use Rattle.domain_state.specs.History.{AreStamped, GoesOn, with_last_stamped}
 use Rattle.domain_state.proofs.StaysWithin.{within_longer}
 

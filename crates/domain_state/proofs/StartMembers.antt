@@ -5,11 +5,11 @@ use Rattle.std.specs.Ordering.{nat_cmp}
 use Rattle.std.specs.Cmp.{nat_cmp_total}
 use Rattle.std.specs.FinMap as map
 use Rattle.std.specs.FinMap.{get, nat_cmp-IsAntisymmetric}
-use Rattle.disk_label.specs.declared.anchor.Anchor.{Anchor}
-use Rattle.log_ring.specs.Homes.{IsMember, member_of}
-use Rattle.fileset_model.proofs.MapLemmas.{get-insert_other, get-insert_same, got-insert}
-use Rattle.layout_laws.proofs.OnePage.{some_same}
-use Rattle.history_model.specs.State.{Member, MemberMap}
+use Rattle.no_faults.specs.disk_label.declared.anchor.Anchor.{Anchor}
+use Rattle.no_faults.specs.log_ring.Homes.{IsMember, member_of}
+use Rattle.no_faults.proofs.OfFilesetValues.MapLemmas.{get-insert_other, get-insert_same, got-insert}
+use Rattle.no_faults.proofs.OfDomainLayout.OnePage.{some_same}
+use Rattle.no_faults.specs.legal_histories.State.{Member, MemberMap}
 use Rattle.domain_state.specs.Opening.{IsMemberAs}
 use Rattle.domain_state.proofs.Decided.{Decided}
 use Rattle.domain_state.proofs.OldPages.{member_decided}

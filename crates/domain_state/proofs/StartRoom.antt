@@ -2,15 +2,15 @@
 -- which it comes.
 use Rattle.std.proofs.Common.{◌≡◌, ◌∙◌, ◌≤◌, ℕ, List, Option, length, max, sym, ap, arith}
 use Rattle.std.proofs.lemmas.List.{length-map}
-use Rattle.fileset_model.specs.Filesets.{FilesetMap}
-use Rattle.fileset_model.specs.declared.command.Command.{Command}
-use Rattle.fileset_model.specs.declared.entry.Entry.{Entry}
-use Rattle.history_model.specs.Legal.{Chain}
-use Rattle.history_model.specs.Legal.Chain.{stays, begin, silent, entry}
-use Rattle.history_model.specs.Point.{Answered, Point, start_point}
-use Rattle.history_model.specs.Room.{room}
-use Rattle.history_model.specs.State.{State}
-use Rattle.history_laws.specs.GoingOn.{ComesTo}
+use Rattle.no_faults.specs.fileset_model.Filesets.{FilesetMap}
+use Rattle.no_faults.specs.fileset_values.declared.command.Command.{Command}
+use Rattle.no_faults.specs.fileset_values.declared.entry.Entry.{Entry}
+use Rattle.no_faults.specs.legal_histories.Legal.{Chain}
+use Rattle.no_faults.specs.legal_histories.Legal.Chain.{stays, begin, silent, entry}
+use Rattle.no_faults.specs.legal_histories.Point.{Answered, Point, start_point}
+use Rattle.no_faults.specs.legal_histories.Room.{room}
+use Rattle.no_faults.specs.legal_histories.State.{State}
+use Rattle.no_faults.specs.legal_histories.GoingOn.{ComesTo}
 
 more : (least most other : ℕ) → least ≤ most → least ≤ max most other
 more least most other is = omega (arith, is)

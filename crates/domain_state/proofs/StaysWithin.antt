@@ -1,16 +1,16 @@
 -- No more pages are held than a history has room for, as it goes on.
 use Rattle.std.proofs.Common.{◌≡◌, ◌≤◌, ◌++◌, ◌∷◌, [], ℕ, List, length, ap, arith}
-use Rattle.page_store.specs.Pages.{Pages}
-use Rattle.fileset_model.specs.declared.entry.Entry.{Entry}
-use Rattle.deferred_delete.proofs.Lists.{longer}
-use Rattle.domain_layout.specs.Reached.{Frame}
-use Rattle.domain_standing.specs.Domain.{DomainNow}
-use Rattle.domain_memory.specs.Held.{held_open}
-use Rattle.domain_memory.specs.Kept.{KeepsKept}
-use Rattle.domain_memory.specs.Memory.{kept_in}
-use Rattle.domain_memory.specs.Staged.{IsSettled}
-use Rattle.domain_memory.specs.declared.memory.DomainMemory.{DomainMemory}
-use Rattle.domain_memory.proofs.Held.{held_same}
+use Rattle.no_faults.specs.page_store.Pages.{Pages}
+use Rattle.no_faults.specs.fileset_values.declared.entry.Entry.{Entry}
+use Rattle.no_faults.proofs.OfReleaseList.Lists.{longer}
+use Rattle.no_faults.specs.domain_layout.Reached.{Frame}
+use Rattle.no_faults.specs.domain_standing.Domain.{DomainNow}
+use Rattle.no_faults.specs.domain_memory.Held.{held_open}
+use Rattle.no_faults.specs.domain_memory.Kept.{KeepsKept}
+use Rattle.no_faults.specs.domain_memory.Memory.{kept_in}
+use Rattle.no_faults.specs.domain_memory.Staged.{IsSettled}
+use Rattle.no_faults.specs.domain_memory.declared.memory.DomainMemory.{DomainMemory}
+use Rattle.no_faults.proofs.OfDomainMemory.Held.{held_same}
 use Rattle.domain_state.specs.Room.{HoldsFew, IsWithinRoom}
 
 module _ (pages : Pages) (frame : Frame) (sizes : List ℕ) (old new : DomainMemory) where

@@ -3,20 +3,20 @@ use Rattle.std.proofs.Common.{◌≡◌, ◌∙◌, ◌+◌, ◌-◌, ◌<◌, �
 use Rattle.std.proofs.Math.Logic.{∥∥₁_elim}
 use Rattle.std.proofs.lemmas.Bool.{cases_lt}
 use Rattle.std.specs.List.{sum_by}
-use Rattle.page_store.specs.Pages.{Pages}
-use Rattle.domain_memory.specs.Spaces.{Spaces}
-use Rattle.fileset_model.specs.Filesets.{FilesetMap}
-use Rattle.fileset_model.specs.declared.command.Command.{Command}
-use Rattle.fileset_model.specs.declared.entry.Entry.{Entry}
-use Rattle.history_model.specs.Point.{peak}
-use Rattle.history_model.specs.Room.{open_pages}
-use Rattle.history_model.specs.State.{State}
-use Rattle.domain_layout.specs.Reached.{Frame}
-use Rattle.domain_memory.specs.Held.{held_open}
-use Rattle.domain_memory.specs.Memory.{kept_in}
-use Rattle.domain_memory.specs.Staged.{IsSettled}
-use Rattle.domain_memory.specs.declared.memory.DomainMemory.{DomainMemory}
-use Rattle.domain_memory.specs.Going.{NoneWaits, free_in}
+use Rattle.no_faults.specs.page_store.Pages.{Pages}
+use Rattle.no_faults.specs.free_space.Spaces.{Spaces}
+use Rattle.no_faults.specs.fileset_model.Filesets.{FilesetMap}
+use Rattle.no_faults.specs.fileset_values.declared.command.Command.{Command}
+use Rattle.no_faults.specs.fileset_values.declared.entry.Entry.{Entry}
+use Rattle.no_faults.specs.legal_histories.Point.{peak}
+use Rattle.no_faults.specs.legal_histories.Room.{open_pages}
+use Rattle.no_faults.specs.legal_histories.State.{State}
+use Rattle.no_faults.specs.domain_layout.Reached.{Frame}
+use Rattle.no_faults.specs.domain_memory.Held.{held_open}
+use Rattle.no_faults.specs.domain_memory.Memory.{kept_in}
+use Rattle.no_faults.specs.domain_memory.Staged.{IsSettled}
+use Rattle.no_faults.specs.domain_memory.declared.memory.DomainMemory.{DomainMemory}
+use Rattle.no_faults.specs.domain_memory.Going.{NoneWaits, free_in}
 use Rattle.domain_state.specs.History.{GoesOn}
 use Rattle.domain_state.specs.Opening.{IsStartOf}
 use Rattle.domain_state.proofs.StartRoom.{start_room}

@@ -1,11 +1,11 @@
 -- A rack that was left alone.
 use Rattle.std.proofs.Common.{inl, ℕ}
-use Rattle.domain_base.specs.declared.version.Version.{Version}
-use Rattle.volume_disk.specs.Disk.{Disk}
-use Rattle.volume_disk.specs.Run.{LeavesOnly}
-use Rattle.volume_disk.proofs.Laws.{started, untorn}
-use Rattle.disk_label.specs.Slot.{IsGate}
-use Rattle.domain_making.specs.Making.{AreSlotsReady, IsNoneOrEmpty}
+use Rattle.no_faults.specs.domain_base.declared.version.Version.{Version}
+use Rattle.no_faults.specs.volume_disk.Disk.{Disk}
+use Rattle.no_faults.specs.volume_disk.Run.{LeavesOnly}
+use Rattle.no_faults.proofs.OfVolumeDisk.Laws.{started, untorn}
+use Rattle.no_faults.specs.disk_label.Slot.{IsGate}
+use Rattle.no_faults.specs.domain_making.Making.{AreSlotsReady, IsNoneOrEmpty}
 
 -- each image that a stop may leave has no anchor that counts, as slots that are ready say
 pub none_yet : (version : Version) (pages : ℕ) (disk : Disk) → AreSlotsReady disk → LeavesOnly disk disk (IsNoneOrEmpty disk.sizes version pages)

@@ -8,34 +8,34 @@ use Rattle.std.proofs.lemmas.List.Elements.{Contains-append_left, Contains-appen
 use Rattle.std.specs.FinMap as map
 use Rattle.std.specs.FinMap.{get, nat_cmp-IsAntisymmetric}
 use Rattle.std.specs.List.{AllByRecursion, flat_map}
-use Rattle.domain_base.specs.declared.place.Home.{Home}
-use Rattle.domain_base.specs.declared.place.Kind.TheVariants.{File}
-use Rattle.domain_base.specs.declared.place.Tag.{Tag}
-use Rattle.bmt_mcells.specs.Chain.{PlacedCell}
-use Rattle.log_ring.specs.Homes.{IsLogPage, IsMember, member_of}
-use Rattle.fileset_model.specs.Filesets.{FilesetMap}
-use Rattle.fileset_table.specs.Table.{Table}
-use Rattle.history_model.specs.Room.{path_count, present_pages, room}
-use Rattle.history_model.specs.State.{Member, MemberMap, State}
-use Rattle.page_ways.specs.Frame.{frame_in}
-use Rattle.staged_pages.specs.Store.{before_of}
-use Rattle.domain_layout.specs.DirectoryRules.{Has}
-use Rattle.domain_layout.specs.Owners.{IsOwned, frame_of}
-use Rattle.domain_layout.specs.Reached.{Frame, first_cells}
-use Rattle.domain_layout.specs.Seen.{SeenFile}
-use Rattle.domain_standing.specs.Domain.{DomainNow, layout_of}
-use Rattle.domain_standing.specs.Holders.{AreHeldAt}
-use Rattle.domain_standing.specs.Standing.{StandsDomain}
-use Rattle.no_fault_laws.specs.Sound.{IsSound, StandsSound}
-use Rattle.no_fault_laws.proofs.OneLayout.{owned_here, table_here}
-use Rattle.no_fault_laws.proofs.OneSound.{one_sound}
-use Rattle.no_fault_laws.proofs.Owners.{owned_as}
-use Rattle.domain_memory.specs.Held.{held_open}
-use Rattle.domain_memory.specs.Memory.{StandsFor, kept_in}
-use Rattle.domain_memory.specs.Sound.{AreSound, IsSoundVolume}
-use Rattle.domain_memory.specs.Spaces.{kept_spaces, volume_of}
-use Rattle.domain_memory.specs.VolumeSpace.{VolumeSpace}
-use Rattle.domain_memory.specs.declared.memory.DomainMemory.{DomainMemory}
+use Rattle.no_faults.specs.domain_base.declared.place.Home.{Home}
+use Rattle.no_faults.specs.domain_base.declared.place.Kind.TheVariants.{File}
+use Rattle.no_faults.specs.domain_base.declared.place.Tag.{Tag}
+use Rattle.no_faults.specs.metadata_cells.Chain.{PlacedCell}
+use Rattle.no_faults.specs.log_ring.Homes.{IsLogPage, IsMember, member_of}
+use Rattle.no_faults.specs.fileset_model.Filesets.{FilesetMap}
+use Rattle.no_faults.specs.fileset_table.Table.{Table}
+use Rattle.no_faults.specs.legal_histories.Room.{path_count, present_pages, room}
+use Rattle.no_faults.specs.legal_histories.State.{Member, MemberMap, State}
+use Rattle.no_faults.specs.page_ways.Frame.{frame_in}
+use Rattle.no_faults.specs.staged_pages.Store.{before_of}
+use Rattle.no_faults.specs.domain_layout.DirectoryRules.{Has}
+use Rattle.no_faults.specs.domain_layout.Owners.{IsOwned, frame_of}
+use Rattle.no_faults.specs.domain_layout.Reached.{Frame, first_cells}
+use Rattle.no_faults.specs.domain_layout.Seen.{SeenFile}
+use Rattle.no_faults.specs.domain_standing.Domain.{DomainNow, layout_of}
+use Rattle.no_faults.specs.domain_standing.Holders.{AreHeldAt}
+use Rattle.no_faults.specs.domain_standing.Standing.{StandsDomain}
+use Rattle.no_faults.specs.standing_laws.Sound.{IsSound, StandsSound}
+use Rattle.no_faults.proofs.OneLayout.{owned_here, table_here}
+use Rattle.no_faults.proofs.OneSound.{one_sound}
+use Rattle.no_faults.proofs.Owners.{owned_as}
+use Rattle.no_faults.specs.domain_memory.Held.{held_open}
+use Rattle.no_faults.specs.domain_memory.Memory.{StandsFor, kept_in}
+use Rattle.no_faults.specs.free_space.Sound.{AreSound, IsSoundVolume}
+use Rattle.no_faults.specs.free_space.Spaces.{kept_spaces, volume_of}
+use Rattle.no_faults.specs.free_space.VolumeSpace.{VolumeSpace}
+use Rattle.no_faults.specs.domain_memory.declared.memory.DomainMemory.{DomainMemory}
 use Rattle.domain_state.specs.Opening.{CountsOld, IsFixed, IsMemberAs, IsOldPage, IsStartOf}
 use Rattle.domain_state.proofs.Beginning.{looks_so}
 use Rattle.domain_state.proofs.FileHomes.{entry_among, few, file_homes, listed}

@@ -1,20 +1,20 @@
 -- The history of a domain since it was opened.
 use Rattle.std.specs.Prelude.{◌≡◌, ℕ, ◌-◌, ◌<◌, ◌≤◌, Bool, List, [], ◌∷◌, Contains, Option, get_or, if◌then◌else◌, length, map}
-use Rattle.page_store.specs.Pages.{Pages}
-use Rattle.fileset_model.specs.Filesets.{FilesetMap}
-use Rattle.fileset_model.specs.declared.command.Command.{Command}
-use Rattle.fileset_model.specs.declared.entry.Entry.{Entry}
-use Rattle.fileset_model.specs.declared.reply.Refusal.TheVariants.{Panicked, ReadFault}
-use Rattle.fileset_model.specs.declared.reply.Reply.{Reply}
-use Rattle.fileset_model.specs.declared.reply.Reply.TheVariants.{Refused}
-use Rattle.history_model.specs.Legal.{Legal}
-use Rattle.history_model.specs.State.{State}
-use Rattle.page_ways.specs.Frame.{frame_in}
-use Rattle.domain_layout.specs.Reached.{Frame}
-use Rattle.domain_memory.specs.Memory.{StandsFor}
-use Rattle.domain_memory.specs.Staged.{MayBeKept}
-use Rattle.history_laws.specs.GoingOn.{MayGoOnFrom, stamped}
-use Rattle.domain_memory.specs.declared.memory.DomainMemory.{DomainMemory}
+use Rattle.no_faults.specs.page_store.Pages.{Pages}
+use Rattle.no_faults.specs.fileset_model.Filesets.{FilesetMap}
+use Rattle.no_faults.specs.fileset_values.declared.command.Command.{Command}
+use Rattle.no_faults.specs.fileset_values.declared.entry.Entry.{Entry}
+use Rattle.no_faults.specs.fileset_values.declared.reply.Refusal.TheVariants.{Panicked, ReadFault}
+use Rattle.no_faults.specs.fileset_values.declared.reply.Reply.{Reply}
+use Rattle.no_faults.specs.fileset_values.declared.reply.Reply.TheVariants.{Refused}
+use Rattle.no_faults.specs.legal_histories.Legal.{Legal}
+use Rattle.no_faults.specs.legal_histories.State.{State}
+use Rattle.no_faults.specs.page_ways.Frame.{frame_in}
+use Rattle.no_faults.specs.domain_layout.Reached.{Frame}
+use Rattle.no_faults.specs.domain_memory.Memory.{StandsFor}
+use Rattle.no_faults.specs.domain_memory.Staged.{MayBeKept}
+use Rattle.no_faults.specs.legal_histories.GoingOn.{MayGoOnFrom, stamped}
+use Rattle.no_faults.specs.domain_memory.declared.memory.DomainMemory.{DomainMemory}
 use Rattle.domain_state.specs.Opening.{IsStartOf}
 use Rattle.domain_state.specs.Room.{IsWithinRoom}
 

@@ -2,23 +2,23 @@
 use Rattle.std.specs.Prelude.{◌≡◌, ◌⊎◌, ◌↔◌, ℕ, true, List, Some, Contains, length, slice_get}
 use Rattle.std.specs.FinMap.{get}
 use Rattle.std.specs.FinSet as set
-use Rattle.domain_base.specs.declared.place.Home.{Home}
-use Rattle.domain_base.specs.declared.place.Kind.TheVariants.{File}
-use Rattle.domain_base.specs.declared.place.Tag.{Tag}
-use Rattle.page_store.specs.Pages.{Pages}
-use Rattle.bmt_mcells.specs.Chain.{PlacedCell}
-use Rattle.log_ring.specs.Homes.{IsMember, member_of}
-use Rattle.disk_label.specs.declared.anchor.Anchor.{Anchor}
-use Rattle.fileset_table.specs.Table.{Table}
-use Rattle.history_model.specs.State.{Member, State, rack_of}
-use Rattle.domain_standing.specs.Space.{IsOpen}
-use Rattle.domain_layout.specs.DirectoryRules.{Has}
-use Rattle.domain_layout.specs.Layout.{IsLayout, Layout}
-use Rattle.domain_layout.specs.Owners.{BelongsTo, IsOwned, frame_of}
-use Rattle.domain_layout.specs.Owners.Owner.{of_log, of_table, of_volume}
-use Rattle.domain_layout.specs.Read.{ReadsFrom}
-use Rattle.domain_layout.specs.Reached.{Frame}
-use Rattle.domain_layout.specs.Seen.{SeenFile}
+use Rattle.no_faults.specs.domain_base.declared.place.Home.{Home}
+use Rattle.no_faults.specs.domain_base.declared.place.Kind.TheVariants.{File}
+use Rattle.no_faults.specs.domain_base.declared.place.Tag.{Tag}
+use Rattle.no_faults.specs.page_store.Pages.{Pages}
+use Rattle.no_faults.specs.metadata_cells.Chain.{PlacedCell}
+use Rattle.no_faults.specs.log_ring.Homes.{IsMember, member_of}
+use Rattle.no_faults.specs.disk_label.declared.anchor.Anchor.{Anchor}
+use Rattle.no_faults.specs.fileset_table.Table.{Table}
+use Rattle.no_faults.specs.legal_histories.State.{Member, State, rack_of}
+use Rattle.no_faults.specs.domain_standing.Space.{IsOpen}
+use Rattle.no_faults.specs.domain_layout.DirectoryRules.{Has}
+use Rattle.no_faults.specs.domain_layout.Layout.{IsLayout, Layout}
+use Rattle.no_faults.specs.domain_layout.Owners.{BelongsTo, IsOwned, frame_of}
+use Rattle.no_faults.specs.domain_layout.Owners.Owner.{of_log, of_table, of_volume}
+use Rattle.no_faults.specs.domain_layout.Read.{ReadsFrom}
+use Rattle.no_faults.specs.domain_layout.Reached.{Frame}
+use Rattle.no_faults.specs.domain_layout.Seen.{SeenFile}
 
 -- ** Old pages
 

@@ -1,13 +1,13 @@
 -- A rack at rest, between the changes of its domain.
 use Rattle.std.specs.Prelude.{◌≡◌, ◌≢◌}
-use Rattle.domain_base.specs.declared.place.Home.{Home}
-use Rattle.volume_disk.specs.Disk.{Disk, MayLeave, Tells}
-use Rattle.volume_disk.specs.Image.{Image}
-use Rattle.disk_label.specs.FirstPages.{anchors_page}
-use Rattle.disk_label.specs.declared.anchor.Anchor.{Anchor}
-use Rattle.log_ring.specs.Groups.{pages_in}
-use Rattle.log_ring.specs.Homes.{HasMembers, IsMember}
-use Rattle.log_settling.specs.Settling.{IsBehindAll}
+use Rattle.no_faults.specs.domain_base.declared.place.Home.{Home}
+use Rattle.no_faults.specs.volume_disk.Disk.{Disk, MayLeave, Tells}
+use Rattle.no_faults.specs.volume_disk.Image.{Image}
+use Rattle.no_faults.specs.disk_label.FirstPages.{anchors_page}
+use Rattle.no_faults.specs.disk_label.declared.anchor.Anchor.{Anchor}
+use Rattle.no_faults.specs.log_ring.Groups.{pages_in}
+use Rattle.no_faults.specs.log_ring.Homes.{HasMembers, IsMember}
+use Rattle.no_faults.specs.log_recovery.Settling.{IsBehindAll}
 
 -- each image that a stop might leave has each page of a member, that of anchors aside, as a read
 -- gives it

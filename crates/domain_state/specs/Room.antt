@@ -1,13 +1,13 @@
 -- How many pages a domain may hold, where its history has come to.
 use Rattle.std.specs.Prelude.{ℕ, ◌+◌, ◌*◌, ◌≤◌, List, length}
-use Rattle.page_store.specs.Pages.{Pages}
-use Rattle.fileset_model.specs.declared.entry.Entry.{Entry}
-use Rattle.history_model.specs.Room.{room}
-use Rattle.history_model.specs.State.{State}
-use Rattle.domain_layout.specs.Reached.{Frame}
-use Rattle.domain_memory.specs.Held.{held_open}
-use Rattle.domain_memory.specs.Memory.{kept_in}
-use Rattle.domain_memory.specs.declared.memory.DomainMemory.{DomainMemory}
+use Rattle.no_faults.specs.page_store.Pages.{Pages}
+use Rattle.no_faults.specs.fileset_values.declared.entry.Entry.{Entry}
+use Rattle.no_faults.specs.legal_histories.Room.{room}
+use Rattle.no_faults.specs.legal_histories.State.{State}
+use Rattle.no_faults.specs.domain_layout.Reached.{Frame}
+use Rattle.no_faults.specs.domain_memory.Held.{held_open}
+use Rattle.no_faults.specs.domain_memory.Memory.{kept_in}
+use Rattle.no_faults.specs.domain_memory.declared.memory.DomainMemory.{DomainMemory}
 use Rattle.domain_state.specs.Opening.{IsStartOf}
 
 -- as memory was kept, no more pages are held than were old at the opening, than the state may take

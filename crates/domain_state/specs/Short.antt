@@ -1,19 +1,19 @@
 -- Want of pages, for which a command may be answered no-space.
 use Rattle.std.specs.Prelude.{◌≡◌, ◌<◌, ℕ, List, Option}
-use Rattle.page_store.specs.Pages.{Pages}
-use Rattle.fileset_model.specs.Filesets.{FilesetMap}
-use Rattle.fileset_model.specs.declared.command.Command.{Command}
-use Rattle.fileset_model.specs.declared.entry.Entry.{Entry}
-use Rattle.fileset_model.specs.declared.reply.Refusal.TheVariants.{NoSpace}
-use Rattle.fileset_model.specs.declared.reply.Reply.{Reply}
-use Rattle.fileset_model.specs.declared.reply.Reply.TheVariants.{Refused}
-use Rattle.history_model.specs.Point.{Point, Tight}
-use Rattle.history_model.specs.State.{State}
-use Rattle.history_laws.specs.GoingOn.{ComesTo}
-use Rattle.domain_layout.specs.Reached.{Frame}
-use Rattle.domain_memory.specs.Going.{NoneWaits, NothingGoes, free_in}
-use Rattle.domain_memory.specs.Staged.{IsSettled}
-use Rattle.domain_memory.specs.declared.memory.DomainMemory.{DomainMemory}
+use Rattle.no_faults.specs.page_store.Pages.{Pages}
+use Rattle.no_faults.specs.fileset_model.Filesets.{FilesetMap}
+use Rattle.no_faults.specs.fileset_values.declared.command.Command.{Command}
+use Rattle.no_faults.specs.fileset_values.declared.entry.Entry.{Entry}
+use Rattle.no_faults.specs.fileset_values.declared.reply.Refusal.TheVariants.{NoSpace}
+use Rattle.no_faults.specs.fileset_values.declared.reply.Reply.{Reply}
+use Rattle.no_faults.specs.fileset_values.declared.reply.Reply.TheVariants.{Refused}
+use Rattle.no_faults.specs.legal_histories.Point.{Point, Tight}
+use Rattle.no_faults.specs.legal_histories.State.{State}
+use Rattle.no_faults.specs.legal_histories.GoingOn.{ComesTo}
+use Rattle.no_faults.specs.domain_layout.Reached.{Frame}
+use Rattle.no_faults.specs.domain_memory.Going.{NoneWaits, NothingGoes, free_in}
+use Rattle.no_faults.specs.domain_memory.Staged.{IsSettled}
+use Rattle.no_faults.specs.domain_memory.declared.memory.DomainMemory.{DomainMemory}
 use Rattle.domain_state.specs.Opening.{IsStartOf}
 
 -- with no change laid over memory so many pages are free, which are fewer than are needed; no page

@@ -1,11 +1,10 @@
-//! A domain that was made or attached, before a history of it is begun.
+//! A domain that was made or attached, before its history is begun.
 ghost use Rattle.std.specs.Prelude.{◌≡◌};
-ghost use Rattle.domain_memory.specs.Staged.{IsSettled, MayGoBack};
+ghost use Rattle.no_faults.specs.domain_memory.Staged.{IsSettled, MayGoBack};
 ghost use Rattle.domain_state.specs.History.{StandsForSome};
 ghost use Rattle.domain_state.specs.Rest.{IsAtRest};
 
-use domain_memory::DomainMemory;
-use volume_disk::Rack;
+use no_faults::{DomainMemory, Rack};
 
 /// A domain that was made or attached: its rack, which is at rest, and what is kept in memory of
 /// it.
@@ -20,8 +19,8 @@ pub struct Attached<R: Rack> {
 }
 
 impl<R: Rack> Attached<R> {
-    /// The domain on a rack at rest of which this is kept in memory: it stands for some filesets,
-    /// with no change laid over it.
+    /// The domain on a rack at rest, with what is kept in memory of it. It stands for some
+    /// filesets, and no change is laid over it.
     pub fn of_memory(rack: R, memory: DomainMemory) -> Attached<R>
         requires stands { ∥ StandsForSome memory ∥₁ }
         requires settled { ∥ IsSettled memory ∥₁ }

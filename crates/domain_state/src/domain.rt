@@ -1,18 +1,18 @@
 //! A domain with the history of its commands.
 ghost use Rattle.std.specs.Prelude.{◌≡◌, ◌+◌, ◌-◌, ◌≤◌, ◌∷◌, ◌++◌, ℕ, [], All, Contains, List, None, Some, OnOk, false, true, if◌then◌else◌, is_some, length, map, vec_capacity};
 ghost use Rattle.std.specs.Option.{option_copied};
-ghost use Rattle.domain_base.specs.declared.version.Version.TheVariants.{Four};
-ghost use Rattle.page_store.specs.Pages.{Pages, no_pages};
-ghost use Rattle.domain_layout.specs.Reached.{Frame};
-ghost use Rattle.page_ways.specs.Frame.{frame_in};
-ghost use Rattle.staged_pages.specs.Store.{before_of};
-ghost use Rattle.domain_making.specs.Making.{new_frame};
-ghost use Rattle.fileset_model.specs.Filesets.{FilesetMap};
-ghost use Rattle.fileset_model.specs.declared.reply.Refusal.TheVariants.{Panicked};
-ghost use Rattle.fileset_model.specs.declared.reply.Reply.TheVariants.{Refused};
-ghost use Rattle.domain_memory.specs.Memory.{StandsFor, books_in, kept_in};
-ghost use Rattle.domain_memory.specs.Staged.{IsSettled, MayBeKept, MayGoBack};
-ghost use Rattle.history_laws.specs.GoingOn.{job_left};
+ghost use Rattle.no_faults.specs.domain_base.declared.version.Version.TheVariants.{Four};
+ghost use Rattle.no_faults.specs.page_store.Pages.{Pages, no_pages};
+ghost use Rattle.no_faults.specs.domain_layout.Reached.{Frame};
+ghost use Rattle.no_faults.specs.page_ways.Frame.{frame_in};
+ghost use Rattle.no_faults.specs.staged_pages.Store.{before_of};
+ghost use Rattle.no_faults.specs.domain_making.Making.{new_frame};
+ghost use Rattle.no_faults.specs.fileset_model.Filesets.{FilesetMap};
+ghost use Rattle.no_faults.specs.fileset_values.declared.reply.Refusal.TheVariants.{Panicked};
+ghost use Rattle.no_faults.specs.fileset_values.declared.reply.Reply.TheVariants.{Refused};
+ghost use Rattle.no_faults.specs.domain_memory.Memory.{StandsFor, books_in, kept_in};
+ghost use Rattle.no_faults.specs.domain_memory.Staged.{IsSettled, MayBeKept, MayGoBack};
+ghost use Rattle.no_faults.specs.legal_histories.GoingOn.{job_left};
 ghost use Rattle.domain_state.specs.History.{
   GoesOn,
   IsCalm,
@@ -27,15 +27,12 @@ ghost use Rattle.domain_state.specs.Short.{HadPages, HasCause};
 
 use crate::Attached;
 use crate::history::History;
-use domain_base::{Home, OutOfMemory, Page, VolIx};
-use domain_memory::DomainMemory;
-use fileset_model::{Entry, Told};
+use no_faults::{DomainMemory, Entry, Home, OutOfMemory, Page, Rack, Told, VolIx};
 use std::alloc::Global;
 use std::marker::{Brand, PhantomData};
-use volume_disk::Rack;
 
-/// The pages of a domain when it was opened, its anchor, and the sizes of the rack's volumes. The
-/// histories of two openings are told apart by it.
+/// The pages of a domain when it was opened, its anchor, and the sizes of the rack's volumes. They
+/// tell the histories of two openings apart.
 pub trait Opening {
     ghost pages: { Pages };
 
@@ -102,7 +99,7 @@ impl<R: Rack, O: Opening> Domain<R, O> {
         ensures memory { result.memory ≡ attached.memory }
     {
         let Attached { rack, memory, .. } = attached;
-        // asked for what is always so of free space, by which pages are counted
+        // called for its contract: what always holds of free space, by which pages are counted
         let _ = memory.space.misses();
         Domain {
             memory,
@@ -111,8 +108,8 @@ impl<R: Rack, O: Opening> Domain<R, O> {
         }
     }
 
-    /// Makes room for so many entries more. Nothing else changes, at an error either, and room that
-    /// was there stays.
+    /// Makes room for `more` more entries. Nothing else changes, even at an error, and room that
+    /// was there stays. Fails only if memory runs out.
     pub fn reserve_history(&mut self, more: usize) -> Result<(), OutOfMemory>
         ensures room { OnOk result (more ≤ ⟦<Domain<R, O> as Told>⟧.room self.new) }
         ensures least { ⟦<Domain<R, O> as Told>⟧.room self.old
@@ -130,11 +127,13 @@ impl<R: Rack, O: Opening> Domain<R, O> {
     }
 
     /// Keeps the change that is laid over the domain, and adds the command whose change it is, with
-    /// its reply, which tells neither of a volume that panicked, nor of a read of one that failed,
-    /// nor of want of pages: one in each event, which gets its stamp where that ends. At most 24
-    /// pages more are held with the change than before it. The mover's own entry ends its job. It
-    /// takes no memory, and the time of what the change has changed, with a look through what waits
-    /// to be let go of for each file that it lists.
+    /// its reply. The reply tells neither of a volume that panicked, nor of a read that failed, nor
+    /// of want of pages. An event adds one entry at most, which gets its stamp when the event ends.
+    /// With the change at most 24 more pages are held than before it. The mover's own entry ends
+    /// its job.
+    ///
+    /// It takes no memory. It takes the time of what the change has changed, and a look through
+    /// what waits to be let go of for each file that the change lists.
     pub fn commit(&mut self, entry: Entry)
         requires first { ⟦<Domain<R, O> as Told>⟧.rests self.old }
         requires room { 1 ≤ ⟦<Domain<R, O> as Told>⟧.room self.old }
@@ -162,11 +161,11 @@ impl<R: Rack, O: Opening> Domain<R, O> {
         self.history.add(entry);
     }
 
-    /// Adds a command that changed nothing, with its reply, which tells neither of a volume that
-    /// panicked, nor of a read of one that failed, and of want of pages only where memory is as
-    /// short of them as it tells, no page waits, and nothing may be given up: one in each event,
-    /// which gets its stamp where that ends. What is kept in memory stays, with the change that is
-    /// laid over it. It takes no memory.
+    /// Adds a command that changed nothing, with its reply. The reply tells neither of a volume
+    /// that panicked, nor of a read that failed. It tells of want of pages only if memory is as
+    /// short of them as it tells, no page waits, and nothing may be given up. An event adds one
+    /// entry at most, which gets its stamp when the event ends. What is kept in memory stays, with
+    /// the change that is laid over it. It takes no memory.
     pub fn commit_unchanged(&mut self, entry: Entry)
         requires first { ⟦<Domain<R, O> as Told>⟧.rests self.old }
         requires room { 1 ≤ ⟦<Domain<R, O> as Told>⟧.room self.old }
@@ -189,7 +188,7 @@ impl<R: Rack, O: Opening> Domain<R, O> {
         self.history.add(entry);
     }
 
-    /// Takes the change back that is laid over the domain. It takes no memory, and the time of what
+    /// Takes back the change that is laid over the domain. It takes no memory, and the time of what
     /// the change has changed.
     pub fn discard(&mut self)
         ensures kept { kept_in self.new.memory ≡ kept_in self.old.memory }
@@ -209,7 +208,7 @@ impl<R: Rack, O: Opening> Domain<R, O> {
         self.memory.take_back();
     }
 
-    /// Ends an event: the entry that it has added, if it has, gets as its stamp how many calls the
+    /// Ends an event. If it has added an entry, the stamp of that entry becomes how many calls the
     /// rack has had. It takes no memory.
     pub fn end_event(&mut self)
         requires settled { IsSettled self.old.memory }
@@ -236,23 +235,23 @@ impl<R: Rack, O: Opening> Domain<R, O> {
         self.history.entries.as_slice()
     }
 
-    /// For how many entries more the history has room.
+    /// How many more entries the history has room for.
     pub fn spare(&self) -> usize
         ensures { result ≡ ⟦<Domain<R, O> as Told>⟧.room self.now }
     {
         self.history.entries.capacity() - self.history.entries.len()
     }
 
-    /// Whether a job of the mover's has begun, and has no entry yet.
+    /// Whether a job of the mover has begun and has no entry yet.
     pub fn job_runs(&self) -> bool
         ensures { result ≡ is_some (⟦<Domain<R, O> as Told>⟧.begun self.now) }
     {
         self.history.job.is_some()
     }
 
-    /// The volume that panicked, if one did: that of which a reply of the history tells, if one
-    /// does; a write or a sync of it has failed. It is none as long as events make no calls of
-    /// devices.
+    /// The volume that panicked, if one did. If a reply of the history tells of a volume that
+    /// panicked, it is this one. A write or a sync of it has failed. It is None as long as events
+    /// make no calls to devices.
     pub fn panicked(&self) -> Option<VolIx>
         ensures told { (volume : ℕ) → Contains (map (λ before. before.reply)
             (⟦<Domain<R, O> as Told>⟧.history self.now)) (Refused (Panicked volume))
@@ -263,8 +262,8 @@ impl<R: Rack, O: Opening> Domain<R, O> {
         None
     }
 
-    /// The page at a home, if one is kept in memory there: as it was before the change that is laid
-    /// over the domain.
+    /// The page of 8,192 bytes at a home, if it is kept in memory: as it was before the change that
+    /// is laid over the domain.
     pub fn read_page(&self, home: Home) -> Option<&Page>
         ensures { option_copied result ≡ before_of self.now.memory.pages home }
     {
@@ -279,8 +278,8 @@ impl<R: Rack, O: Opening> Domain<R, O> {
         &self.memory
     }
 
-    /// How many calls the rack has had: no entry has a greater stamp, where no event goes on that
-    /// has added one.
+    /// How many calls the rack has had. No entry has a greater stamp, unless an event that has
+    /// added an entry still goes on.
     pub fn calls(&self) -> u64
         ensures is { result ≡ (R.disk self.now.history.rack).calls }
         ensures stamps { ⟦<Domain<R, O> as Told>⟧.rests self.now
@@ -315,7 +314,7 @@ impl<R: Rack, O: Opening> Domain<R, O> {
         (memory, history)
     }
 
-    /// Puts a domain together again, with the change that is laid over its memory then.
+    /// Puts a domain together again, with the change that is by now laid over its memory.
     pub fn together(memory: DomainMemory, history: History<R>) -> Domain<R, O>
         requires stands { ∥ GoesOn O.pages O.frame O.sizes memory history.entries.items
             history.job ∥₁ }

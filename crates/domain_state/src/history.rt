@@ -1,12 +1,10 @@
-//! The commands of a domain since it was opened, beside what is kept in memory of it.
+//! The commands of a domain since it was opened.
 ghost use Rattle.std.specs.Prelude.{◌≡◌, ◌+◌, ◌-◌, ◌≤◌, ◌∷◌, ◌++◌, [], None, OnOk, false, true, if◌then◌else◌, length, vec_capacity};
-ghost use Rattle.history_laws.specs.GoingOn.{job_left};
+ghost use Rattle.no_faults.specs.legal_histories.GoingOn.{job_left};
 ghost use Rattle.domain_state.specs.History.{AreStamped, IsCalm, NonePanicked, with_last_stamped};
 
-use domain_base::OutOfMemory;
-use fileset_model::{Actor, Command, Entry};
+use no_faults::{Actor, Command, Entry, OutOfMemory, Rack};
 use std::alloc::Global;
-use volume_disk::Rack;
 
 /// The commands of a domain since it was opened, with their replies, how many of them last, the
 /// mover's job that runs, and the domain's rack. No reply tells that a volume panicked.
@@ -23,7 +21,7 @@ pub struct History<R: Rack> {
     ghost calm: { NonePanicked entries.items },
 }
 
-/// Ends the mover's job with its own entry.
+/// Ends the mover's job, if the entry is the mover's own.
 fn end_job(job: &mut Option<Command>, actor: &Actor)
     ensures { job.new ≡ job_left actor.now job.old }
 {
@@ -44,7 +42,7 @@ fn stamp_last(entries: &mut Vec<Entry>, stamp: u64)
 }
 
 impl<R: Rack> History<R> {
-    /// That of a domain that was just opened.
+    /// The history of a domain that was just opened.
     pub(crate) fn begin(alloc: Global, rack: R) -> History<R>
         ensures entries { result.entries.items ≡ [] }
         ensures durable { result.durable ≡ 0 }
@@ -78,8 +76,8 @@ impl<R: Rack> History<R> {
         (rack, entries)
     }
 
-    /// Makes room for so many entries more. Nothing else changes, at an error either, and room that
-    /// was there stays.
+    /// Makes room for `more` more entries. Nothing else changes, even at an error, and room that
+    /// was there stays. Fails only if memory runs out.
     pub(crate) fn reserve(&mut self, more: usize) -> Result<(), OutOfMemory>
         ensures room { OnOk result (more
             ≤ vec_capacity self.new.entries - length self.new.entries.items) }
@@ -95,7 +93,7 @@ impl<R: Rack> History<R> {
         Ok(())
     }
 
-    /// Adds the entry of the event that goes on, of which there is none yet. It takes no memory.
+    /// Adds the entry of the event that goes on, which has added none yet. It takes no memory.
     pub(crate) fn add(&mut self, entry: Entry)
         requires first { self.old.added ≡ false }
         requires calm { IsCalm entry.reply }
@@ -113,7 +111,7 @@ impl<R: Rack> History<R> {
         self.added = true;
     }
 
-    /// Ends an event: the entry that it has added, if it has, gets its stamp. It takes no memory.
+    /// Ends an event: if it has added an entry, that gets its stamp. It takes no memory.
     pub(crate) fn end_event(&mut self)
         ensures entries { self.new.entries.items ≡ if self.old.added
             then with_last_stamped (R.disk self.old.rack).calls self.old.entries.items

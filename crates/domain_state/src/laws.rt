@@ -1,25 +1,25 @@
-//! Changes that are laid over a domain, and its history.
+//! Laws of a domain's history, and of changes that are laid over the domain.
 ghost use Rattle.std.specs.Prelude.{ℕ, List, Option};
-ghost use Rattle.page_store.specs.Pages.{Pages};
-ghost use Rattle.domain_layout.specs.Reached.{Frame};
-ghost use Rattle.domain_memory.specs.Kept.{KeepsKept};
-ghost use Rattle.domain_memory.specs.declared.memory.DomainMemory.{DomainMemory};
-ghost use Rattle.fileset_model.specs.declared.command.Command.{Command};
-ghost use Rattle.fileset_model.specs.declared.entry.Entry.{Entry};
-ghost use Rattle.domain_base.specs.declared.version.Version.{Version};
-ghost use Rattle.layout_laws.specs.NewDomain.{IsNew};
-ghost use Rattle.domain_making.specs.Making.{new_frame, pages_in_use};
-ghost use Rattle.fileset_model.specs.Filesets.{FilesetMap};
-ghost use Rattle.history_model.specs.State.{State, new_domain};
-ghost use Rattle.page_ways.specs.Frame.{frame_in};
-ghost use Rattle.staged_pages.specs.Store.{before_of};
-ghost use Rattle.domain_memory.specs.Memory.{StandsFor};
+ghost use Rattle.no_faults.specs.page_store.Pages.{Pages};
+ghost use Rattle.no_faults.specs.domain_layout.Reached.{Frame};
+ghost use Rattle.no_faults.specs.domain_memory.Kept.{KeepsKept};
+ghost use Rattle.no_faults.specs.domain_memory.declared.memory.DomainMemory.{DomainMemory};
+ghost use Rattle.no_faults.specs.fileset_values.declared.command.Command.{Command};
+ghost use Rattle.no_faults.specs.fileset_values.declared.entry.Entry.{Entry};
+ghost use Rattle.no_faults.specs.domain_base.declared.version.Version.{Version};
+ghost use Rattle.no_faults.specs.domain_layout.NewDomain.{IsNew};
+ghost use Rattle.no_faults.specs.domain_making.Making.{new_frame, pages_in_use};
+ghost use Rattle.no_faults.specs.fileset_model.Filesets.{FilesetMap};
+ghost use Rattle.no_faults.specs.legal_histories.State.{State, new_domain};
+ghost use Rattle.no_faults.specs.page_ways.Frame.{frame_in};
+ghost use Rattle.no_faults.specs.staged_pages.Store.{before_of};
+ghost use Rattle.no_faults.specs.domain_memory.Memory.{StandsFor};
 ghost use Rattle.domain_state.specs.History.{GoesOn};
 ghost use Rattle.domain_state.specs.Opening.{IsStartOf};
 ghost use Rattle.domain_state.specs.Short.{IsShort, MayLackPages};
 
 /// The history of a domain leads to the filesets for which it stands, whatever change is laid over
-/// its memory, as long as what was kept of that stays.
+/// its memory, as long as what memory keeps stays.
 pub fn a_history_goes_on_over_changes()
     ensures { (pages : Pages) (frame : Frame) (sizes : List ℕ) (old new : DomainMemory)
         (entries : List Entry) (job : Option Command) → KeepsKept old new
@@ -41,9 +41,9 @@ pub fn an_attached_domain_has_a_start()
         → (start : State) × IsStartOf (before_of memory.pages) (frame_in memory.frame) sizes start }
 {}
 
-/// Where a domain is short of pages, with no change laid over it, the open members have fewer pages
-/// than the filesets and the entries of its history may need, and so many more: wherever that
-/// history may have come.
+/// If a domain is short of pages, with no change laid over it, the open members have fewer pages
+/// than the filesets and the entries of its history may need, and `need` more, wherever that
+/// history may have led.
 pub fn want_of_pages_is_bounded()
     ensures { (pages : Pages) (frame : Frame) (sizes : List ℕ) (memory : DomainMemory)
         (entries : List Entry) (job : Option Command) (all : FilesetMap) (free need : ℕ)

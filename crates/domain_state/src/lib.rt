@@ -1,5 +1,5 @@
-//! A domain: what its rack has, what it keeps in memory, and the history of its commands since it
-//! was opened, which is legal.
+//! A domain: its rack, what is kept of it in memory, and the legal history of its commands since it
+//! was opened.
 #![tactic(auto)]
 
 mod attached;

@@ -1,15 +1,15 @@
 //! Making a domain.
 ghost use Rattle.std.specs.Prelude.{◌≡◌, ◌<◌, Err, IfErr, IfOk};
 ghost use Rattle.std.specs.FinMap.{empty};
-ghost use Rattle.domain_base.specs.Limits.{min_first_volume_pages};
-ghost use Rattle.volume_disk.specs.Disk.{HasVolume, Tells, volume_pages};
-ghost use Rattle.volume_disk.specs.Run.{LeavesOnly, Touches};
-ghost use Rattle.disk_label.specs.Fault.{HasPassed};
-ghost use Rattle.staged_pages.specs.Store.{before_of};
-ghost use Rattle.layout_laws.specs.NewDomain.{IsNew};
-ghost use Rattle.page_ways.specs.Frame.{frame_in};
-ghost use Rattle.domain_making.specs.Fault.{HasCause};
-ghost use Rattle.domain_making.specs.Making.{
+ghost use Rattle.no_faults.specs.domain_base.Limits.{min_first_volume_pages};
+ghost use Rattle.no_faults.specs.volume_disk.Disk.{HasVolume, Tells, volume_pages};
+ghost use Rattle.no_faults.specs.volume_disk.Run.{LeavesOnly, Touches};
+ghost use Rattle.no_faults.specs.disk_label.Fault.{HasPassed};
+ghost use Rattle.no_faults.specs.staged_pages.Store.{before_of};
+ghost use Rattle.no_faults.specs.domain_layout.NewDomain.{IsNew};
+ghost use Rattle.no_faults.specs.page_ways.Frame.{frame_in};
+ghost use Rattle.no_faults.specs.domain_making.Fault.{HasCause};
+ghost use Rattle.no_faults.specs.domain_making.Making.{
   AreSlotsReady,
   HasNoOtherAnchor,
   IsLarge,
@@ -20,19 +20,16 @@ ghost use Rattle.domain_making.specs.Making.{
   new_frame,
   pages_in_use,
 };
-ghost use Rattle.domain_making.specs.Pages.{AreNew};
-ghost use Rattle.domain_making.specs.declared.fault.MakeFault.TheVariants.{VolumeSmall};
-ghost use Rattle.domain_memory.specs.Memory.{StandsFor};
-ghost use Rattle.domain_memory.specs.Staged.{IsSettled, MayGoBack};
+ghost use Rattle.no_faults.specs.domain_making.Pages.{AreNew};
+ghost use Rattle.no_faults.specs.domain_making.declared.fault.MakeFault.TheVariants.{VolumeSmall};
+ghost use Rattle.no_faults.specs.domain_memory.Memory.{StandsFor};
+ghost use Rattle.no_faults.specs.domain_memory.Staged.{IsSettled, MayGoBack};
 
 use crate::Attached;
-use domain_base::Version;
-use domain_making::{MakeFault, NewPages, pages_to_use};
-use domain_memory::DomainMemory;
+use no_faults::{DomainMemory, MakeFault, NewPages, Rack, Version, pages_to_use};
 use std::alloc::Global;
-use volume_disk::Rack;
 
-/// The memory of a domain that is to be made of these pages on a rack.
+/// The memory of a domain that is to be made on a rack from these pages.
 fn new_memory<R: Rack>(
     alloc: Global,
     rack: &R,
@@ -55,13 +52,13 @@ fn new_memory<R: Rack>(
 }
 
 /// Makes an empty domain of this version on volume 1 of a rack, whatever that volume held, and
-/// keeps it in memory. All memory is taken ahead of the first write. No other volume may have an
+/// keeps it in memory. All memory is taken before the first write. No other volume may have an
 /// anchor that counts.
 ///
-/// `VolumeSmall` comes exactly where volume 1 has fewer than 160 pages, and `Fault` where one call
-/// of the volume that it names failed. The rack comes back with the fault; nothing is written at
-/// `VolumeSmall` and `OutOfMemory`, and where no anchor could count before, each image that a stop
-/// may leave has none or is the empty domain.
+/// Returns `VolumeSmall` if and only if volume 1 has fewer than 160 pages of 8,192 bytes, and
+/// `Fault` only if a call of the volume that it names failed. The rack is given back with the
+/// fault. Nothing is written at `VolumeSmall` and `OutOfMemory`. If no anchor could count before,
+/// each image that a stop may leave has no anchor, or is the empty domain.
 pub fn make<R: Rack>(
     alloc: Global,
     rack: R,

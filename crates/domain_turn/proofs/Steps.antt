@@ -13,9 +13,9 @@ use base.Growing.{prefix_refl, prefix_trans}
 use Rattle.atomic_table.specs.Table.{Act, Allows, Valid, carried_after, Joins, Me, Splits, State, gives, homes_after, keeps, step, stepped, takes}
 use Rattle.atomic_table.proofs.Lists.{at_set, at_snoc, one_turn, set_again, set_else}
 use Rattle.atomic_table.specs.Table.{rest}
-use Rattle.fileset_model.specs.declared.command.Actor.{Actor}
-use Rattle.fileset_model.specs.declared.command.Actor.TheVariants as actor
-use Rattle.fileset_model.specs.declared.entry.Entry.{Entry}
+use Rattle.fileset_values.specs.declared.command.Actor.{Actor}
+use Rattle.fileset_values.specs.declared.command.Actor.TheVariants as actor
+use Rattle.fileset_values.specs.declared.entry.Entry.{Entry}
 use Rattle.domain_turn.specs.Kept.{IsShare, Kept, Knows, resting}
 use Rattle.domain_turn.specs.Plays.{Finds, MayPut, added, draws, ends, first_of, holding, looks, notes, passes_on, puts, queued, rest_of, sees_committed, sees_durable, sees_ends, share_in, with_put, with_share, with_taken}
 use Rattle.domain_turn.specs.Telling.{Telling}

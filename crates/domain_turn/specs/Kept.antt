@@ -6,7 +6,7 @@ use mathlib.Core.Option.{some}
 use mathlib.Core.List.{IsPrefix}
 use lib.ListN.{get_elem?}
 use Rattle.atomic_table.specs.Table.{State}
-use Rattle.fileset_model.specs.declared.entry.Entry.{Entry}
+use Rattle.fileset_values.specs.declared.entry.Entry.{Entry}
 use Rattle.domain_turn.specs.Telling.{Telling}
 use Rattle.domain_turn.specs.Views.{ends_in, entries_of, has_ticket, holds_in, is_actor, lefts_in, one_if, passes_in, times_in, total, waits_in}
 use Rattle.domain_turn.specs.declared.view.Share.{Share}

@@ -1,7 +1,7 @@
 -- Passes of a turn, as its callers see them.
 use Rattle.std.specs.Prelude.{◌≡◌, ◌==◌, ◌<◌, ◌≤◌, ℕ, List, ◌∷◌, ◌++◌, length, Option, Contains, map}
 use mathlib.Core.List.{IsPrefix}
-use Rattle.fileset_model.specs.declared.entry.Entry.{Entry}
+use Rattle.fileset_values.specs.declared.entry.Entry.{Entry}
 use Rattle.domain_turn.specs.Plays.{share_in}
 use Rattle.domain_turn.specs.Telling.{Telling}
 use Rattle.domain_turn.specs.Views.{entries_of, is_actor, one_if, total}

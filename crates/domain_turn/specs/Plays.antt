@@ -2,7 +2,7 @@
 use Rattle.std.specs.Prelude.{◌≡◌, ℕ, ◌+◌, ◌-◌, ◌%◌, ◌^◌, ◌<◌, ◌≤◌, ◌==◌, max, true, List, [], ◌∷◌, ◌++◌, length, drop, Option, Some, None, Contains, MatchBool}
 use mathlib.Core.List.{IsPrefix}
 use Rattle.atomic_table.specs.Table.{Me, Step}
-use Rattle.fileset_model.specs.declared.entry.Entry.{Entry}
+use Rattle.fileset_values.specs.declared.entry.Entry.{Entry}
 use Rattle.domain_turn.specs.Kept.{resting}
 use Rattle.domain_turn.specs.Telling.{Telling}
 use Rattle.domain_turn.specs.Views.{entries_of, is_actor}

@@ -1,7 +1,7 @@
 -- What a value tells of its history.
 use Rattle.std.specs.Prelude.{ℕ, List, Option}
-use Rattle.fileset_model.specs.declared.command.Command.{Command}
-use Rattle.fileset_model.specs.declared.entry.Entry.{Entry}
+use Rattle.fileset_values.specs.declared.command.Command.{Command}
+use Rattle.fileset_values.specs.declared.entry.Entry.{Entry}
 
 -- its history, how much of it lasts, whether it is at rest, for how many entries more it has room,
 -- and the command of the job that runs

@@ -1,8 +1,8 @@
 -- What a pass knows of a turn, and what is counted over all passes.
 use Rattle.std.specs.Prelude.{ℕ, ◌+◌, ◌==◌, ◌&&◌, Bool, true, false, nat_lt, List, [], ◌∷◌, length, Option, Some, None, is_some, filter}
-use Rattle.fileset_model.specs.declared.command.Actor.{Actor}
-use Rattle.fileset_model.specs.declared.command.Actor.TheVariants as actor
-use Rattle.fileset_model.specs.declared.entry.Entry.{Entry}
+use Rattle.fileset_values.specs.declared.command.Actor.{Actor}
+use Rattle.fileset_values.specs.declared.command.Actor.TheVariants as actor
+use Rattle.fileset_values.specs.declared.entry.Entry.{Entry}
 use Rattle.domain_turn.specs.declared.view.Share.{Share}
 use Rattle.domain_turn.specs.declared.view.View.{View}
 

@@ -13,12 +13,11 @@ use crate::rule::{OffFirst, Place, Queue, Together};
 use crate::table::Turn;
 use crate::view::Beginning;
 use atomic_table::{Refused, Table};
-use domain_base::OutOfMemory;
-use fileset_model::Told;
+use fileset_values::{OutOfMemory, Told};
 use std::alloc::{AllocFailed, Global};
 use std::snapshot::Snapshot;
 
-/// A list of the one value.
+/// A list of only this value.
 fn only<T>(alloc: Global, value: T) -> Result<Vec<Option<T>>, T>
     ensures ok { IfOk result (λ slots. slots.items ≡ Some value ∷ []) }
     ensures err { IfErr result (λ back. back ≡ value) }
@@ -119,8 +118,8 @@ fn gather<T: Told>(queue: &Queue<T>, passes: Vec<Pass<T>>) -> Place<T>
 }
 
 impl<T: Told> Turn<T> {
-    /// Makes a turn of a value, and a pass for each number, which says how many entries that pass may
-    /// add. At an error the value comes back.
+    /// Makes a turn of a value, and a pass for each number, which says how many entries that pass
+    /// may add. After an error the value is handed back.
     pub fn new(
         alloc: Global,
         value: T,

@@ -4,8 +4,8 @@ ghost use Rattle.domain_turn.specs.Plays.{carried_by, share_in};
 
 use crate::rule::Place;
 
-/// The right of one actor to take the turn, and what it knows of it. Passes are numbered: 0 to 7 are
-/// those of the clients 1 to 8, 8 is the mover's, and 9 the flusher's.
+/// The right of one actor to take the turn, and what it knows of it. Passes are numbered: 0 to 7
+/// are those of the clients 1 to 8, 8 is the mover's, and 9 the flusher's.
 #[derive(Drop)]
 pub struct Pass<T> {
     pub(crate) seat: Place<T>,

@@ -6,9 +6,9 @@ ghost use Rattle.domain_turn.specs.Telling.{telling};
 
 use crate::view::{Beginning, View};
 use atomic_table::{Join, Play, Seat, Shared, Split, TableRule};
-use fileset_model::Told;
+use fileset_values::Told;
 
-/// Tickets are served one after the other, and who is served has the value.
+/// Tickets are served one after the other, and the one who is served has the value.
 pub struct InTurn;
 
 impl<T: Told> TableRule<Option<T>, View<T>, Beginning<T>> for InTurn {
@@ -32,7 +32,7 @@ impl<T> Split<View<T>> for OffFirst {
     ghost right = { λ view. resting (first_of view.shares ∷ []) };
 }
 
-/// The passes of both.
+/// The passes of both seats on one.
 pub(crate) struct Together;
 
 impl<T> Join<View<T>> for Together {

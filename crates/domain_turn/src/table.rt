@@ -4,7 +4,7 @@ ghost use Rattle.std.specs.Prelude.{◌≡◌, ◌≤◌, length};
 use crate::rule::InTurn;
 use crate::view::{Beginning, View};
 use atomic_table::Table;
-use fileset_model::Told;
+use fileset_values::Told;
 use std::alloc::Global;
 
 /// A value that is handed from thread to thread, to one at a time and in the order of asking.

@@ -1,4 +1,4 @@
-//! What a pass tells of the turn without taking it.
+//! What a pass tells about the turn without taking it.
 ghost use Rattle.std.specs.Prelude.{◌≡◌, ◌≤◌, length, max, true, false};
 ghost use Rattle.domain_turn.specs.Passes.{in_hand, known};
 ghost use Rattle.domain_turn.specs.Turns.{IsPassOf};
@@ -6,9 +6,9 @@ ghost use Rattle.domain_turn.specs.Turns.{IsPassOf};
 use crate::pass::Pass;
 use crate::rule::{End, Note, SeeCommitted, SeeDurable, SeeEnds};
 use crate::table::Turn;
-use fileset_model::Told;
+use fileset_values::Told;
 
-/// How long the history is at least, and how much of it lasts.
+/// A lower bound of the history's length, and how much of it lasts.
 #[derive(Clone, Copy, Debug, PartialEq, Eq)]
 pub struct Front {
     pub committed: u64,
@@ -16,7 +16,7 @@ pub struct Front {
 }
 
 impl<T: Told> Turn<T> {
-    /// Lets all see that so many entries last. It neither waits nor takes memory.
+    /// Lets all passes see that `durable` entries last. It neither waits nor takes memory.
     pub fn note_durable(&self, pass: &mut Pass<T>, durable: u64)
         requires here { IsPassOf self.now pass.old }
         requires lasting { durable ≤ (known pass.old).lasting }
@@ -30,7 +30,8 @@ impl<T: Told> Turn<T> {
             .fetch_max::<Note>(&mut pass.seat, 3, durable);
     }
 
-    /// How long the history is at least, and how much of it lasts. It neither waits nor takes memory.
+    /// A lower bound of the history's length, and how much of it lasts. It neither waits nor takes
+    /// memory.
     pub fn front(&self, pass: &mut Pass<T>) -> Front
         requires here { IsPassOf self.now pass.old }
         ensures here { IsPassOf self.now pass.new }

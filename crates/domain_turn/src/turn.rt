@@ -8,7 +8,7 @@ ghost use Rattle.domain_turn.specs.Turns.{IsPassOf};
 use crate::pass::Pass;
 use crate::rule::{Draw, Look, PassOn, Place, Publish, Queue};
 use crate::table::Turn;
-use fileset_model::Told;
+use fileset_values::Told;
 use std::sync::Wait;
 
 /// The low 32 bits.

@@ -1,9 +1,9 @@
-//! What a seat at the turn knows, for the proofs alone.
-use fileset_model::{Command, Entry};
+//! What a seat at the turn knows, only for the proofs.
+use fileset_values::{Command, Entry};
 use std::collections::LinkedList;
 use std::snapshot::Snapshot;
 
-/// What goes with the number of a pass. No value of it is made.
+/// A ghost value that goes with the number of a pass. No value of it is made.
 pub struct Share {
     pub number: u64,
     /// The history as it was when the passes were made.
@@ -14,7 +14,7 @@ pub struct Share {
     pub mine: LinkedList<Entry>,
     /// How many entries it may still add.
     pub left: u64,
-    /// The command of the job that runs, kept true for the mover's pass alone.
+    /// The command of the running job, kept up to date only for the mover's pass.
     pub begun: Option<Command>,
     /// How much lasted of the value when it was in hand last.
     pub lasting: u64,
@@ -27,8 +27,8 @@ pub struct Share {
     pub ended: bool,
 }
 
-/// What a seat knows: the shares of its numbers, its place in the queue, and the value that it has,
-/// as it stands for all. No value of it is made.
+/// What a seat knows: the shares of its numbers, its place in the queue, and the value that it
+/// holds, as it stands for all. No value of it is made.
 pub struct View<T> {
     pub shares: LinkedList<Share>,
     pub ticket: Option<u64>,

@@ -1,4 +1,5 @@
-//! Where the pages of a file stand: a map from page to home or kept hole, as few runs as there are.
+//! Where the pages of a file stand: a map from page to home or kept hole, in as few runs as
+//! possible.
 #![tactic(auto)]
 
 mod map;

@@ -10,8 +10,8 @@ use domain_base::{Home, OutOfMemory};
 use std::alloc::Global;
 use std::marker::Model;
 
-/// The pages of a file that are there or kept as holes, by their numbers, as runs as long as can
-/// be.
+/// The pages of a file that have homes or are kept as holes, by their numbers, in runs that are as
+/// long as possible.
 #[derive(Drop)]
 pub struct ExtentMap {
     runs: Vec<Run>,
@@ -49,7 +49,7 @@ fn count_before(runs: &[Run], page: u32) -> usize
     runs.partition_point(|run| run.page < page)
 }
 
-/// The run that has the page, if one does, by its place.
+/// The index of the run that has the page, if there is one.
 fn find(runs: &[Run], page: u32) -> Option<usize>
     requires { AreRuns runs.now }
     ensures some { IfSome result (λ k. (k < length runs.now)
@@ -64,7 +64,7 @@ fn find(runs: &[Run], page: u32) -> Option<usize>
     }
 }
 
-/// Puts an item at the place, in front of those from there on. After an error nothing has changed.
+/// Inserts an item at the place, before those from there on. After an error nothing has changed.
 fn insert<T: Drop>(items: &mut Vec<T>, at: usize, item: T) -> Result<(), OutOfMemory>
     requires within { at ≤ vec_len items.old }
     ensures ok { OnOk result (items.new.items ≡ take at items.old.items ++ item
@@ -79,7 +79,7 @@ fn insert<T: Drop>(items: &mut Vec<T>, at: usize, item: T) -> Result<(), OutOfMe
     Ok(())
 }
 
-/// Puts a run at the place, in front of those from there on. After an error nothing has changed.
+/// Inserts a run at the place, before those from there on. After an error nothing has changed.
 fn insert_run(runs: &mut Vec<Run>, at: usize, run: &Run) -> Result<(), OutOfMemory>
     requires within { at ≤ vec_len runs.old }
     ensures ok { OnOk result (runs.new.items ≡ take at runs.old.items ++ run.now
@@ -94,7 +94,7 @@ fn insert_run(runs: &mut Vec<Run>, at: usize, run: &Run) -> Result<(), OutOfMemo
     insert(runs, at, Run { page, count, first })
 }
 
-/// Whether the first of the runs goes on where this one ends.
+/// Whether the first of the runs continues where this one ends.
 fn first_goes_on(run: &Run, runs: &[Run]) -> bool
     requires { IsRun run.now }
     ensures { result ≡ goes_on_there run.now runs.now }
@@ -105,7 +105,7 @@ fn first_goes_on(run: &Run, runs: &[Run]) -> bool
     }
 }
 
-/// Whether the first of the runs from the place on goes on where this one ends.
+/// Whether the first of the runs from the place on continues where this one ends.
 fn goes_on_at(run: &Run, runs: &[Run], at: usize) -> bool
     requires run { IsRun run.now }
     requires within { at ≤ length runs.now }
@@ -114,8 +114,8 @@ fn goes_on_at(run: &Run, runs: &[Run], at: usize) -> bool
     first_goes_on(run, &runs[at..])
 }
 
-/// A run with what goes on from it behind the place: where that run is taken off the list, the two
-/// are one.
+/// The run joined with the one at the place, if that one continues it. Then that one is taken off
+/// the list.
 fn join_next(runs: &mut Vec<Run>, at: usize, run: Run) -> Run
     requires within { at ≤ vec_len runs.old }
     requires runs { AreRuns runs.old.items }
@@ -136,7 +136,7 @@ fn join_next(runs: &mut Vec<Run>, at: usize, run: Run) -> Run
     run
 }
 
-/// Whether a run goes on where the one in front of the place ends.
+/// Whether a run continues where the one before the place ends.
 fn goes_on_before(runs: &[Run], at: usize, run: &Run) -> bool
     requires runs { AreRuns (take at runs.now) }
     requires within { at ≤ length runs.now }
@@ -148,7 +148,7 @@ fn goes_on_before(runs: &[Run], at: usize, run: &Run) -> bool
     }
 }
 
-/// Makes the run at the place one with another that goes on from it.
+/// Joins the run at the place with another one that continues it.
 fn extend(runs: &mut Vec<Run>, at: usize, next: &Run)
     requires within { at < vec_len runs.old }
     requires front { AreRuns (take (at + 1) runs.old.items) }
@@ -163,7 +163,7 @@ fn extend(runs: &mut Vec<Run>, at: usize, next: &Run)
     runs[at] = run;
 }
 
-/// Puts a run at the place, or makes it one with the run in front of it where it goes on from that.
+/// Inserts a run at the place, or joins it to the run before the place if it continues that one.
 fn join_before(runs: &mut Vec<Run>, at: usize, run: &Run) -> Result<(), OutOfMemory>
     requires within { at ≤ vec_len runs.old }
     requires front { AreRuns (take at runs.old.items) }
@@ -182,7 +182,7 @@ fn join_before(runs: &mut Vec<Run>, at: usize, run: &Run) -> Result<(), OutOfMem
     insert_run(runs, at, run)
 }
 
-/// Puts a run in front of those from the place on.
+/// Puts a run before those from the place on.
 fn place_run(runs: &mut Vec<Run>, at: usize, run: Run) -> Result<(), OutOfMemory>
     requires within { at ≤ vec_len runs.old }
     requires runs { AreRuns runs.old.items }
@@ -210,7 +210,7 @@ fn put_page(runs: &mut Vec<Run>, page: u32, first: RunPlace) -> Result<(), OutOf
     place_run(runs, at, Run::one(page, first))
 }
 
-/// Whether the run in front of the place ends at the page or before it.
+/// Whether the run before the place ends at the page or before it.
 fn ends_before(runs: &[Run], at: usize, page: u32) -> bool
     requires runs { AreRuns runs.now }
     requires within { at ≤ length runs.now }
@@ -222,8 +222,8 @@ fn ends_before(runs: &[Run], at: usize, page: u32) -> bool
     }
 }
 
-/// Puts the pages of a run at its places. It answers false exactly where one of them is there or
-/// kept already, and then nothing has changed.
+/// Puts the pages of a run at its places. Returns false if and only if one of them is already there
+/// or kept, and then nothing has changed.
 fn put_run(runs: &mut Vec<Run>, run: &Run) -> Result<bool, OutOfMemory>
     requires runs { AreRuns runs.old.items }
     requires run { IsRun run.now }
@@ -243,7 +243,7 @@ fn put_run(runs: &mut Vec<Run>, run: &Run) -> Result<bool, OutOfMemory>
     Ok(false)
 }
 
-/// Puts the pages of a run from the one on that stands so many behind its first behind that run.
+/// Inserts, right after a run, its pages from the one on that is `offset` pages after its first.
 fn put_rest(runs: &mut Vec<Run>, at: usize, offset: u32) -> Result<(), OutOfMemory>
     requires within { at < vec_len runs.old }
     requires run { (d : RunOf) → IsRun (slice_index_or runs.old.items at d) }
@@ -260,7 +260,7 @@ fn put_rest(runs: &mut Vec<Run>, at: usize, offset: u32) -> Result<(), OutOfMemo
     insert_run(runs, at + 1, &rest)
 }
 
-/// Leaves of a run its first pages, so many.
+/// Leaves only the first `count` pages of a run.
 fn keep_front(runs: &mut Vec<Run>, at: usize, count: u32)
     requires within { at < vec_len runs.old }
     ensures items { (d : RunOf) → runs.new.items ≡ take at runs.old.items
@@ -276,8 +276,8 @@ fn keep_front(runs: &mut Vec<Run>, at: usize, count: u32)
     }
 }
 
-/// Takes the page off that stands so many behind the first of a run. After an error nothing has
-/// changed.
+/// Takes off the page that stands `offset` pages after the first of a run. After an error nothing
+/// has changed.
 fn cut_run(runs: &mut Vec<Run>, at: usize, offset: u32) -> Result<(), OutOfMemory>
     requires runs { AreRuns runs.old.items }
     requires within { at < vec_len runs.old }
@@ -299,7 +299,7 @@ fn cut_run(runs: &mut Vec<Run>, at: usize, offset: u32) -> Result<(), OutOfMemor
     Ok(())
 }
 
-/// Takes a page off, and tells the home that it had, if any. After an error nothing has changed.
+/// Takes a page off, and returns the home that it had, if any. After an error nothing has changed.
 fn cut_page(runs: &mut Vec<Run>, page: u32) -> Result<Option<Home>, OutOfMemory>
     requires { AreRuns runs.old.items }
     ensures runs { OnOk result (AreRuns runs.new.items) }
@@ -320,8 +320,8 @@ fn cut_page(runs: &mut Vec<Run>, page: u32) -> Result<Option<Home>, OutOfMemory>
     Ok(place.home())
 }
 
-/// Takes the pages from one on off the last run in front of the place, and puts them in front of
-/// the tail. After an error nothing has changed.
+/// Takes the pages from one on off the last run before the place, and puts them at the front of the
+/// tail. After an error nothing has changed.
 fn move_rest(
     runs: &mut Vec<Run>,
     at: usize,
@@ -350,7 +350,7 @@ fn move_rest(
 }
 
 impl ExtentMap {
-    /// No page is there.
+    /// A map without pages.
     pub fn new(alloc: Global) -> ExtentMap
         ensures { result ≡ [] }
     {
@@ -359,7 +359,7 @@ impl ExtentMap {
         }
     }
 
-    /// Where a page is. It looks at so many runs as halving takes.
+    /// Where a page is. Looks at only as many runs as halving takes.
     pub fn home_of(&self, page: u32) -> PagePlace
         ensures { result ≡ place_of self.now page }
     {
@@ -392,8 +392,8 @@ impl ExtentMap {
         put_page(&mut self.runs, page, RunPlace::Holes)
     }
 
-    /// Puts the pages of a run at its places. It answers false exactly where one of them is there
-    /// or kept already, and then nothing has changed. After an error nothing has changed.
+    /// Puts the pages of a run at its places. Returns false if and only if one of them is already
+    /// there or kept, and then nothing has changed. After an error nothing has changed.
     pub fn put_run(&mut self, run: &Run) -> Result<bool, OutOfMemory>
         requires { IsRun run.now }
         ensures free { IfOk result (λ put. IsTrue put ↔ IsFree run.now self.old) }
@@ -405,8 +405,8 @@ impl ExtentMap {
         put_run(&mut self.runs, run)
     }
 
-    /// Takes a page off, and tells the home that it had, if any. A page in the middle of a run
-    /// leaves two. After an error nothing has changed.
+    /// Takes a page off, and returns the home that it had, if any. A page in the middle of a run
+    /// leaves two runs. After an error nothing has changed.
     pub fn cut(&mut self, page: u32) -> Result<Option<Home>, OutOfMemory>
         ensures ok { OnOk result (ChangesPlace page Absent self.old self.new) }
         ensures home { IfOk result (λ home. home ≡ home_at (place_of self.old page)) }
@@ -415,7 +415,7 @@ impl ExtentMap {
         cut_page(&mut self.runs, page)
     }
 
-    /// Puts a page that has a home at another one, and tells the old one. After an error nothing
+    /// Moves a page that has a home to another one, and returns the old one. After an error nothing
     /// has changed.
     pub fn switch(&mut self, page: u32, home: Home) -> Result<Home, OutOfMemory>
         requires there { IsSome (home_at (place_of self.old page)) }

@@ -44,7 +44,7 @@ pub struct Run {
     pub first: RunPlace,
 }
 
-/// Where so many pages behind stands.
+/// Where the page stands that is `count` pages after the first.
 fn place_behind(count: u32, first: RunPlace) -> RunPlace
     requires { FitsVolume (count + 1) first }
     ensures { result ≡ behind_there count first }
@@ -58,7 +58,7 @@ fn place_behind(count: u32, first: RunPlace) -> RunPlace
     }
 }
 
-/// Whether the second stands so many pages behind the first.
+/// Whether the second stands `count` pages after the first.
 fn is_behind(count: u32, first: RunPlace, next: RunPlace) -> bool
     ensures { result ≡ same_place (behind_there count first) next }
 {
@@ -72,7 +72,7 @@ fn is_behind(count: u32, first: RunPlace, next: RunPlace) -> bool
 }
 
 impl Run {
-    /// One page.
+    /// A run of one page.
     pub(crate) fn one(page: u32, first: RunPlace) -> Run
         ensures { result ≡ record { page = page; count = 1; first = first } }
     {
@@ -83,7 +83,7 @@ impl Run {
         }
     }
 
-    /// The number behind its last page.
+    /// The number after that of its last page.
     pub(crate) fn end(&self) -> u32
         requires { IsRun self.now }
         ensures { result ≡ end_of self.now }
@@ -91,7 +91,7 @@ impl Run {
         self.page + self.count
     }
 
-    /// Where its page is that stands so many behind its first.
+    /// Where the page stands that is `offset` pages after its first.
     pub(crate) fn place(&self, offset: u32) -> PagePlace
         requires run { IsRun self.now }
         requires within { offset < self.now.count }
@@ -103,7 +103,7 @@ impl Run {
         }
     }
 
-    /// Whether another run goes on where this one ends, in the file and on its volume.
+    /// Whether another run continues where this one ends, in the file and on its volume.
     pub(crate) fn goes_on(&self, next: &Run) -> bool
         requires { IsRun self.now }
         ensures { result ≡ runs_on self.now next.now }
@@ -111,7 +111,7 @@ impl Run {
         self.end() == next.page && is_behind(self.count, self.first, next.first)
     }
 
-    /// Its pages from the one on that stands so many behind its first.
+    /// Its pages from the one on that is `offset` pages after its first.
     pub(crate) fn behind(&self, offset: u32) -> Run
         requires run { IsRun self.now }
         requires within { offset < self.now.count }
@@ -128,7 +128,7 @@ impl Run {
         }
     }
 
-    /// Its first pages, so many.
+    /// Its first `count` pages.
     pub(crate) fn front(&self, count: u32) -> Run
         ensures { result ≡ record self.now { count = count } }
     {
@@ -139,7 +139,7 @@ impl Run {
         }
     }
 
-    /// It with another run that goes on from it.
+    /// This run joined with another one that continues it.
     pub(crate) fn with(&self, next: &Run) -> Run
         requires run { IsRun self.now }
         requires next { IsRun next.now }

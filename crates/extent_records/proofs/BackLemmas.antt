@@ -5,8 +5,8 @@ use Rattle.std.proofs.lemmas.Bool.{cases_Bool, leb-true, leb-false, ltb-true, lt
 use Rattle.extent_maps.specs.declared.run.Run.{Run}
 use Rattle.extent_maps.specs.declared.run.PagePlace.TheVariants.{Absent}
 use Rattle.extent_maps.specs.Runs.{AreRuns, SamePlaces, behind, covers, end_of, front_of, place_of, placed, rest_from}
-use Rattle.record_table.specs.declared.record.Record.{Record}
-use Rattle.record_table.specs.Records.{kind_of}
+use Rattle.cell_records.specs.declared.record.Record.{Record}
+use Rattle.cell_records.specs.Records.{kind_of}
 use Rattle.extent_records.specs.Rows.{runs_in}
 use Rattle.extent_records.specs.Writing.{IsMapRecord, Suits, most_pages, most_rows, places_from, places_in, rows_for}
 use Rattle.extent_records.proofs.FewestLemmas.{RisingFrom, fewest, place_not_before, place_not_behind, split_places}

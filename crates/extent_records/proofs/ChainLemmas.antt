@@ -11,7 +11,7 @@ use Rattle.extent_maps.specs.declared.run.PagePlace.{PagePlace}
 use Rattle.extent_maps.specs.declared.run.PagePlace.TheVariants.{At, Hole, Absent}
 use Rattle.extent_maps.specs.Runs.{Places, behind, covers, place_of, placed, with_place}
 use Rattle.extent_maps.proofs.EditLemmas.{over, place_append}
-use Rattle.record_table.specs.declared.record.Record.{Record}
+use Rattle.cell_records.specs.declared.record.Record.{Record}
 use Rattle.extent_records.specs.Rows.{AreOneMap, IsPlaced, NoPageTwice, runs_in, runs_of, there, times}
 use Rattle.extent_records.specs.Writing.{IsMapRecord, places_before, places_in}
 use Rattle.extent_records.specs.Chains.{AreCutRecords, ArePartsFor, ChangesAlone, ChangesChain, CutsChain, FollowsChange}

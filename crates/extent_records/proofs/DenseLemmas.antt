@@ -5,9 +5,9 @@ use Rattle.extent_maps.specs.declared.run.Run.{Run}
 use Rattle.extent_maps.specs.declared.run.PagePlace.{PagePlace}
 use Rattle.extent_maps.specs.declared.run.PagePlace.TheVariants.{At, Hole, Absent}
 use Rattle.extent_maps.specs.Runs.{AreRuns, SamePlaces, place_of}
-use Rattle.record_table.specs.declared.record.Record.{Record}
-use Rattle.record_table.specs.declared.record.Record.TheVariants.{Extents, ShortExtents}
-use Rattle.record_table.specs.Records.{kind_of}
+use Rattle.cell_records.specs.declared.record.Record.{Record}
+use Rattle.cell_records.specs.declared.record.Record.TheVariants.{Extents, ShortExtents}
+use Rattle.cell_records.specs.Records.{kind_of}
 use Rattle.extent_records.specs.Rows.{runs_in}
 use Rattle.extent_records.specs.Listing.{HoldsRuns}
 use Rattle.extent_records.specs.Writing.{AllSuit, IsLeastRecord, IsMapRecord, Suits, dense_kind, is_of_holes, most_pages, most_rows, parts, pieces, places_in, rows_for}

@@ -7,8 +7,8 @@ use Rattle.extent_maps.specs.declared.run.PagePlace.{PagePlace}
 use Rattle.extent_maps.specs.Runs.{AreRuns, behind, covers, end_of, front_of, place_of, placed}
 use Rattle.extent_maps.proofs.RunLemmas.{covers_not_behind}
 use Rattle.extent_maps.proofs.EditLemmas.{covers_from, covers_is}
-use Rattle.record_table.specs.declared.record.Record.{Record}
-use Rattle.record_table.specs.Records.{kind_of}
+use Rattle.cell_records.specs.declared.record.Record.{Record}
+use Rattle.cell_records.specs.Records.{kind_of}
 use Rattle.extent_records.specs.Rows.{runs_in}
 use Rattle.extent_records.specs.Writing.{IsMapRecord, most_pages, most_rows, places_before, places_in, rows_for}
 use Rattle.extent_records.proofs.FewestLemmas.{RisingFrom, fewest}

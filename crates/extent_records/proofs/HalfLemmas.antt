@@ -2,18 +2,18 @@
 use Rattle.std.proofs.Common.{◌≡◌, ℕ, ◌+◌, ◌-◌, ◌≤◌, Bool, true, false, cond, eqb, ltb, List, [], ◌∷◌, ◌++◌, length, take, drop, IsSome, refl, sym, ap, ◌∙◌, arith}
 use Rattle.std.proofs.lemmas.Bool.{ltb-true, ltb-false, true≢false}
 use Rattle.std.proofs.lemmas.List.{append-nil, length-drop, take-append-drop, take_all}
-use Rattle.domain_base.specs.declared.place.Home.{Home}
-use Rattle.domain_base.specs.declared.version.Version.{Version}
-use Rattle.domain_base.specs.declared.version.Version.TheVariants.{Three, Four}
+use Rattle.cell_records.specs.domain_base.declared.place.Home.{Home}
+use Rattle.cell_records.specs.domain_base.declared.version.Version.{Version}
+use Rattle.cell_records.specs.domain_base.declared.version.Version.TheVariants.{Three, Four}
 use Rattle.extent_maps.specs.declared.run.Run.{Run}
 use Rattle.extent_maps.specs.declared.run.PagePlace.{PagePlace}
 use Rattle.extent_maps.specs.declared.run.PagePlace.TheVariants.{Absent, At, Hole}
 use Rattle.extent_maps.specs.Runs.{AreRuns, Places, SamePlaces, covers, end_of, home_at, place_of, with_place}
 use Rattle.extent_maps.proofs.RunLemmas.{covers_not_behind}
 use Rattle.extent_maps.proofs.EditLemmas.{drop_runs, over, place_append, take_runs}
-use Rattle.record_table.specs.declared.record.Record.{Record}
-use Rattle.record_table.specs.declared.record.Record.TheVariants.{DenseExtents, Extents, Holes, ShortDense, ShortExtents}
-use Rattle.record_table.specs.Records.{kind_of}
+use Rattle.cell_records.specs.declared.record.Record.{Record}
+use Rattle.cell_records.specs.declared.record.Record.TheVariants.{DenseExtents, Extents, Holes, ShortDense, ShortExtents}
+use Rattle.cell_records.specs.Records.{kind_of}
 use Rattle.extent_records.specs.Rows.{IsPlaced, NoPageTwice, runs_in, there, times}
 use Rattle.extent_records.specs.Chains.{ArePartsFor}
 use Rattle.extent_records.specs.Listing.{HoldsRuns}

@@ -5,16 +5,16 @@ use Rattle.std.proofs.Math.Nat.{mul-le-mul_left}
 use Rattle.std.proofs.lemmas.Grind.{flat_map-append}
 use Rattle.std.proofs.lemmas.Bool.{ltb-true, ltb-false, eqb-true, eq-eqb, and_from, false≢true}
 use Rattle.std.proofs.lemmas.List.{length-append, length-drop, length-map}
-use Rattle.domain_base.specs.declared.version.Version.{Version}
-use Rattle.domain_base.specs.declared.version.Version.TheVariants.{Three, Four}
+use Rattle.cell_records.specs.domain_base.declared.version.Version.{Version}
+use Rattle.cell_records.specs.domain_base.declared.version.Version.TheVariants.{Three, Four}
 use Rattle.extent_maps.specs.declared.run.Run.{Run}
 use Rattle.extent_maps.specs.declared.run.RunPlace.{RunPlace}
 use Rattle.extent_maps.specs.declared.run.RunPlace.TheVariants as place
 use Rattle.extent_maps.specs.Runs.{AreRuns, behind, covers, end_of, goes_on, place_of, placed, same_place}
 use Rattle.extent_maps.proofs.RunLemmas.{all_map, behind_first}
 use Rattle.extent_maps.proofs.EditLemmas.{behind_twice, covers_is, never_absent}
-use Rattle.record_table.specs.declared.record.Record.{Record}
-use Rattle.record_table.specs.Records.{kind_of}
+use Rattle.cell_records.specs.declared.record.Record.{Record}
+use Rattle.cell_records.specs.Records.{kind_of}
 use Rattle.extent_records.specs.Rows.{AreOneMap, IsMapOf, IsPlaced, NoPageTwice, runs_in, runs_of, there, times}
 use Rattle.extent_records.specs.Writing.{AllSuit, Suits, chain_kind, hole_kind, is_of_holes, most_rows, short_kind}
 use Rattle.extent_records.specs.Listing.{Fills, IsLeastList, IsOfChain, ListsMap, SaysMap, hole_part, holes_in, home_part, homes_in}

@@ -12,3 +12,4 @@ pub mod ListingLemmas
 pub mod MovedLemmas
 pub mod HalfLemmas
 pub mod LeastLemmas
+pub mod OfExtentMaps

@@ -4,8 +4,8 @@ use Rattle.std.specs.List.{flat_map, AllByRecursion}
 use Rattle.std.proofs.lemmas.Grind.{flat_map-append}
 use Rattle.std.proofs.lemmas.Bool.{cases_Bool, leb-true, leb-false}
 use Rattle.std.proofs.lemmas.List.{append-nil, drop-drop, drop_all, take-append-drop, take_all, take_min, drop_min, length-append, length-drop}
-use Rattle.domain_base.specs.declared.version.Version.{Version}
-use Rattle.domain_base.specs.declared.version.Version.TheVariants.{Three, Four}
+use Rattle.cell_records.specs.domain_base.declared.version.Version.{Version}
+use Rattle.cell_records.specs.domain_base.declared.version.Version.TheVariants.{Three, Four}
 use Rattle.extent_maps.specs.declared.run.Run.{Run}
 use Rattle.extent_maps.specs.declared.run.RunPlace.{RunPlace}
 use Rattle.extent_maps.specs.declared.run.RunPlace.TheVariants as place
@@ -13,9 +13,9 @@ use Rattle.extent_maps.specs.declared.run.PagePlace.TheVariants.{Absent}
 use Rattle.extent_maps.specs.Runs.{AreRuns, BeginBehind, behind, covers, end_of, first_goes_on, place_of, placed}
 use Rattle.extent_maps.proofs.RunLemmas.{absent_before, all_map, behind_first}
 use Rattle.extent_maps.proofs.EditLemmas.{covers_is, first_apart, follows_behind, over, over_placed, place_append}
-use Rattle.record_table.specs.declared.record.Record.{Record}
-use Rattle.record_table.specs.declared.record.Record.TheVariants.{Extents, ShortExtents, Holes, DenseExtents, ShortDense}
-use Rattle.record_table.specs.Records.{kind_of}
+use Rattle.cell_records.specs.declared.record.Record.{Record}
+use Rattle.cell_records.specs.declared.record.Record.TheVariants.{Extents, ShortExtents, Holes, DenseExtents, ShortDense}
+use Rattle.cell_records.specs.Records.{kind_of}
 use Rattle.extent_records.specs.Rows.{AreOneMap, IsMapOf, IsPlaced, NoPageTwice, runs_in, runs_of, there, times}
 use Rattle.extent_records.specs.Writing.{AllSuit, AreRowsFrom, HasRows, IsMapRecord, Suits, chain_kind, hole_kind, is_dense, is_of_holes, most_pages, most_rows, parts, pieces, rows_for, short_kind}
 use Rattle.extent_records.specs.Listing.{AddsAll, AddsFirst, AddsOne, AllHomes, Fills, HasHome, HoldsRuns, ListsMap, hole_part, holes_in, home_part, homes_in}

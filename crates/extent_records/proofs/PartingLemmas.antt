@@ -7,7 +7,7 @@ use Rattle.extent_maps.specs.declared.run.Run.{Run}
 use Rattle.extent_maps.specs.declared.run.PagePlace.TheVariants.{Absent}
 use Rattle.extent_maps.specs.Runs.{place_of}
 use Rattle.extent_maps.proofs.EditLemmas.{over, place_append}
-use Rattle.record_table.specs.declared.record.Record.{Record}
+use Rattle.cell_records.specs.declared.record.Record.{Record}
 use Rattle.extent_records.specs.Rows.{AreOneMap, IsPlaced, NoPageTwice, runs_in, runs_of, there, times}
 use Rattle.extent_records.specs.Writing.{places_in}
 use Rattle.extent_records.specs.Chains.{ArePartsOf, ChangesAlone, FollowsChange, KeepsMap}

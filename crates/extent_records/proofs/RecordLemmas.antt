@@ -10,11 +10,11 @@ use Rattle.extent_maps.specs.declared.run.PagePlace.{PagePlace}
 use Rattle.extent_maps.specs.declared.run.PagePlace.TheVariants.{At, Hole, Absent}
 use Rattle.extent_maps.specs.Runs.{AreRuns, ChangesPlace, Places, SamePlaces, behind, covers, end_of, home_at, place_of, placed}
 use Rattle.extent_maps.proofs.RunLemmas.{covers_not_before, covers_not_behind}
-use Rattle.record_table.specs.declared.record.Record.{Record}
-use Rattle.record_table.specs.declared.record.Record.TheVariants.{Extents, ShortExtents, Holes, DenseExtents, ShortDense}
-use Rattle.record_table.specs.declared.record.ExtentField.{ExtentField}
-use Rattle.record_table.specs.declared.record.HoleField.{HoleField}
-use Rattle.record_table.specs.Records.{Allowed, AreExtents, AreHoles, NoExtent, NoHole, kind_of}
+use Rattle.cell_records.specs.declared.record.Record.{Record}
+use Rattle.cell_records.specs.declared.record.Record.TheVariants.{Extents, ShortExtents, Holes, DenseExtents, ShortDense}
+use Rattle.cell_records.specs.declared.record.ExtentField.{ExtentField}
+use Rattle.cell_records.specs.declared.record.HoleField.{HoleField}
+use Rattle.cell_records.specs.Records.{Allowed, AreExtents, AreHoles, NoExtent, NoHole, kind_of}
 use Rattle.extent_records.specs.Rows.{IsPlaced, NoPageTwice, OnVolume, holes_at, run_of, runs_at, runs_in, times}
 use Rattle.extent_records.specs.Writing.{AllSuit, AreRowsFrom, HasRows, IsLeastRecord, IsMapRecord, Rewrites, SaysPlaces, Suits, is_of_holes, most_pages, most_rows, parts, places_before, places_in, rows_for}
 use Rattle.extent_records.proofs.FewestLemmas.{RisingFrom, fewest, place_not_behind, place_start, absent_in_front, split_places}

@@ -10,9 +10,9 @@ use Rattle.extent_maps.specs.declared.run.PagePlace.TheVariants.{At}
 use Rattle.extent_maps.specs.Runs.{AreRuns, BeginFrom, IsRun, behind, end_of, front_of, placed, rest_from}
 use Rattle.extent_maps.proofs.RunLemmas.{all_map, behind_first}
 use Rattle.extent_maps.proofs.EditLemmas.{front_is_run, rest_is_run}
-use Rattle.record_table.specs.declared.record.Record.TheVariants.{Extents, ShortExtents, Holes, DenseExtents, ShortDense}
-use Rattle.record_table.specs.declared.record.ExtentField.{ExtentField}
-use Rattle.record_table.specs.Records.{Allowed, AreExtents, AreHoles, IsExtent, NoExtent, NoHole}
+use Rattle.cell_records.specs.declared.record.Record.TheVariants.{Extents, ShortExtents, Holes, DenseExtents, ShortDense}
+use Rattle.cell_records.specs.declared.record.ExtentField.{ExtentField}
+use Rattle.cell_records.specs.Records.{Allowed, AreExtents, AreHoles, IsExtent, NoExtent, NoHole}
 use Rattle.extent_records.specs.Rows.{OnVolume, holes_at, runs_at}
 use Rattle.extent_records.specs.Writing.{AllSuit, AreRowsFrom, HasRows, IsRow, Suits, extent_of, filled, hole_of, is_dense, is_of_holes, most_pages, no_extent, no_hole, parts, rows_for}
 use Rattle.extent_records.proofs.FewestLemmas.{RisingFrom, pieces_one}

@@ -4,8 +4,8 @@ use Rattle.std.specs.List.{AllByRecursion}
 use Rattle.extent_maps.specs.declared.run.PagePlace.{PagePlace}
 use Rattle.extent_maps.specs.declared.run.PagePlace.TheVariants.{At, Hole, Absent}
 use Rattle.extent_maps.specs.Runs.{Places, place_of, with_place}
-use Rattle.record_table.specs.declared.record.Record.{Record}
-use Rattle.record_table.specs.Records.{kind_of}
+use Rattle.cell_records.specs.declared.record.Record.{Record}
+use Rattle.cell_records.specs.Records.{kind_of}
 use Rattle.extent_records.specs.Rows.{AreOneMap, IsPlaced, NoPageTwice, runs_in, runs_of}
 use Rattle.extent_records.specs.Writing.{CanSay, IsMapRecord, is_of_holes, most_rows, places_before, places_from, places_in}
 

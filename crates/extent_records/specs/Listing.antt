@@ -1,12 +1,12 @@
 -- The records of a whole map.
 use Rattle.std.specs.Prelude.{◌≡◌, ℕ, true, false, ◌≤◌, List, [], ◌∷◌, ◌++◌, take, drop, length}
 use Rattle.std.specs.List.{AllByRecursion, flat_map}
-use Rattle.domain_base.specs.declared.version.Version.{Version}
+use Rattle.cell_records.specs.domain_base.declared.version.Version.{Version}
 use Rattle.extent_maps.specs.declared.run.RunPlace.{RunPlace}
 use Rattle.extent_maps.specs.declared.run.RunPlace.TheVariants as place
 use Rattle.extent_maps.specs.declared.run.Run.{Run}
-use Rattle.record_table.specs.declared.record.Record.{Record}
-use Rattle.record_table.specs.Records.{Allowed, kind_of}
+use Rattle.cell_records.specs.declared.record.Record.{Record}
+use Rattle.cell_records.specs.Records.{Allowed, kind_of}
 use Rattle.extent_records.specs.Rows.{AreOneMap, IsMapOf, OnVolume, runs_in}
 use Rattle.extent_records.specs.Writing.{IsMapRecord, chain_kind, hole_kind, is_of_holes, most_rows, rows_for, short_kind}
 

@@ -1,17 +1,17 @@
 -- Where a file's pages stand by the rows of its records.
 use Rattle.std.specs.Prelude.{◌≡◌, ℕ, ◌+◌, ◌≤◌, ◌==◌, ◌↔◌, Bool, IsTrue, List, [], ◌∷◌, ◌++◌, if◌then◌else◌}
 use Rattle.std.specs.List.{flat_map, AllByRecursion}
-use Rattle.domain_base.specs.Limits.{max_volumes}
+use Rattle.cell_records.specs.domain_base.Limits.{max_volumes}
 use Rattle.extent_maps.specs.declared.run.PagePlace.{PagePlace}
 use Rattle.extent_maps.specs.declared.run.PagePlace.TheVariants.{At, Hole, Absent}
 use Rattle.extent_maps.specs.declared.run.RunPlace.{RunPlace}
 use Rattle.extent_maps.specs.declared.run.RunPlace.TheVariants as place
 use Rattle.extent_maps.specs.declared.run.Run.{Run}
 use Rattle.extent_maps.specs.Runs.{IsRun, SamePlaces, covers, place_of}
-use Rattle.record_table.specs.declared.record.Record.{Record}
-use Rattle.record_table.specs.declared.record.Record.TheVariants.{Extents, ShortExtents, Holes, DenseExtents, ShortDense}
-use Rattle.record_table.specs.declared.record.ExtentField.{ExtentField}
-use Rattle.record_table.specs.declared.record.HoleField.{HoleField}
+use Rattle.cell_records.specs.declared.record.Record.{Record}
+use Rattle.cell_records.specs.declared.record.Record.TheVariants.{Extents, ShortExtents, Holes, DenseExtents, ShortDense}
+use Rattle.cell_records.specs.declared.record.ExtentField.{ExtentField}
+use Rattle.cell_records.specs.declared.record.HoleField.{HoleField}
 
 -- the pages that a row names
 abbrev pub run_of : ExtentField → Run

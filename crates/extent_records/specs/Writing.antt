@@ -1,18 +1,18 @@
 -- The records that say a map: how many rows each kind has, and which record is written.
 use Rattle.std.specs.Prelude.{◌≡◌, ℕ, ◌<◌, ◌≤◌, ◌-◌, ◌==◌, ◌||◌, ◌↔◌, Bool, IsTrue, true, false, List, [], ◌∷◌, ◌++◌, length, map, get_or, replicate, Option, Some, None, if◌then◌else◌, nat_le, nat_lt}
 use Rattle.std.specs.List.{flat_map, AllByRecursion}
-use Rattle.domain_base.specs.declared.version.Version.{Version}
-use Rattle.domain_base.specs.declared.version.Version.TheVariants.{Three, Four}
+use Rattle.cell_records.specs.domain_base.declared.version.Version.{Version}
+use Rattle.cell_records.specs.domain_base.declared.version.Version.TheVariants.{Three, Four}
 use Rattle.extent_maps.specs.declared.run.PagePlace.{PagePlace}
 use Rattle.extent_maps.specs.declared.run.PagePlace.TheVariants.{At, Hole, Absent}
 use Rattle.extent_maps.specs.declared.run.RunPlace.{RunPlace}
 use Rattle.extent_maps.specs.declared.run.RunPlace.TheVariants as place
 use Rattle.extent_maps.specs.declared.run.Run.{Run}
 use Rattle.extent_maps.specs.Runs.{IsRun, Places, end_of, front_of, place_of, placed, rest_from}
-use Rattle.record_table.specs.declared.record.Record.{Record}
-use Rattle.record_table.specs.declared.record.ExtentField.{ExtentField}
-use Rattle.record_table.specs.declared.record.HoleField.{HoleField}
-use Rattle.record_table.specs.Records.{Allowed, kind_of}
+use Rattle.cell_records.specs.declared.record.Record.{Record}
+use Rattle.cell_records.specs.declared.record.ExtentField.{ExtentField}
+use Rattle.cell_records.specs.declared.record.HoleField.{HoleField}
+use Rattle.cell_records.specs.Records.{Allowed, kind_of}
 use Rattle.extent_records.specs.Rows.{IsPlaced, NoPageTwice, OnVolume, runs_in}
 
 -- how many rows a record of that kind has: none where its fields are others

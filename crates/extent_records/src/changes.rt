@@ -2,16 +2,15 @@
 ghost use Rattle.std.specs.Prelude.{◌≡◌, ℕ, ◌≤◌, ◌<◌, [], ◌↔◌, IfOk, IsSome, IsTrue, OnErr, OnOk, length, true, false};
 ghost use Rattle.extent_maps.specs.declared.run.PagePlace.TheVariants.{Absent, At, Hole};
 ghost use Rattle.extent_maps.specs.Runs.{SamePlaces, home_at, place_of, with_place};
-ghost use Rattle.record_table.specs.Records.{kind_of};
+ghost use Rattle.cell_records.specs.Records.{kind_of};
 ghost use Rattle.extent_records.specs.Rows.{runs_in};
 ghost use Rattle.extent_records.specs.Writing.{IsLeastRecord, IsMapRecord, Rewrites, Suits, is_of_holes, most_rows, places_before, places_from, places_in, rows_for};
 
 use crate::reading::put_record;
 use crate::writing::with_runs;
-use domain_base::limits::{FILE_PAGES, MAX_VOLUMES};
-use domain_base::{Home, OutOfMemory};
+use cell_records::limits::{FILE_PAGES, MAX_VOLUMES};
+use cell_records::{Home, OutOfMemory, Record};
 use extent_maps::{ExtentMap, PagePlace};
-use record_table::Record;
 use std::alloc::Global;
 
 /// The map that a record says.
@@ -24,7 +23,7 @@ pub(crate) fn map_of(alloc: Global, value: &Record) -> Result<ExtentMap, OutOfMe
     Ok(map)
 }
 
-/// Gives a record the places of a map, or leaves it where no record of its kind has them.
+/// Gives a record the places of a map, or leaves it if no record of its kind has room for them.
 fn write_map(value: &mut Record, map: &ExtentMap) -> bool
     requires is_map { IsMapRecord value.old }
     requires suits { (page : ℕ) → Suits (kind_of value.old) (place_of map.now page) }
@@ -41,9 +40,9 @@ fn write_map(value: &mut Record, map: &ExtentMap) -> bool
     }
 }
 
-/// Puts a page at a home. It answers false exactly where no record of that kind says the map with
-/// that page there, since it wants more rows than the record has; then, and after an error, nothing
-/// has changed.
+/// Puts a page at a home. Returns false if and only if no record of that kind has room for the map
+/// with that page there, since it needs more rows than the record has. Then, and after an error,
+/// nothing has changed.
 pub fn put_page(
     alloc: Global,
     value: &mut Record,
@@ -64,8 +63,8 @@ pub fn put_page(
     Ok(write_map(value, &map))
 }
 
-/// Keeps a page as a hole, in a record of holes. It answers false exactly where no record of that
-/// kind says the map so; then, and after an error, nothing has changed.
+/// Keeps a page as a hole, in a record of holes. Returns false if and only if no record of that
+/// kind has room for the changed map. Then, and after an error, nothing has changed.
 pub fn keep_hole(alloc: Global, value: &mut Record, page: u32) -> Result<bool, OutOfMemory>
     requires is_map { IsMapRecord value.old }
     requires holes { is_of_holes (kind_of value.old) ≡ true }
@@ -80,8 +79,9 @@ pub fn keep_hole(alloc: Global, value: &mut Record, page: u32) -> Result<bool, O
     Ok(write_map(value, &map))
 }
 
-/// Takes a page off. It answers false exactly where no record of that kind says the map so, since a
-/// page in the middle of a row leaves two; then, and after an error, nothing has changed.
+/// Takes a page off. Returns false if and only if no record of that kind has room for the changed
+/// map, since a page taken out of the middle of a row leaves two rows. Then, and after an error,
+/// nothing has changed.
 pub fn cut_page(alloc: Global, value: &mut Record, page: u32) -> Result<bool, OutOfMemory>
     requires { IsMapRecord value.old }
     ensures ok { IfOk result (Rewrites (with_place page Absent (places_in value.old)) value.old
@@ -93,8 +93,8 @@ pub fn cut_page(alloc: Global, value: &mut Record, page: u32) -> Result<bool, Ou
     Ok(write_map(value, &map))
 }
 
-/// Puts a page that has a home at another one. It answers false exactly where no record of that
-/// kind says the map so; then, and after an error, nothing has changed.
+/// Moves a page that has a home to another one. Returns false if and only if no record of that kind
+/// has room for the changed map. Then, and after an error, nothing has changed.
 pub fn switch_page(
     alloc: Global,
     value: &mut Record,
@@ -113,8 +113,8 @@ pub fn switch_page(
     Ok(write_map(value, &map))
 }
 
-/// Takes all pages from one on off: what is left always has room. After an error nothing has
-/// changed.
+/// Takes all pages from one on off. There is always room for what is left. After an error nothing
+/// has changed.
 pub fn cut_from(alloc: Global, value: &mut Record, from: u32) -> Result<(), OutOfMemory>
     requires { IsMapRecord value.old }
     ensures ok { OnOk result (IsLeastRecord (kind_of value.old)
@@ -127,9 +127,9 @@ pub fn cut_from(alloc: Global, value: &mut Record, from: u32) -> Result<(), OutO
     Ok(())
 }
 
-/// Takes all pages in front of one off: what is left always has room. So a copy of a record that
-/// has no room for a change takes one of its halves, and `cut_from` leaves it the other. After an
-/// error nothing has changed.
+/// Takes all pages before one off. There is always room for what is left. So a copy of a record
+/// that has no room for a change takes one of its halves, and `cut_from` leaves it the other. After
+/// an error nothing has changed.
 pub fn cut_to(alloc: Global, value: &mut Record, to: u32) -> Result<(), OutOfMemory>
     requires { IsMapRecord value.old }
     ensures ok { OnOk result (IsLeastRecord (kind_of value.old)

@@ -2,19 +2,18 @@
 ghost use Rattle.std.specs.Prelude.{◌≡◌, ◌<◌, ◌↔◌, IfOk, IsTrue, false};
 ghost use Rattle.std.specs.List.{AllByRecursion};
 ghost use Rattle.extent_maps.specs.declared.run.PagePlace.TheVariants.{At, Hole};
-ghost use Rattle.record_table.specs.Records.{kind_of};
+ghost use Rattle.cell_records.specs.Records.{kind_of};
 ghost use Rattle.extent_records.specs.Writing.{IsMapRecord, is_of_holes};
 ghost use Rattle.extent_records.specs.Chains.{CanTake, Finds, HasExtents, IsChoice, IsNext, Joins, JoinsBefore, Takes};
 
 use crate::changes::{keep_hole, put_page};
 use crate::rows::{place_in, row_count};
-use domain_base::limits::FILE_PAGES;
-use domain_base::{Home, OutOfMemory};
+use cell_records::limits::FILE_PAGES;
+use cell_records::{Home, OutOfMemory, Record};
 use extent_maps::PagePlace;
-use record_table::Record;
 use std::alloc::Global;
 
-/// Whether the second place is the one behind the first, or both are holes.
+/// Whether the second place is the one right after the first, or both are holes.
 fn is_next(place: &PagePlace, next: &PagePlace) -> bool
     ensures { IsTrue result ↔ IsNext place.now next.now }
 {
@@ -27,7 +26,7 @@ fn is_next(place: &PagePlace, next: &PagePlace) -> bool
     }
 }
 
-/// Whether the page goes on from the one in front of it.
+/// Whether the page continues the one before it.
 fn joins_before(value: &Record, page: u32, place: &PagePlace) -> bool
     requires { IsMapRecord value.now }
     ensures { IsTrue result ↔ JoinsBefore page place.now value.now }
@@ -38,7 +37,7 @@ fn joins_before(value: &Record, page: u32, place: &PagePlace) -> bool
     }
 }
 
-/// Whether the page goes on from the one in front of it, or the one behind it goes on from it.
+/// Whether the page continues the one before it, or the one after it continues the page.
 fn joins(value: &Record, page: u32, place: &PagePlace) -> bool
     requires is_map { IsMapRecord value.now }
     requires small { page < FILE_PAGES }
@@ -127,7 +126,7 @@ fn takes_joined(
     takes(alloc, value, page, place)
 }
 
-/// The first record that can have a page at a place where it joins a row.
+/// The first record that can take a page at a place and in which it joins a row.
 fn first_joined(
     alloc: Global,
     records: &[Record],
@@ -167,7 +166,7 @@ fn first_taking(
 }
 
 /// Which record of a chain takes a page that it does not have: the first in which the page joins a
-/// row, else the first that has room, else none.
+/// row, else the first that has room, else None.
 fn choose(
     alloc: Global,
     records: &[Record],
@@ -184,8 +183,8 @@ fn choose(
     }
 }
 
-/// Which record of a chain takes a page at a home, where none of them has that page: the first in
-/// which it joins a row, else the first that has room. None comes exactly where no record of
+/// Which record of a chain takes a page at a home, if none of them has that page: the first in
+/// which it joins a row, else the first that has room. Returns None if and only if no record of
 /// extents among them has room for it.
 pub fn record_for(
     alloc: Global,
@@ -200,7 +199,9 @@ pub fn record_for(
     choose(alloc, records, page, &PagePlace::At(home))
 }
 
-/// The same for a page that is kept as a hole, and records of holes.
+/// Which record of a chain takes a page that is kept as a hole, if none of them has that page: the
+/// first in which it joins a row, else the first that has room. Returns None if and only if no
+/// record of holes among them has room for it.
 pub fn record_for_hole(
     alloc: Global,
     records: &[Record],

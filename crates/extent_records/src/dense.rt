@@ -1,13 +1,13 @@
 //! A record as the last version writes it.
 ghost use Rattle.std.specs.Prelude.{◌≡◌, ◌≤◌, IfOk};
-ghost use Rattle.record_table.specs.Records.{kind_of};
+ghost use Rattle.cell_records.specs.Records.{kind_of};
 ghost use Rattle.extent_records.specs.Writing.{IsLeastRecord, IsMapRecord, dense_kind, most_rows, places_in};
 
 use crate::changes::map_of;
 use crate::listing::holding;
 use crate::writing::{empty_extents, empty_holes, empty_short};
-use domain_base::{OutOfMemory, Version};
-use record_table::Record;
+use cell_records::from_domain_base::Version;
+use cell_records::{OutOfMemory, Record};
 use std::alloc::Global;
 
 /// A record that says no page, of the kind that the last version writes in place of a value's.
@@ -23,8 +23,8 @@ fn empty_for(value: &Record) -> Record
     }
 }
 
-/// The record that says the same pages as the last version writes it: its rows are dense where the
-/// value's are plain extents, and they always have room.
+/// The record that says the same pages as the last version writes it. Its rows are dense if the
+/// value's are plain extents, and there is always room for them.
 pub fn as_dense(alloc: Global, value: &Record) -> Result<Record, OutOfMemory>
     requires { IsMapRecord value.now }
     ensures { IfOk result (IsLeastRecord (dense_kind (kind_of value.now)) (places_in value.now)) }

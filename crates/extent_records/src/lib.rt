@@ -23,3 +23,8 @@ pub use parting::{Parts, switch_in_parts};
 pub use reading::read_map;
 pub use rows::{place_in, used_rows};
 pub use writing::{empty_extents, empty_holes, empty_short};
+
+// What stands below and is named above.
+pub use cell_records::from_domain_base::Version;
+pub use cell_records::{ExtentField, HoleField, Home, OutOfMemory, Record, VolIx, limits};
+pub use extent_maps::{ExtentMap, PagePlace, Run, RunPlace};

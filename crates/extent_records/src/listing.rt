@@ -2,20 +2,20 @@
 ghost use Rattle.std.specs.Prelude.{◌≡◌, ◌<◌, ◌≤◌, ◌++◌, ◌∷◌, [], IfOk, OnOk, drop, length, take};
 ghost use Rattle.std.specs.List.{AllByRecursion};
 ghost use Rattle.extent_maps.specs.Runs.{AreRuns};
-ghost use Rattle.record_table.specs.Records.{kind_of};
+ghost use Rattle.cell_records.specs.Records.{kind_of};
 ghost use Rattle.extent_records.specs.Rows.{AreOneMap, IsMapOf};
 ghost use Rattle.extent_records.specs.Writing.{AllSuit, IsMapRecord, chain_kind, hole_kind, most_rows, short_kind};
 ghost use Rattle.extent_records.specs.Listing.{AddsAll, AddsOne, AllHomes, HoldsRuns, IsLeastList, ListsMap, hole_part, holes_in, home_part, homes_in};
 
 use crate::rows::row_count;
 use crate::writing::{SHORT_ROWS, empty_extents, empty_holes, empty_short, with_runs};
-use domain_base::limits::MAX_VOLUMES;
-use domain_base::{OutOfMemory, Version};
+use cell_records::from_domain_base::Version;
+use cell_records::limits::MAX_VOLUMES;
+use cell_records::{OutOfMemory, Record};
 use extent_maps::{ExtentMap, Run, RunPlace};
-use record_table::Record;
 use std::alloc::Global;
 
-/// Puts a run behind the others.
+/// Adds a run after the others.
 fn push_run(runs: &mut Vec<Run>, run: &Run) -> Result<(), OutOfMemory>
     ensures { OnOk result (runs.new.items ≡ runs.old.items ++ run.now ∷ []) }
 {
@@ -24,7 +24,7 @@ fn push_run(runs: &mut Vec<Run>, run: &Run) -> Result<(), OutOfMemory>
     Ok(())
 }
 
-/// Puts a run behind the others, if its pages have homes.
+/// Adds a run after the others, if its pages have homes.
 fn push_homes(runs: &mut Vec<Run>, run: &Run) -> Result<(), OutOfMemory>
     ensures list { OnOk result (runs.new.items ≡ runs.old.items
         ++ home_part run.now.first run.now) }
@@ -39,7 +39,7 @@ fn push_homes(runs: &mut Vec<Run>, run: &Run) -> Result<(), OutOfMemory>
     }
 }
 
-/// Puts a run behind the others, if its pages are holes.
+/// Adds a run after the others, if its pages are holes.
 fn push_holes(runs: &mut Vec<Run>, run: &Run) -> Result<(), OutOfMemory>
     ensures list { OnOk result (runs.new.items ≡ runs.old.items
         ++ hole_part run.now.first run.now) }
@@ -78,7 +78,7 @@ fn holes_of(alloc: Global, runs: &[Run]) -> Result<Vec<Run>, OutOfMemory>
     Ok(holes)
 }
 
-/// A record of a value's kind that holds these runs, of which there are no more than it has rows.
+/// A record of a value's kind that holds these runs. There are no more of them than it has rows.
 pub(crate) fn holding(value: &Record, runs: &[Run]) -> Record
     requires is_map { IsMapRecord value.now }
     requires runs { AreRuns runs.now }
@@ -92,7 +92,7 @@ pub(crate) fn holding(value: &Record, runs: &[Run]) -> Record
     }
 }
 
-/// Puts a record of a value's kind behind the others that holds these runs.
+/// Adds a record of a value's kind that holds these runs after the others.
 fn push_record(records: &mut Vec<Record>, value: &Record, runs: &[Run]) -> Result<(), OutOfMemory>
     requires is_map { IsMapRecord value.now }
     requires runs { AreRuns runs.now }
@@ -105,8 +105,8 @@ fn push_record(records: &mut Vec<Record>, value: &Record, runs: &[Run]) -> Resul
     Ok(())
 }
 
-/// Puts records of a value's kind behind the others that hold these runs, each but the last as many
-/// as it has rows.
+/// Adds records of a value's kind that hold these runs after the others. Each but the last holds as
+/// many as it has rows.
 fn push_records(records: &mut Vec<Record>, value: &Record, runs: &[Run]) -> Result<(), OutOfMemory>
     requires is_map { IsMapRecord value.now }
     requires runs { AreRuns runs.now }
@@ -124,7 +124,7 @@ fn push_records(records: &mut Vec<Record>, value: &Record, runs: &[Run]) -> Resu
     Ok(())
 }
 
-/// Puts the record of a primary cell behind the others, with the first of the runs.
+/// Adds the record of a primary cell, with the first of the runs, after the others.
 fn push_short(records: &mut Vec<Record>, version: Version, homes: &[Run]) -> Result<(), OutOfMemory>
     requires runs { AreRuns homes.now }
     requires homes { AllHomes homes.now }
@@ -135,7 +135,7 @@ fn push_short(records: &mut Vec<Record>, version: Version, homes: &[Run]) -> Res
     push_record(records, &empty_short(version), &homes[..first])
 }
 
-/// Puts the records of extents of chain cells behind the others, with all runs but those of the
+/// Adds the records of extents of chain cells after the others, with all runs but those of the
 /// primary cell.
 fn push_chain(records: &mut Vec<Record>, version: Version, homes: &[Run]) -> Result<(), OutOfMemory>
     requires runs { AreRuns homes.now }
@@ -147,7 +147,7 @@ fn push_chain(records: &mut Vec<Record>, version: Version, homes: &[Run]) -> Res
     push_records(records, &empty_extents(version), &homes[first..])
 }
 
-/// Puts the records of holes behind the others.
+/// Adds the records of holes after the others.
 fn push_kept(records: &mut Vec<Record>, holes: &[Run]) -> Result<(), OutOfMemory>
     requires runs { AreRuns holes.now }
     requires suits { AllSuit hole_kind holes.now }
@@ -156,10 +156,10 @@ fn push_kept(records: &mut Vec<Record>, holes: &[Run]) -> Result<(), OutOfMemory
     push_records(records, &empty_holes(), holes)
 }
 
-/// The records of a map, as that version writes them: the one of the file's primary cell, which may
-/// say no page, those of extents of chain cells, and those of holes. No records that say the map
-/// are fewer: of the last two sorts each but the last is full, and no row is shorter than it can
-/// be.
+/// The records of a map, as that version writes them: that of the file's primary cell, which may
+/// say no page, those of extents of chain cells, and those of holes. The map cannot be said in
+/// fewer records: of the last two sorts each but the last is full, and no row is shorter than it
+/// can be.
 pub fn map_records(
     alloc: Global,
     map: &ExtentMap,

@@ -1,22 +1,22 @@
-//! A record with a page at another home, parted in two where it has no room for that.
+//! A record with a page at another home, parted in two if it has no room for that.
 ghost use Rattle.std.specs.Prelude.{◌≡◌, ◌+◌, ◌≤◌, IfOk, IsSome, length};
 ghost use Rattle.extent_maps.specs.declared.run.PagePlace.TheVariants.{At};
 ghost use Rattle.extent_maps.specs.Runs.{AreRuns, home_at, place_of, with_place};
-ghost use Rattle.record_table.specs.Records.{kind_of};
+ghost use Rattle.cell_records.specs.Records.{kind_of};
 ghost use Rattle.extent_records.specs.Chains.{ArePartsFor};
 ghost use Rattle.extent_records.specs.Writing.{AllSuit, IsMapRecord, chain_kind, most_rows, places_in};
 
 use crate::changes::map_of;
 use crate::listing::holding;
 use crate::writing::empty_extents;
-use domain_base::limits::MAX_VOLUMES;
-use domain_base::{Home, OutOfMemory, Version};
+use cell_records::from_domain_base::Version;
+use cell_records::limits::MAX_VOLUMES;
+use cell_records::{Home, OutOfMemory, Record};
 use extent_maps::Run;
-use record_table::Record;
 use std::alloc::Global;
 
-/// Two records in place of one: one of its kind, with the first of its rows, and one of a chain's
-/// cell with the others.
+/// Two records in place of one: one of its kind, with the first of its rows, and one for a chain
+/// cell, with the others.
 #[derive(Clone, Copy)]
 pub struct Parts {
     pub front: Record,
@@ -42,8 +42,9 @@ fn part_runs(front: &Record, tail: &Record, runs: &[Run]) -> Parts
     }
 }
 
-/// Parts a record in the middle, with a page that has a home at another one: both parts always have
-/// room, whatever the record had. The second is of a chain's cell, as that version writes it.
+/// Parts a record in the middle, with a page that has a home at another one. There is always room
+/// in both parts, whatever the record had. The second part is for a chain cell, as that version
+/// writes it.
 pub fn switch_in_parts(
     alloc: Global,
     value: &Record,

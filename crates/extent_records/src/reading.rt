@@ -1,26 +1,25 @@
 //! The map that records say.
 ghost use Rattle.std.specs.Prelude.{◌≡◌, ◌+◌, ◌≤◌, ◌^◌, ◌∷◌, [], ◌↔◌, IfOk, IfSome, IfNone, IsSome, IsTrue};
 ghost use Rattle.std.specs.List.{flat_map};
-ghost use Rattle.domain_base.specs.Limits.{file_pages};
+ghost use Rattle.cell_records.specs.domain_base.Limits.{file_pages};
 ghost use Rattle.extent_records.specs.Rows.{AreOneMap, IsMapOf, IsPlaced, Puts, hole_run, holes_at, run_of, runs_at, runs_in, runs_of};
 
-use domain_base::limits::FILE_PAGES;
-use domain_base::{Home, OutOfMemory, VolIx};
+use cell_records::limits::FILE_PAGES;
+use cell_records::{ExtentField, HoleField, Home, OutOfMemory, Record, VolIx};
 use extent_maps::{ExtentMap, Run, RunPlace};
-use record_table::{ExtentField, HoleField, Record};
 use std::alloc::Global;
 
-/// How many pages a volume can have: their numbers are those of 32 bits.
+/// How many pages a volume can have. Their numbers have 32 bits.
 const VOLUME_NUMBERS: u64 = 4_294_967_296;
 
-/// Whether so many pages from one on are one or more pages of a file.
+/// Whether the `count` pages from `page` on are one or more pages of a file.
 fn is_in_file(page: u32, count: u32) -> bool
     ensures { IsTrue result ↔ ((1 ≤ count) × (page + count ≤ file_pages)) }
 {
     1 <= count && u64::from(page) + u64::from(count) <= u64::from(FILE_PAGES)
 }
 
-/// Whether so many pages from one on have numbers that a volume's pages have.
+/// Whether the `count` pages from `first` on have numbers that a volume's pages can have.
 fn is_on_volume(first: u32, count: u32) -> bool
     ensures { IsTrue result ↔ (first + count ≤ 2 ^ 32) }
 {
@@ -61,7 +60,7 @@ fn hole_at(row: &HoleField) -> Option<Run>
     None
 }
 
-/// Puts a run to the map, if there is one.
+/// Puts a run to the map. Returns false if one of its pages is already there.
 fn put_run(map: &mut ExtentMap, run: &Run) -> Result<bool, OutOfMemory>
     requires { IsPlaced run.now }
     ensures { IfOk result (Puts (run.now ∷ []) map.old map.new) }
@@ -69,8 +68,8 @@ fn put_run(map: &mut ExtentMap, run: &Run) -> Result<bool, OutOfMemory>
     map.put_run(run)
 }
 
-/// Puts the pages of a row to the map. It answers false where they have no place, or one of them is
-/// there already.
+/// Puts the pages of a row to the map. Returns false if they have no place, or one of them is
+/// already there.
 fn put_extent(map: &mut ExtentMap, row: &ExtentField) -> Result<bool, OutOfMemory>
     ensures { IfOk result (Puts (runs_at row.now) map.old map.new) }
 {
@@ -83,8 +82,8 @@ fn put_extent(map: &mut ExtentMap, row: &ExtentField) -> Result<bool, OutOfMemor
     }
 }
 
-/// Keeps the pages of a row as holes. It answers false where they are no file's, or one of them is
-/// there already.
+/// Keeps the pages of a row as holes. Returns false if they are no file's, or one of them is
+/// already there.
 fn put_hole(map: &mut ExtentMap, row: &HoleField) -> Result<bool, OutOfMemory>
     ensures { IfOk result (Puts (holes_at row.now) map.old map.new) }
 {
@@ -97,8 +96,8 @@ fn put_hole(map: &mut ExtentMap, row: &HoleField) -> Result<bool, OutOfMemory>
     }
 }
 
-/// Puts the pages of the rows to the map. It answers false where some have no place, or one of them
-/// would be there twice.
+/// Puts the pages of the rows to the map. Returns false if some have no place, or one of them would
+/// be there twice.
 fn put_extents(map: &mut ExtentMap, rows: &[ExtentField]) -> Result<bool, OutOfMemory>
     ensures { IfOk result (Puts (flat_map runs_at rows.now) map.old map.new) }
 {
@@ -110,7 +109,8 @@ fn put_extents(map: &mut ExtentMap, rows: &[ExtentField]) -> Result<bool, OutOfM
     Ok(true)
 }
 
-/// The same for rows of holes.
+/// Puts the pages of rows of holes to the map. Returns false if one of them would be there twice,
+/// or is no page of a file.
 fn put_holes(map: &mut ExtentMap, rows: &[HoleField]) -> Result<bool, OutOfMemory>
     ensures { IfOk result (Puts (flat_map holes_at rows.now) map.old map.new) }
 {
@@ -122,8 +122,8 @@ fn put_holes(map: &mut ExtentMap, rows: &[HoleField]) -> Result<bool, OutOfMemor
     Ok(true)
 }
 
-/// Puts the pages that a record names to the map. It answers false where some have no place, or one
-/// of them would be there twice.
+/// Puts the pages that a record names to the map. Returns false if some have no place, or one of
+/// them would be there twice.
 pub(crate) fn put_record(map: &mut ExtentMap, value: &Record) -> Result<bool, OutOfMemory>
     ensures { IfOk result (Puts (runs_in value.now) map.old map.new) }
 {
@@ -137,8 +137,8 @@ pub(crate) fn put_record(map: &mut ExtentMap, value: &Record) -> Result<bool, Ou
     }
 }
 
-/// Puts the pages that the records name to the map. It answers false where some have no place, or
-/// one of them would be there twice.
+/// Puts the pages that the records name to the map. Returns false if some have no place, or one of
+/// them would be there twice.
 fn put_records(map: &mut ExtentMap, records: &[Record]) -> Result<bool, OutOfMemory>
     ensures { IfOk result (Puts (runs_of records.now) map.old map.new) }
 {
@@ -150,9 +150,9 @@ fn put_records(map: &mut ExtentMap, records: &[Record]) -> Result<bool, OutOfMem
     Ok(true)
 }
 
-/// The map that a chain's records say, whatever their order. It is None exactly where a page stands
-/// twice in them, as an extent or a hole, or where a row's pages are no file's or have no place: on
-/// no volume from 1 to 8, or with numbers that no volume's page has.
+/// The map that a chain's records say, whatever their order. Returns None if and only if a page
+/// stands twice in them, as an extent or a hole, or a row's pages are no file's or have no place:
+/// on no volume from 1 to 8, or with numbers that no volume's page has.
 pub fn read_map(alloc: Global, records: &[Record]) -> Result<Option<ExtentMap>, OutOfMemory>
     ensures some { IfOk result (λ map. IsSome map ↔ AreOneMap records.now) }
     ensures map { IfOk result (λ map. IfSome map (IsMapOf records.now)) }

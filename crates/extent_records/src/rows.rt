@@ -1,17 +1,16 @@
-//! What a record says, by its rows.
+//! What a record says, read row by row.
 ghost use Rattle.std.specs.Prelude.{◌≡◌, ◌+◌, ◌-◌, ◌<◌, ◌≤◌, ◌↔◌, [], IsTrue, length};
 ghost use Rattle.std.specs.List.{AllByRecursion, flat_map};
 ghost use Rattle.extent_maps.specs.Runs.{place_of};
-ghost use Rattle.record_table.specs.Records.{kind_of};
+ghost use Rattle.cell_records.specs.Records.{kind_of};
 ghost use Rattle.extent_records.specs.Rows.{IsPlaced, holes_at, runs_at, runs_in};
 ghost use Rattle.extent_records.specs.Writing.{IsMapRecord, most_rows, places_in};
 
 use crate::writing::{CHAIN_ROWS, DENSE_ROWS, SHORT_ROWS};
-use domain_base::{Home, VolIx};
+use cell_records::{ExtentField, HoleField, Home, Record, VolIx};
 use extent_maps::PagePlace;
-use record_table::{ExtentField, HoleField, Record};
 
-/// Where a row has a page.
+/// The place of a page as a row says it.
 fn place_at(row: &ExtentField, page: u32) -> PagePlace
     requires { AllByRecursion IsPlaced (runs_at row.now) }
     ensures { result ≡ place_of (runs_at row.now) page }
@@ -25,7 +24,7 @@ fn place_at(row: &ExtentField, page: u32) -> PagePlace
     }
 }
 
-/// Whether a row of holes has a page.
+/// Whether a row of holes keeps a page as a hole.
 fn hole_at(row: &HoleField, page: u32) -> PagePlace
     ensures { result ≡ place_of (holes_at row.now) page }
 {
@@ -36,7 +35,7 @@ fn hole_at(row: &HoleField, page: u32) -> PagePlace
     }
 }
 
-/// Where the rows have a page.
+/// The place of a page as the rows say it.
 fn place_among(rows: &[ExtentField], page: u32) -> PagePlace
     requires { AllByRecursion IsPlaced (flat_map runs_at rows.now) }
     ensures { result ≡ place_of (flat_map runs_at rows.now) page }
@@ -50,7 +49,7 @@ fn place_among(rows: &[ExtentField], page: u32) -> PagePlace
     PagePlace::Absent
 }
 
-/// The same for rows of holes.
+/// Whether rows of holes keep a page as a hole.
 fn hole_among(rows: &[HoleField], page: u32) -> PagePlace
     ensures { result ≡ place_of (flat_map holes_at rows.now) page }
 {
@@ -63,7 +62,7 @@ fn hole_among(rows: &[HoleField], page: u32) -> PagePlace
     PagePlace::Absent
 }
 
-/// Where a record has a page.
+/// The place of a page as a record says it.
 pub fn place_in(value: &Record, page: u32) -> PagePlace
     requires { IsMapRecord value.now }
     ensures { result ≡ places_in value.now page }
@@ -78,7 +77,7 @@ pub fn place_in(value: &Record, page: u32) -> PagePlace
     }
 }
 
-/// How many rows are used.
+/// How many rows of extents are used.
 fn used_extents(rows: &[ExtentField]) -> usize
     ensures { result ≡ length (flat_map runs_at rows.now) }
 {
@@ -91,7 +90,7 @@ fn used_extents(rows: &[ExtentField]) -> usize
     used
 }
 
-/// The same for rows of holes.
+/// How many rows of holes are used.
 fn used_holes(rows: &[HoleField]) -> usize
     ensures { result ≡ length (flat_map holes_at rows.now) }
 {
@@ -104,7 +103,7 @@ fn used_holes(rows: &[HoleField]) -> usize
     used
 }
 
-/// How many rows of a record are used: 0 where it says no page.
+/// How many rows of a record are used: 0 if it says no page.
 pub fn used_rows(value: &Record) -> usize
     ensures { result ≡ length (runs_in value.now) }
 {

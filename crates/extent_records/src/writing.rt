@@ -1,13 +1,13 @@
 //! The record of a kind that says some runs.
 ghost use Rattle.std.specs.Prelude.{◌≡◌, ◌≤◌, ◌<◌, ◌∷◌, [], length, IfNone, IfSome};
 ghost use Rattle.extent_maps.specs.Runs.{AreRuns, FitsVolume, IsRun, behind, front_of, rest_from};
-ghost use Rattle.record_table.specs.Records.{kind_of};
+ghost use Rattle.cell_records.specs.Records.{kind_of};
 ghost use Rattle.extent_records.specs.Rows.{runs_in};
 ghost use Rattle.extent_records.specs.Writing.{AllSuit, AreRowsFrom, IsMapRecord, IsRecordOf, chain_kind, extent_of, filled, hole_kind, hole_of, is_dense, no_extent, no_hole, short_kind, most_rows, parts, rows_for};
 
-use domain_base::{Home, Version};
+use cell_records::from_domain_base::Version;
+use cell_records::{ExtentField, HoleField, Home, Record};
 use extent_maps::{Run, RunPlace};
-use record_table::{ExtentField, HoleField, Record};
 
 /// How many rows the record of a primary cell has.
 pub(crate) const SHORT_ROWS: usize = 4;
@@ -15,10 +15,10 @@ pub(crate) const SHORT_ROWS: usize = 4;
 /// How many rows a record of extents or of holes of a chain's cell has.
 pub(crate) const CHAIN_ROWS: usize = 16;
 
-/// How many rows it has where they are dense.
+/// How many rows it has if they are dense.
 pub(crate) const DENSE_ROWS: usize = 22;
 
-/// How many pages a dense row has at most: its count has two bytes.
+/// The most pages that a dense row has: its count has two bytes.
 const DENSE_PAGES: u32 = 65_535;
 
 const NO_EXTENT: ExtentField = ExtentField {
@@ -30,7 +30,7 @@ const NO_EXTENT: ExtentField = ExtentField {
 
 const NO_HOLE: HoleField = HoleField { page: 0, count: 0 };
 
-/// The row of a run, which names nothing where its pages are holes.
+/// The row of a run. It names nothing if the run's pages are holes.
 fn extent_row(run: &Run) -> ExtentField
     ensures { result ≡ extent_of run.now }
 {
@@ -54,7 +54,7 @@ fn hole_row(run: &Run) -> HoleField
     }
 }
 
-/// Rows of extents, one for each run, and rows that name nothing behind them.
+/// Rows of extents, one for each run, followed by rows that name nothing.
 fn extent_rows<const N: usize>(runs: &[Run]) -> [ExtentField; N]
     requires { length runs.now ≤ N }
     ensures { result ≡ filled extent_of no_extent N runs.now }
@@ -66,7 +66,7 @@ fn extent_rows<const N: usize>(runs: &[Run]) -> [ExtentField; N]
     rows
 }
 
-/// The same for rows of holes.
+/// Rows of holes, one for each run, followed by rows that name nothing.
 fn hole_rows<const N: usize>(runs: &[Run]) -> [HoleField; N]
     requires { length runs.now ≤ N }
     ensures { result ≡ filled hole_of no_hole N runs.now }
@@ -78,7 +78,7 @@ fn hole_rows<const N: usize>(runs: &[Run]) -> [HoleField; N]
     rows
 }
 
-/// Extents of a chain's cell, or None where they are more than its rows.
+/// Extents of a chain cell, or None if they are more than its rows.
 fn extents(rows: &[Run]) -> Option<Record>
     requires { AreRowsFrom 3 0 rows.now }
     ensures { IsRecordOf 3 rows.now result }
@@ -143,7 +143,7 @@ fn short_dense(rows: &[Run]) -> Option<Record>
     })
 }
 
-/// The record of a value's kind with these rows, or None where they are more than it has.
+/// The record of a value's kind with these rows, or None if they are more than it has.
 fn with_rows(value: &Record, rows: &[Run]) -> Option<Record>
     requires has_rows { 1 ≤ most_rows (kind_of value.now) }
     requires rows { AreRowsFrom (kind_of value.now) 0 rows.now }
@@ -170,7 +170,7 @@ fn front(run: &Run) -> Run
     }
 }
 
-/// Where the page is that stands so many as that behind the first.
+/// Where the page stands that is as many pages after the first as a dense row has.
 fn place_behind(first: RunPlace) -> RunPlace
     requires { FitsVolume 65536 first }
     ensures { result ≡ behind 65535 first }
@@ -184,7 +184,7 @@ fn place_behind(first: RunPlace) -> RunPlace
     }
 }
 
-/// The pages of a run behind these.
+/// The pages of a run after those that a dense row has.
 fn rest(run: &Run) -> Run
     requires run { IsRun run.now }
     requires long { 65535 < run.now.count }
@@ -197,7 +197,8 @@ fn rest(run: &Run) -> Run
     }
 }
 
-/// The two dense rows of a run that has more pages than one row, which are all of a file.
+/// The two dense rows of a run that has more pages than one row can have. Such a run has all pages
+/// of a file.
 fn halves_of(run: &Run) -> Option<[Run; 2]>
     requires { IsRun run.now }
     ensures some { IfSome result (λ halves. halves ≡ parts 65535 (run.now ∷ [])) }
@@ -210,7 +211,7 @@ fn halves_of(run: &Run) -> Option<[Run; 2]>
     }
 }
 
-/// The dense rows of the runs, where they are not the runs themselves.
+/// The dense rows of the runs, if they are not the runs themselves.
 fn halves(runs: &[Run]) -> Option<[Run; 2]>
     requires { AreRuns runs.now }
     ensures some { IfSome result (λ halves. halves ≡ parts 65535 runs.now) }
@@ -233,7 +234,7 @@ fn has_dense_rows(value: &Record) -> bool
     }
 }
 
-/// The rows of the runs in a record of a value's kind, where they are not the runs themselves.
+/// The rows of the runs in a record of a value's kind, if they are not the runs themselves.
 fn halves_in(value: &Record, runs: &[Run]) -> Option<[Run; 2]>
     requires { AreRuns runs.now }
     ensures some { IfSome result (λ halves. halves ≡ rows_for (kind_of value.now) runs.now) }
@@ -246,8 +247,7 @@ fn halves_in(value: &Record, runs: &[Run]) -> Option<[Run; 2]>
     }
 }
 
-/// The record of a value's kind that says these runs, or None where they want more rows than it
-/// has.
+/// The record of a value's kind that says these runs, or None if they need more rows than it has.
 pub(crate) fn with_runs(value: &Record, runs: &[Run]) -> Option<Record>
     requires has_rows { 1 ≤ most_rows (kind_of value.now) }
     requires runs { AreRuns runs.now }

@@ -1,17 +1,14 @@
 //! Changes of one record beside a plain list of single pages.
 ghost use Rattle.std.specs.Prelude.{◌≡◌, ◌<◌, OnOk, true, false};
-ghost use Rattle.record_table.specs.Records.{kind_of};
+ghost use Rattle.extent_records.specs.cell_records.Records.{kind_of};
 ghost use Rattle.extent_records.specs.Writing.{IsMapRecord, is_of_holes};
 
 use crate::random::{Entry, Random, count_runs, place_in as place_on, some_home, some_page};
-use domain_base::limits::FILE_PAGES;
-use domain_base::{Home, OutOfMemory, Version};
-use extent_maps::PagePlace;
+use extent_records::limits::FILE_PAGES;
 use extent_records::{
-    cut_from, cut_page, cut_to, empty_extents, empty_holes, empty_short, keep_hole, place_in,
-    put_page, switch_page, used_rows,
+    Home, OutOfMemory, PagePlace, Record, Version, cut_from, cut_page, cut_to, empty_extents,
+    empty_holes, empty_short, keep_hole, place_in, put_page, switch_page, used_rows,
 };
-use record_table::Record;
 use std::alloc::Global;
 use std::test::Fail;
 

@@ -2,11 +2,11 @@
 ghost use Rattle.extent_records.specs.Writing.{IsMapRecord};
 
 use crate::writing::{FOUR_ROWS, filled, home, used};
-use domain_base::Version;
-use domain_base::limits::FILE_PAGES;
-use extent_maps::{ExtentMap, Run, RunPlace};
-use extent_records::{as_dense, empty_extents, empty_holes, empty_short, map_records};
-use record_table::Record;
+use extent_records::limits::FILE_PAGES;
+use extent_records::{
+    ExtentMap, Record, Run, RunPlace, Version, as_dense, empty_extents, empty_holes, empty_short,
+    map_records,
+};
 use std::alloc::Global;
 use std::test::Fail;
 

@@ -1,10 +1,9 @@
 //! Random calls on a map and on a plain list of pages, side by side.
 ghost use Rattle.std.specs.Prelude.{◌<◌, IfOk};
-ghost use Rattle.extent_maps.specs.Runs.{IsRun};
+ghost use Rattle.extent_records.specs.extent_maps.Runs.{IsRun};
 
-use domain_base::limits::FILE_PAGES;
-use domain_base::{Home, OutOfMemory, VolIx};
-use extent_maps::{ExtentMap, PagePlace, Run, RunPlace};
+use extent_records::limits::FILE_PAGES;
+use extent_records::{ExtentMap, Home, OutOfMemory, PagePlace, Run, RunPlace, VolIx};
 use std::alloc::Global;
 use std::test::Fail;
 

@@ -1,8 +1,7 @@
 //! The maps that the records of a chain say.
 
 use crate::runs::rows;
-use extent_records::read_map;
-use record_table::{ExtentField, HoleField, Record};
+use extent_records::{ExtentField, HoleField, Record, read_map};
 use std::alloc::Global;
 use std::test::Fail;
 

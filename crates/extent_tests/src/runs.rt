@@ -1,8 +1,7 @@
 //! Runs as long as can be.
 
-use domain_base::limits::FILE_PAGES;
-use domain_base::{Home, VolIx};
-use extent_maps::{ExtentMap, PagePlace, Run, RunPlace};
+use extent_records::limits::FILE_PAGES;
+use extent_records::{ExtentMap, Home, PagePlace, Run, RunPlace, VolIx};
 use std::alloc::Global;
 use std::test::Fail;
 

@@ -1,17 +1,15 @@
 //! Records that are written: one page after the other, and for a whole map.
 ghost use Rattle.std.specs.Prelude.{◌≡◌, ◌<◌, IfOk, OnOk, false};
-ghost use Rattle.record_table.specs.Records.{kind_of};
+ghost use Rattle.extent_records.specs.cell_records.Records.{kind_of};
 ghost use Rattle.extent_records.specs.Writing.{IsMapRecord, is_of_holes};
 
 use crate::runs::rows;
-use domain_base::limits::FILE_PAGES;
-use domain_base::{Home, Version, VolIx};
-use extent_maps::{ExtentMap, PagePlace, Run, RunPlace};
+use extent_records::limits::FILE_PAGES;
 use extent_records::{
-    cut_from, cut_page, cut_to, empty_extents, empty_holes, empty_short, map_records, place_in,
-    put_page, read_map, record_for, record_for_hole, used_rows,
+    ExtentField, ExtentMap, Home, PagePlace, Record, Run, RunPlace, Version, VolIx, cut_from,
+    cut_page, cut_to, empty_extents, empty_holes, empty_short, map_records, place_in, put_page,
+    read_map, record_for, record_for_hole, used_rows,
 };
-use record_table::{ExtentField, Record};
 use std::alloc::Global;
 use std::test::Fail;
 

@@ -1,11 +1,7 @@
 //! All rules of cells, on one volume and on two, with pages of cells that cannot be read.
 use crate::cells::{put_cell, table};
 use crate::fixture::{cells_page, frame, frame_of_two};
-use chain_faults::cells_faults;
-use domain_base::{Home, VolIx};
-use memory_store::MemoryPages;
-use page_store::MetaPages;
-use page_ways::DomainFrame;
+use page_faults::{DomainFrame, Home, MemoryPages, MetaPages, VolIx, cells_faults};
 use std::alloc::Global;
 use std::test::Fail;
 

@@ -1,7 +1,5 @@
 //! Pages of the bitmap of a volume whose pages 0 to 3 and page 65,536 are owned.
-use bitmap_checks::is_wrong_page;
-use domain_base::{OutOfMemory, Page};
-use span_sets::{Span, SpanSet};
+use page_faults::{OutOfMemory, Page, Span, SpanSet, is_wrong_page};
 use std::alloc::Global;
 use std::test::Fail;
 

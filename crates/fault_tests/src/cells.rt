@@ -2,12 +2,11 @@
 //! table is one cell: its kind, its fileset and 1 more, and its records by their names. The first
 //! cell of the page says the volume.
 use crate::fixture::{cells_page, frame, home, put};
-use cell_faults::{local_faults, read_tables};
-use domain_base::{FilesetNo, OutOfMemory, Page};
-use fileset_model::FilesetName;
-use fileset_table::{FilesetEntry, FilesetTable, SlotItem};
 use hex::decode;
-use memory_store::MemoryPages;
+use page_faults::{
+    FilesetEntry, FilesetName, FilesetNo, FilesetTable, MemoryPages, OutOfMemory, Page, SlotItem,
+    local_faults, read_tables,
+};
 use std::alloc::Global;
 use std::test::Fail;
 

@@ -1,9 +1,6 @@
 //! Chain cells and quota cells to which no chain comes. The table of cells has pages 3 and 140.
 use crate::fixture::{cells_page, frame, put};
-use cell_faults::read_tables;
-use chain_faults::{read_links, unchained_faults};
-use domain_base::{OutOfMemory, Page};
-use memory_store::MemoryPages;
+use page_faults::{MemoryPages, OutOfMemory, Page, read_links, read_tables, unchained_faults};
 use std::alloc::Global;
 use std::test::Fail;
 

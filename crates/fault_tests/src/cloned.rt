@@ -4,12 +4,9 @@
 use crate::cells::{entry, put_cell, set_slot};
 use crate::fixture::{cells_page, frame, home, put};
 use crate::tags::tags_page;
-use domain_base::{FilesetNo, OutOfMemory, Page};
-use fileset_table::{FilesetTable, SlotItem};
-use memory_store::MemoryPages;
+use page_faults::{FilesetNo, FilesetTable, MemoryPages, OutOfMemory, Page, SlotItem, tags_faults};
 use std::alloc::Global;
 use std::test::Fail;
-use tag_faults::tags_faults;
 
 /// Some bytes of a page that are changed: the page, the place of the first of them, and the bytes.
 type Change = (u32, usize, [u8; 8]);

@@ -3,12 +3,9 @@
 use crate::cells::put_cell;
 use crate::fixture::{cells_page, frame, put};
 use crate::tags::{table, tags_page};
-use cell_faults::read_tables;
-use chain_faults::read_links;
-use memory_store::MemoryPages;
+use page_faults::{MemoryPages, entry_faults, read_links, read_tables};
 use std::alloc::Global;
 use std::test::Fail;
-use tag_faults::entry_faults;
 
 /// The two pages, with an entry at a place of its page.
 fn pages_with(alloc: Global, cell: &str, at: usize, entry: [u8; 8]) -> Result<MemoryPages, Fail> {

@@ -1,11 +1,9 @@
 //! A domain of version 4 on one volume of 512 pages: its cells begin at page 3, pages 4 to 131 are
 //! the log's, and its fileset table stands at page 132.
-use bmt_mcells::empty_page;
-use disk_label::{Anchor, Member};
-use domain_base::{Home, OutOfMemory, Page, Version, VolIx};
-use memory_store::MemoryPages;
-use page_store::MetaPages;
-use page_ways::DomainFrame;
+use page_faults::{
+    Anchor, DomainFrame, Home, Member, MemoryPages, MetaPages, OutOfMemory, Page, Version, VolIx,
+    empty_page,
+};
 use std::alloc::Global;
 
 /// A page of volume 1.

@@ -2,9 +2,7 @@
 //! no fileset.
 use crate::cells::{put_cell, table};
 use crate::fixture::{cells_page, frame, put};
-use cell_faults::read_tables;
-use chain_faults::{holes_faults, read_links};
-use memory_store::MemoryPages;
+use page_faults::{MemoryPages, holes_faults, read_links, read_tables};
 use std::alloc::Global;
 use std::test::Fail;
 

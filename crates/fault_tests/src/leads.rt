@@ -1,8 +1,7 @@
 //! Cells of chains that lead wrong. The table of cells has pages 3 and 140.
 use crate::chains::{Row, pages_with};
 use crate::fixture::frame;
-use cell_faults::read_tables;
-use chain_faults::{leads_faults, read_links};
+use page_faults::{leads_faults, read_links, read_tables};
 use std::alloc::Global;
 use std::test::Fail;
 

@@ -4,10 +4,7 @@
 use crate::cells::{entry, put_cell, set_slot};
 use crate::fixture::{cells_page, frame, put};
 use crate::tags::tags_page;
-use domain_base::Page;
-use fileset_table::{FilesetTable, SlotItem};
-use memory_store::MemoryPages;
-use page_faults::{bitmap_faults, extent_faults};
+use page_faults::{FilesetTable, MemoryPages, Page, SlotItem, bitmap_faults, extent_faults};
 use std::alloc::Global;
 use std::test::Fail;
 

@@ -1,14 +1,12 @@
 //! Quota cells that slots name: cells 1 and 2 of page 3, of which the first may lead to the other.
 use crate::cells::{entry, put_cell, set_slot};
 use crate::fixture::{cells_page, frame, home, put};
-use cell_faults::read_tables;
-use chain_faults::read_links;
-use domain_base::{CellAt, FilesetNo};
-use fileset_table::{FilesetTable, SlotItem};
-use memory_store::MemoryPages;
+use page_faults::{
+    CellAt, FilesetNo, FilesetTable, MemoryPages, SlotItem, has_wrong_slot, read_links,
+    read_tables, unnamed_quota_faults,
+};
 use std::alloc::Global;
 use std::test::Fail;
-use tag_faults::{has_wrong_slot, unnamed_quota_faults};
 
 /// The table with an original that names a quota cell of page 3, or none for 0.
 fn table(alloc: Global, cell: u8) -> Result<FilesetTable, Fail> {

@@ -1,12 +1,10 @@
 //! Runs of files' pages that two cells of page 3 say, and which pages of volume 1 they own.
 use crate::cells::put_cell;
 use crate::fixture::{cells_page, frame, home, put};
-use cell_faults::read_tables;
-use chain_faults::read_links;
-use domain_base::Home;
-use file_runs::{FileRun, find_owned, find_shared, has_shared, push_pages, read_runs};
-use memory_store::MemoryPages;
-use span_sets::{Span, SpanSet};
+use page_faults::{
+    FileRun, Home, MemoryPages, Span, SpanSet, find_owned, find_shared, has_shared, push_pages,
+    read_links, read_runs, read_tables,
+};
 use std::alloc::Global;
 use std::test::Fail;
 

@@ -2,11 +2,9 @@
 //! that the anchor names, 0 for none, the page at which a table stands, and a byte of it that is
 //! changed: without that it has free slots alone, and no clone was made.
 use crate::fixture::{frame, home, put};
-use domain_base::{OutOfMemory, Page};
-use memory_store::MemoryPages;
+use page_faults::{MemoryPages, OutOfMemory, Page, TableRead, read_table, table_fault};
 use std::alloc::Global;
 use std::test::Fail;
-use table_faults::{TableRead, read_table, table_fault};
 
 /// What was read, with the page that breaks the rule, or how many clones the table says.
 fn told(read: &TableRead) -> (&'static str, u64) {

@@ -2,12 +2,9 @@
 //! being removed, which begins at page 142.
 use crate::cells::{entry, set_slot};
 use crate::fixture::{frame, home, put};
-use domain_base::{OutOfMemory, Page};
-use fileset_table::{FilesetTable, SlotItem};
-use memory_store::MemoryPages;
+use page_faults::{FilesetTable, MemoryPages, OutOfMemory, Page, SlotItem, directory_faults};
 use std::alloc::Global;
 use std::test::Fail;
-use tag_faults::directory_faults;
 
 /// Some bytes of a page that are changed: the page, the place of the first of them, and the bytes.
 type Change = (u32, usize, [u8; 8]);

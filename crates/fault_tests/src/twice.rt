@@ -2,9 +2,9 @@
 //! the next one.
 use crate::cells::{put_cell, table};
 use crate::fixture::{cells_page, frame, put};
-use cell_faults::read_tables;
-use chain_faults::{cells_faults, limits_twice_faults, pages_twice_faults, read_links};
-use memory_store::MemoryPages;
+use page_faults::{
+    MemoryPages, cells_faults, limits_twice_faults, pages_twice_faults, read_links, read_tables,
+};
 use std::alloc::Global;
 use std::test::Fail;
 

@@ -1,9 +1,9 @@
 //! Pages of one kind on the volume.
 use crate::fixture::{cells_page, frame, home, put};
-use cell_faults::{CellTables, CellsPage, has_wrong_header, read_tables};
-use domain_base::{OutOfMemory, Page, VolIx};
-use memory_store::MemoryPages;
-use page_ways::{CellsWay, IndexWay, PageWay, ReadPages, TagsWay, read_pages};
+use page_faults::{
+    CellTables, CellsPage, CellsWay, IndexWay, MemoryPages, OutOfMemory, Page, PageWay, ReadPages,
+    TagsWay, VolIx, has_wrong_header, read_pages, read_tables,
+};
 use std::alloc::Global;
 use std::test::Fail;
 

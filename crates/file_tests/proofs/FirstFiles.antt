@@ -4,24 +4,24 @@ use Rattle.std.proofs.lemmas.Bool.{both_ways, cases_Bool, eq-eqb, eqb-true, fals
 use Rattle.std.specs.Option.{option_and_then}
 use Rattle.std.specs.FinSet.{FinSet, contains, empty, insert}
 use Rattle.std.specs.Ordering.{nat_cmp}
-use Rattle.storage_bitmap.proofs.Used.{contains-inserted}
-use Rattle.domain_base.specs.declared.place.CellAt.{CellAt}
-use Rattle.domain_base.specs.declared.place.Home.{Home}
-use Rattle.domain_base.specs.declared.place.Tag.{Tag}
-use Rattle.page_store.specs.Pages.{Pages, same_home}
-use Rattle.bmt_mcells.specs.CellPage.{next_of}
-use Rattle.bmt_mcells.proofs.Changed.{homes_same}
-use Rattle.tag_dirs.specs.declared.dir.TagPlace.{TagPlace}
-use Rattle.tag_dirs.specs.Directory.{AddsPage, cell_for, cell_of, entry_at, has_home}
-use Rattle.extent_maps.specs.declared.run.PagePlace.TheVariants.{Absent, At}
-use Rattle.free_cells.specs.Belong.{LeadsTo, home_at as table_home}
-use Rattle.free_cells.specs.Cells.{Cells, table_of}
-use Rattle.free_cells.proofs.Belongs.{belong_beside}
-use Rattle.free_space.specs.VolumeSpace.{IsFreePage, VolumeSpace}
-use Rattle.free_space.specs.Spaces.{CanTake, IsHeld, volume_of}
-use Rattle.bitfile_cells.specs.Allocated.{AreAllocated}
-use Rattle.bitfile_core.specs.Files.{Chains}
-use Rattle.bitfile_core.specs.Together.{AreTogether, HasTogether, IsHeldApart}
+use Rattle.index_pages.proofs.OfFreeSpace.Used.{contains-inserted}
+use Rattle.index_pages.specs.domain_base.declared.place.CellAt.{CellAt}
+use Rattle.index_pages.specs.domain_base.declared.place.Home.{Home}
+use Rattle.index_pages.specs.domain_base.declared.place.Tag.{Tag}
+use Rattle.index_pages.specs.page_store.Pages.{Pages, same_home}
+use Rattle.index_pages.specs.metadata_cells.CellPage.{next_of}
+use Rattle.index_pages.proofs.OfMetadataCells.Changed.{homes_same}
+use Rattle.index_pages.specs.tag_dirs.declared.dir.TagPlace.{TagPlace}
+use Rattle.index_pages.specs.tag_dirs.Directory.{AddsPage, cell_for, cell_of, entry_at, has_home}
+use Rattle.index_pages.specs.extent_maps.declared.run.PagePlace.TheVariants.{Absent, At}
+use Rattle.index_pages.specs.free_cells.Belong.{LeadsTo, home_at as table_home}
+use Rattle.index_pages.specs.free_cells.Cells.{Cells, table_of}
+use Rattle.index_pages.proofs.OfFreeCells.Belongs.{belong_beside}
+use Rattle.index_pages.specs.free_space.VolumeSpace.{IsFreePage, VolumeSpace}
+use Rattle.index_pages.specs.free_space.Spaces.{CanTake, IsHeld, volume_of}
+use Rattle.index_pages.specs.file_chains.Allocated.{AreAllocated}
+use Rattle.index_pages.specs.fileset_files.Files.{Chains}
+use Rattle.index_pages.specs.fileset_files.Together.{AreTogether, HasTogether, IsHeldApart}
 use Rattle.file_tests.specs.First.{AreFirst, IsEmpty, first_space, home_at}
 
 -- the only volume

@@ -2,31 +2,31 @@
 use Rattle.std.proofs.Common.{◌≡◌, ◌∙◌, ℕ, ◌≤◌, List, Option, IsSome, IsSomeAnd, Some, None, Result, Ok, Err, IfOk, OnOk, OnErr, ap, subst, sym}
 use Rattle.std.proofs.lemmas.Bool.{false_from_ne_true}
 use Rattle.std.specs.Option.{option_map_or}
-use Rattle.domain_base.specs.declared.place.Home.{Home}
-use Rattle.domain_base.specs.declared.place.Tag.{Tag}
-use Rattle.domain_base.specs.declared.version.Version.{Version}
-use Rattle.page_store.specs.Pages.{Pages}
-use Rattle.page_store.specs.declared.fault.StoreFault.{StoreFault}
-use Rattle.bmt_mcells.specs.Chain.{PlacedCell}
-use Rattle.tag_dirs.specs.declared.dir.TagPlace.{TagPlace}
-use Rattle.tag_dirs.specs.Directory.{has_home}
-use Rattle.extent_maps.specs.declared.run.PagePlace.{PagePlace}
-use Rattle.extent_maps.specs.declared.run.PagePlace.TheVariants.{Absent, At}
-use Rattle.extent_maps.specs.Runs.{home_at}
-use Rattle.free_cells.specs.Cells.{Cells}
-use Rattle.free_space.specs.VolumeSpace.{with_page}
-use Rattle.free_space.specs.Spaces.{CanTake, Spaces, change_volume}
-use Rattle.bitfile_cells.specs.Files.{places_of}
-use Rattle.bitfile_cells.proofs.Spaces.{not_held}
-use Rattle.bitfile_core.specs.Changes.{IsLive}
-use Rattle.bitfile_core.specs.declared.new_cells.NewFile.{NewFile}
-use Rattle.bitfile_core.specs.Creation.{Creates}
-use Rattle.bitfile_core.specs.Files.{Chains, place_at}
-use Rattle.bitfile_core.specs.Moves.{MayMove}
-use Rattle.bitfile_core.specs.Pages.{ChangesFile}
-use Rattle.bitfile_core.specs.Together.{AreTogether, HasTogether, IsFilePage}
-use Rattle.bitfile_core.proofs.Created.{one_chains, together_page}
-use Rattle.bitfile_core.proofs.Grown.{apart_now}
+use Rattle.index_pages.specs.domain_base.declared.place.Home.{Home}
+use Rattle.index_pages.specs.domain_base.declared.place.Tag.{Tag}
+use Rattle.index_pages.specs.domain_base.declared.version.Version.{Version}
+use Rattle.index_pages.specs.page_store.Pages.{Pages}
+use Rattle.index_pages.specs.page_store.declared.fault.StoreFault.{StoreFault}
+use Rattle.index_pages.specs.metadata_cells.Chain.{PlacedCell}
+use Rattle.index_pages.specs.tag_dirs.declared.dir.TagPlace.{TagPlace}
+use Rattle.index_pages.specs.tag_dirs.Directory.{has_home}
+use Rattle.index_pages.specs.extent_maps.declared.run.PagePlace.{PagePlace}
+use Rattle.index_pages.specs.extent_maps.declared.run.PagePlace.TheVariants.{Absent, At}
+use Rattle.index_pages.specs.extent_maps.Runs.{home_at}
+use Rattle.index_pages.specs.free_cells.Cells.{Cells}
+use Rattle.index_pages.specs.free_space.VolumeSpace.{with_page}
+use Rattle.index_pages.specs.free_space.Spaces.{CanTake, Spaces, change_volume}
+use Rattle.index_pages.specs.file_chains.Files.{places_of}
+use Rattle.index_pages.proofs.OfFileChains.Spaces.{not_held}
+use Rattle.index_pages.specs.fileset_files.Changes.{IsLive}
+use Rattle.index_pages.specs.fileset_files.declared.new_cells.NewFile.{NewFile}
+use Rattle.index_pages.specs.fileset_files.Creation.{Creates}
+use Rattle.index_pages.specs.fileset_files.Files.{Chains, place_at}
+use Rattle.index_pages.specs.fileset_files.Moves.{MayMove}
+use Rattle.index_pages.specs.fileset_files.Pages.{ChangesFile}
+use Rattle.index_pages.specs.fileset_files.Together.{AreTogether, HasTogether, IsFilePage}
+use Rattle.index_pages.proofs.OfFilesetFiles.Created.{one_chains, together_page}
+use Rattle.index_pages.proofs.OfFilesetFiles.Grown.{apart_now}
 
 pub created : (fileset fileset_now : ℕ) (places : List TagPlace) (tag : Tag) (version : Version) (what : NewFile) (chains : Chains) (space : Spaces) (cells cells_now : Cells) (old new : Pages) → fileset_now ≡ fileset
     → Creates fileset places tag version what chains space cells cells_now old new → HasTogether fileset_now places space cells_now new

@@ -1,2 +1,3 @@
 pub mod FirstFiles
 pub mod Kept
+pub mod IndexPageKept

@@ -1,16 +1,16 @@
 -- The pages of one volume with a page of cells and a page of tags, and no file.
 use Rattle.std.specs.Prelude.{◌≡◌, ◌≤◌, ℕ, true, false, List, [], ◌∷◌, Some, None}
 use Rattle.std.specs.FinSet.{empty, insert}
-use Rattle.domain_base.specs.declared.place.Home.{Home}
-use Rattle.page_store.specs.Pages.{Pages}
-use Rattle.storage_bitmap.specs.VolumePages.{VolumePages}
-use Rattle.free_cells.specs.Belong.{Belong, LeadsTo}
-use Rattle.free_cells.specs.Cells.{Cells, is_closed, table_of}
-use Rattle.tag_dirs.specs.declared.dir.TagPlace.{TagPlace}
-use Rattle.tag_dirs.specs.Directory.{has_home}
-use Rattle.free_space.specs.VolumeSpace.{added}
-use Rattle.free_space.specs.Spaces.{Spaces, no_spaces, with_volume}
-use Rattle.bitfile_core.specs.Together.{AreTogether}
+use Rattle.index_pages.specs.domain_base.declared.place.Home.{Home}
+use Rattle.index_pages.specs.page_store.Pages.{Pages}
+use Rattle.index_pages.specs.free_space.VolumePages.{VolumePages}
+use Rattle.index_pages.specs.free_cells.Belong.{Belong, LeadsTo}
+use Rattle.index_pages.specs.free_cells.Cells.{Cells, is_closed, table_of}
+use Rattle.index_pages.specs.tag_dirs.declared.dir.TagPlace.{TagPlace}
+use Rattle.index_pages.specs.tag_dirs.Directory.{has_home}
+use Rattle.index_pages.specs.free_space.VolumeSpace.{added}
+use Rattle.index_pages.specs.free_space.Spaces.{Spaces, no_spaces, with_volume}
+use Rattle.index_pages.specs.fileset_files.Together.{AreTogether}
 
 abbrev pub home_at : ℕ → Home
 home_at page = record { vol = 1; page = page }

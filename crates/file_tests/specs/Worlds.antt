@@ -1,14 +1,14 @@
 -- What belongs together in a world of the tests, and its files as one map.
 use Rattle.std.specs.Prelude.{Option, None}
-use Rattle.domain_base.specs.declared.place.Kind.TheVariants.{Directory}
-use Rattle.domain_base.specs.declared.place.Tag.{Tag}
-use Rattle.memory_store.specs.Homes.{pages_of}
-use Rattle.bitfile_core.specs.declared.indexing.IndexPlace.{IndexPlace}
-use Rattle.bitfile_core.specs.declared.new_cells.NewFile.{NewFile}
-use Rattle.bitfile_core.specs.Creation.{new_file}
-use Rattle.bitfile_core.specs.State.{States, with_changed, with_state}
-use Rattle.bitfile_core.specs.Together.{HasTogether}
-use Rattle.bitfile_laws.specs.States.{HaveStates, indexed, new_state}
+use Rattle.index_pages.specs.domain_base.declared.place.Kind.TheVariants.{Directory}
+use Rattle.index_pages.specs.domain_base.declared.place.Tag.{Tag}
+use Rattle.index_pages.specs.page_store.Homes.{pages_of}
+use Rattle.index_pages.specs.fileset_files.declared.indexing.IndexPlace.{IndexPlace}
+use Rattle.index_pages.specs.fileset_files.declared.new_cells.NewFile.{NewFile}
+use Rattle.index_pages.specs.fileset_files.Creation.{new_file}
+use Rattle.index_pages.specs.fileset_files.State.{States, with_changed, with_state}
+use Rattle.index_pages.specs.fileset_files.Together.{HasTogether}
+use Rattle.index_pages.specs.fileset_files.States.{HaveStates, indexed, new_state}
 use Rattle.file_tests.specs.declared.world.World.{World}
 
 abbrev pub IsWorld : World → Type 0

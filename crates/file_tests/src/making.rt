@@ -4,10 +4,7 @@ ghost use Rattle.file_tests.specs.Worlds.{IsWorld};
 
 use crate::files::make;
 use crate::world::{World, new_world, volume};
-use bmt_mcells::find_record;
-use domain_base::{CellAt, Kind, Tag, Version};
-use page_store::StoreFault;
-use record_table::Record;
+use index_pages::{CellAt, Kind, Record, StoreFault, Tag, Version, find_record};
 use std::alloc::Global;
 use std::test::Fail;
 

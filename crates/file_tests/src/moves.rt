@@ -1,14 +1,12 @@
 //! Pages of files moved and given where no cell is free.
 ghost use Rattle.std.specs.Prelude.{◌≤◌, IfOk};
-ghost use Rattle.memory_store.specs.Homes.{pages_of};
-ghost use Rattle.bitfile_core.specs.Files.{HasFiles};
+ghost use Rattle.index_pages.specs.page_store.Homes.{pages_of};
+ghost use Rattle.index_pages.specs.fileset_files.Files.{HasFiles};
 ghost use Rattle.file_tests.specs.Worlds.{IsWorld};
 
 use crate::files::{give, make};
 use crate::world::{World, new_world, volume};
-use domain_base::{Home, Kind, Tag, Version};
-use extent_maps::PagePlace;
-use page_store::StoreFault;
+use index_pages::{Home, Kind, PagePlace, StoreFault, Tag, Version};
 use std::alloc::Global;
 use std::test::Fail;
 

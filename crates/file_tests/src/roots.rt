@@ -1,12 +1,12 @@
 //! The root directory of a new fileset made, and its page of tags forgotten.
 ghost use Rattle.std.specs.Prelude.{IfOk};
-ghost use Rattle.memory_store.specs.Homes.{pages_of};
-ghost use Rattle.bitfile_core.specs.Creation.{IsNewDirectory};
+ghost use Rattle.index_pages.specs.page_store.Homes.{pages_of};
+ghost use Rattle.index_pages.specs.fileset_files.Creation.{IsNewDirectory};
 ghost use Rattle.file_tests.specs.Worlds.{IsWorld};
 
 use crate::files::make;
 use crate::world::{World, new_world, volume};
-use domain_base::{Kind, Tag, Version};
+use index_pages::{Kind, Tag, Version};
 use std::alloc::Global;
 use std::test::Fail;
 

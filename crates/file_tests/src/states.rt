@@ -1,21 +1,19 @@
 //! The files of a world as one map from their tags, which each call changes at its tag alone.
 ghost use Rattle.std.specs.Prelude.{◌≡◌, IfOk, None, OnOk, Some};
 ghost use Rattle.std.specs.Option.{option_map};
-ghost use Rattle.memory_store.specs.Homes.{pages_of};
-ghost use Rattle.extent_maps.specs.declared.run.PagePlace.TheVariants.{At};
-ghost use Rattle.bitfile_core.specs.State.{FileState, States, with_changed, with_state, without_state};
-ghost use Rattle.bitfile_laws.specs.States.{CutsFile, described as described_so, indexed, live_at, new_state, placed, put_in as standing_in};
+ghost use Rattle.index_pages.specs.page_store.Homes.{pages_of};
+ghost use Rattle.index_pages.specs.extent_maps.declared.run.PagePlace.TheVariants.{At};
+ghost use Rattle.index_pages.specs.fileset_files.State.{FileState, States, with_changed, with_state, without_state};
+ghost use Rattle.index_pages.specs.fileset_files.States.{CutsFile, described as described_so, indexed, live_at, new_state, placed, put_in as standing_in};
 ghost use Rattle.file_tests.specs.Worlds.{AreStates, IsWorld, HasIndexAlone, new_directory};
 
 use crate::world::{World, new_world, volume};
-use bitfile_core::{Attributes, IndexPlace};
-use bitfile_laws::{
-    files_are_told, one_file_is_cut, one_file_is_described, one_file_is_made, one_file_is_removed,
-    one_index_is_set, one_page_is_placed, one_parent_is_set,
+use index_pages::limits::FILE_PAGES;
+use index_pages::{
+    Attributes, Home, IndexPlace, Kind, PagePlace, Tag, Version, files_are_told, one_file_is_cut,
+    one_file_is_described, one_file_is_made, one_file_is_removed, one_index_is_set,
+    one_page_is_placed, one_parent_is_set,
 };
-use domain_base::limits::FILE_PAGES;
-use domain_base::{Home, Kind, Tag, Version};
-use extent_maps::PagePlace;
 use std::alloc::Global;
 use std::test::Fail;
 

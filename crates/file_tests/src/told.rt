@@ -5,9 +5,7 @@ ghost use Rattle.file_tests.specs.Worlds.{IsWorld};
 use crate::files::{give, make};
 use crate::states::{describe, described, say_index, take_out};
 use crate::world::{World, home_at, new_world};
-use bitfile_core::{Attributes, IndexPlace};
-use domain_base::{Kind, Tag};
-use extent_maps::{PagePlace, Run, RunPlace};
+use index_pages::{Attributes, IndexPlace, Kind, PagePlace, Run, RunPlace, Tag};
 use std::alloc::Global;
 use std::test::Fail;
 

@@ -1,24 +1,19 @@
 //! A volume with pages of metadata, free space, free cells and the files of a fileset.
 ghost use Rattle.std.specs.Prelude.{◌≡◌, ◌≢◌, ◌<◌, ◌≤◌, ◌^◌, ℕ, IfOk, IsSomeAnd, OnOk, false};
-ghost use Rattle.domain_base.specs.declared.place.Home.{Home};
-ghost use Rattle.page_store.specs.Pages.{same_home};
-ghost use Rattle.memory_store.specs.Homes.{pages_of};
-ghost use Rattle.bmt_mcells.specs.CellPage.{IsEmptyPage};
-ghost use Rattle.bitfile_core.specs.Creation.{IsNewDirectory};
-ghost use Rattle.bitfile_core.specs.Together.{HasTogether};
+ghost use Rattle.index_pages.specs.domain_base.declared.place.Home.{Home};
+ghost use Rattle.index_pages.specs.page_store.Pages.{same_home};
+ghost use Rattle.index_pages.specs.page_store.Homes.{pages_of};
+ghost use Rattle.index_pages.specs.metadata_cells.CellPage.{IsEmptyPage};
+ghost use Rattle.index_pages.specs.fileset_files.Creation.{IsNewDirectory};
+ghost use Rattle.index_pages.specs.fileset_files.Together.{HasTogether};
 ghost use Rattle.file_tests.specs.First.{AreFirst, IsEmpty, first_map as first_map_of, first_space as first_space_of, home_at as home_there};
 
-use bitfile_core::Bitfiles;
-use bmt_mcells::empty_page;
-use domain_base::{FilesetNo, Home, OutOfMemory, VolIx};
-use free_cells::FreeCells;
-use free_space::FreeSpace;
-use memory_store::MemoryPages;
-use page_store::MetaPages;
+use index_pages::{
+    Bitfiles, Bitmap, FilesetNo, FreeCells, FreeSpace, Home, MemoryPages, MetaPages, OutOfMemory,
+    TagDir, VolIx, empty_page,
+};
 use std::alloc::Global;
 use std::test::Fail;
-use storage_bitmap::Bitmap;
-use tag_dirs::TagDir;
 
 /// All that a call on files is given.
 #[derive(Drop)]

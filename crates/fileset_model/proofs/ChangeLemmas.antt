@@ -9,16 +9,16 @@ use Rattle.std.specs.Ordering.{eq_by_cmp, is_eq, nat_cmp}
 use Rattle.std.specs.Cmp.{IsTotalOrder, alike_right, eq_by_cmp_equiv, nat_cmp_total}
 use Rattle.std.specs.FinMap as map
 use Rattle.std.specs.FinMap.Entries.{find, put, is_sorted, where_key, find-where_key}
-use Rattle.domain_base.specs.Page.{overwritten, zero_bytes}
-use Rattle.fileset_model.specs.Orders.{Path, path_cmp, path_cmp-total, path_cmp-IsAntisymmetric}
+use Rattle.fileset_values.specs.domain_base.Page.{overwritten, zero_bytes}
+use Rattle.fileset_values.specs.Orders.{Path, path_cmp, path_cmp-total, path_cmp-IsAntisymmetric}
 use Rattle.fileset_model.specs.Fileset.{Fileset}
 use Rattle.fileset_model.specs.Pages.{truncated}
 use Rattle.fileset_model.specs.Paths.{same_path}
 use Rattle.fileset_model.specs.Apply.{is_named_elsewhere, linked, without}
-use Rattle.fileset_model.specs.declared.command.Owner.{Owner}
+use Rattle.fileset_values.specs.declared.command.Owner.{Owner}
 use Rattle.fileset_model.specs.declared.fileset.Limits.{Limits}
 use Rattle.fileset_model.specs.declared.node.Node.{Node}
-use Rattle.sorted_entries.proofs.EntryLemmas.{entries-from_sorted, get-from_sorted, insert-from_sorted, is_sorted_where}
+use Rattle.sorted_sets.proofs.EntryLemmas.{entries-from_sorted, get-from_sorted, insert-from_sorted, is_sorted_where}
 use Rattle.fileset_model.proofs.TreeLemmas.{tree_of}
 
 turned : {A : Type 0} (b : Bool) (x y : A) → cond (not b) x y ≡ cond b y x

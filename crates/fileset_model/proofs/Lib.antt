@@ -1,5 +1,4 @@
 pub mod ChangeLemmas
-pub mod MapLemmas
 pub mod MoveLemmas
 pub mod OwnerLemmas
 pub mod PageLemmas
@@ -7,3 +6,5 @@ pub mod RowsLemmas
 pub mod SlotLemmas
 pub mod TreeLemmas
 pub mod WholeLemmas
+pub mod OfFilesetValues
+pub mod OfSortedSets

@@ -9,12 +9,12 @@ use Rattle.std.specs.Cmp.Lexicographic.{lists_ties, texts_ties}
 use Rattle.std.specs.Option.{option_map_or}
 use Rattle.std.specs.FinMap as map
 use Rattle.std.specs.FinMap.Entries.{is_sorted, put, where_key}
-use Rattle.fileset_model.specs.Orders.{Path, name_cmp, path_cmp, path_cmp-total, path_cmp-IsAntisymmetric}
+use Rattle.fileset_values.specs.Orders.{Path, name_cmp, path_cmp, path_cmp-total, path_cmp-IsAntisymmetric}
 use Rattle.fileset_model.specs.Paths.{same_path}
 use Rattle.fileset_model.specs.Fileset.{Fileset}
 use Rattle.fileset_model.specs.Apply.{is_named_elsewhere, moved, moved_path, without}
 use Rattle.fileset_model.proofs.ChangeLemmas.{left_without, remove-from_sorted}
-use Rattle.sorted_entries.proofs.EntryLemmas.{entries-from_sorted, from_T, from_sorted-empty, is_sorted_where}
+use Rattle.sorted_sets.proofs.EntryLemmas.{entries-from_sorted, from_T, from_sorted-empty, is_sorted_where}
 
 -- the entries without a key
 abbrev pub without_key : {K X : Type 0} (R : K → K → Ordering) → K → List (K × X) → List (K × X)

@@ -4,9 +4,9 @@ use Rattle.std.specs.declared.cmp.Ordering.{Ordering}
 use Rattle.std.specs.declared.cmp.Ordering.TheVariants.{Less, Equal, Greater}
 use Rattle.std.specs.Ordering.{nat_cmp, ordering_then}
 use Rattle.std.specs.FinMap.{IsAntisymmetric, nat_cmp-IsAntisymmetric}
-use Rattle.fileset_model.specs.Orders.{owner_cmp, owner_id, owner_kind}
-use Rattle.fileset_model.specs.declared.command.Owner.{Owner}
-use Rattle.fileset_model.specs.declared.command.Owner.TheVariants.{User, Group, Fileset}
+use Rattle.fileset_values.specs.Orders.{owner_cmp, owner_id, owner_kind}
+use Rattle.fileset_values.specs.declared.command.Owner.{Owner}
+use Rattle.fileset_values.specs.declared.command.Owner.TheVariants.{User, Group, Fileset}
 
 both_equal : (a b : Ordering) → ordering_then a b ≡ Equal → (a ≡ Equal) × (b ≡ Equal)
 both_equal Less b e = absurd (cc)

@@ -3,7 +3,7 @@ use Rattle.std.proofs.Common.{◌≡◌, ℕ, zero, suc, ◌+◌, ◌/◌, ◌%�
 use Rattle.std.specs.Option.{option_map_or}
 use Rattle.std.specs.FinMap as map_of
 use Rattle.std.proofs.lemmas.List.{drop_more}
-use Rattle.domain_base.specs.Page.{zero_bytes, slice_index-zero_bytes}
+use Rattle.fileset_values.specs.domain_base.Page.{zero_bytes, slice_index-zero_bytes}
 use Rattle.std.specs.List.{range_with_len}
 use Rattle.std.proofs.lemmas.List.{map-id}
 use Rattle.std.proofs.lemmas.List.FromFn.{sum_by-map-range_with_len_more}
@@ -11,9 +11,9 @@ use Rattle.std.specs.Ordering.{nat_cmp}
 use Rattle.std.specs.Cmp.{nat_cmp_total}
 use Rattle.std.specs.FinMap.{from_sorted}
 use Rattle.std.specs.FinMap.Entries.{is_sorted, put}
-use Rattle.sorted_entries.specs.Entries.{put_each}
+use Rattle.sorted_sets.specs.Entries.{put_each}
 use Rattle.fileset_model.specs.Pages.{Pages, byte_at, with_pages}
-use Rattle.sorted_entries.proofs.EntryLemmas.{insert-from_sorted, is_sorted_put}
+use Rattle.sorted_sets.proofs.EntryLemmas.{insert-from_sorted, is_sorted_put}
 
 pub put_each-with_pages : (changed es : List (ℕ × List ℕ)) → IsTrue (is_sorted nat_cmp es) → from_sorted {R = nat_cmp} (put_each nat_cmp changed es) ≡ with_pages changed (from_sorted es)
 put_each-with_pages [] es h = refl

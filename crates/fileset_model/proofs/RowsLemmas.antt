@@ -5,10 +5,10 @@ use Rattle.std.proofs.lemmas.List.Elements.{filter_map-append}
 use Rattle.std.specs.List.{cons_option, filter_map}
 use Rattle.std.specs.Option.{option_and_then, option_map_or}
 use Rattle.std.specs.FinMap.{get}
-use Rattle.fileset_model.specs.Orders.{Name, Path}
+use Rattle.fileset_values.specs.Orders.{Name, Path}
 use Rattle.fileset_model.specs.Fileset.{Fileset}
 use Rattle.fileset_model.specs.Paths.{is_directory, name_below}
-use Rattle.fileset_model.specs.declared.reply.NameItem.{NameItem}
+use Rattle.fileset_values.specs.declared.reply.NameItem.{NameItem}
 
 -- the row that an entry of the paths makes in the directory at `parent`
 abbrev pub row_of : Fileset → Path → Path × ℕ → Option NameItem

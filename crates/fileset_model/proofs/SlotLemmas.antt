@@ -3,13 +3,13 @@ use Rattle.std.proofs.Common.{◌≡◌, ℕ, List, IsTrue, Some, None, get_or, 
 use Rattle.std.specs.Option.{option_map_or}
 use Rattle.std.specs.FinMap as map
 use Rattle.std.specs.FinMap.Entries.{is_sorted}
-use Rattle.fileset_model.specs.Orders.{Name, name_cmp, name_cmp-total}
-use Rattle.sorted_entries.specs.Entries.{IsPlaceOf}
+use Rattle.fileset_values.specs.Orders.{Name, name_cmp, name_cmp-total}
+use Rattle.sorted_sets.specs.Entries.{IsPlaceOf}
 use Rattle.fileset_model.specs.Fileset.{Fileset}
 use Rattle.fileset_model.specs.Filesets.{FilesetMap}
 use Rattle.fileset_model.specs.Apply.{with_tree}
 use Rattle.fileset_model.specs.declared.fileset.FilesetSlot.{FilesetSlot}
-use Rattle.sorted_entries.proofs.EntryLemmas.{find_at_place, get-from_sorted, insert_at_place}
+use Rattle.sorted_sets.proofs.EntryLemmas.{find_at_place, get-from_sorted, insert_at_place}
 
 pub with_tree-at : (all : FilesetMap) (name : Name) (slot : FilesetSlot) (change : Fileset → Fileset) → map.get all name ≡ Some slot
     → with_tree all name change ≡ map.insert all name (record slot { tree = change slot.tree })

@@ -5,14 +5,14 @@ use Rattle.std.specs.Ordering.{nat_cmp}
 use Rattle.std.specs.Cmp.{nat_cmp_total}
 use Rattle.std.specs.FinMap as map
 use Rattle.std.specs.FinMap.Entries.{is_sorted}
-use Rattle.fileset_model.specs.Orders.{Path}
-use Rattle.sorted_entries.specs.Entries.{IsPlaceOf}
+use Rattle.fileset_values.specs.Orders.{Path}
+use Rattle.sorted_sets.specs.Entries.{IsPlaceOf}
 use Rattle.fileset_model.specs.Fileset.{Fileset}
 use Rattle.fileset_model.specs.Apply.{with_change}
-use Rattle.fileset_model.specs.declared.command.Owner.{Owner}
+use Rattle.fileset_values.specs.declared.command.Owner.{Owner}
 use Rattle.fileset_model.specs.declared.fileset.Limits.{Limits}
 use Rattle.fileset_model.specs.declared.node.Node.{Node}
-use Rattle.sorted_entries.proofs.EntryLemmas.{find_at_place, get-from_sorted, insert_at_place}
+use Rattle.sorted_sets.proofs.EntryLemmas.{find_at_place, get-from_sorted, insert_at_place}
 
 abbrev pub tree_of : List (Path × ℕ) → List (ℕ × Node) → List (Owner × Limits) → Fileset
 tree_of paths nodes limits = record { paths = map.from_sorted paths; nodes = map.from_sorted nodes; limits = map.from_sorted limits }

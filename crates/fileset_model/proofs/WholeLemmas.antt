@@ -4,7 +4,7 @@ use Rattle.std.proofs.lemmas.List.{drop_more}
 use Rattle.std.specs.List.{list_any}
 use Rattle.std.specs.Option.{option_map_or}
 use Rattle.std.specs.FinMap as map
-use Rattle.fileset_model.specs.Orders.{Name}
+use Rattle.fileset_values.specs.Orders.{Name}
 use Rattle.fileset_model.specs.Filesets.{FilesetMap}
 use Rattle.fileset_model.specs.Apply.{with_clone}
 use Rattle.fileset_model.specs.declared.fileset.FilesetSlot.{FilesetSlot}

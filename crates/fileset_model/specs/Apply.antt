@@ -3,26 +3,26 @@ use Rattle.std.specs.Prelude.{◌≡◌, ◌⊎◌, ℕ, ◌+◌, ◌*◌, ◌==
 use Rattle.std.specs.Option.{option_map_or}
 use Rattle.std.specs.List.{list_any}
 use Rattle.std.specs.FinMap as map
-use Rattle.domain_base.specs.Limits.{blocks_per_page, file_bytes, max_filesets, max_links}
-use Rattle.fileset_model.specs.Orders.{Name, Path}
+use Rattle.fileset_values.specs.domain_base.Limits.{blocks_per_page, file_bytes, max_filesets, max_links}
+use Rattle.fileset_values.specs.Orders.{Name, Path}
 use Rattle.fileset_model.specs.Fileset.{Fileset}
 use Rattle.fileset_model.specs.Pages.{absent_pages, bytes_between, written, truncated}
 use Rattle.fileset_model.specs.Paths.{same_name, same_path, first_refusal, refuse_if, node_at, is_directory, is_out_of_sync_at, walk_refusal, target_refusal, directory_here, file_here, begins_with, rows_of, names_one, paths_to}
 use Rattle.fileset_model.specs.Usage.{limits_of, quota_refusal, used_blocks, used_files, with_limits}
 use Rattle.fileset_model.specs.Filesets.{FilesetMap}
-use Rattle.fileset_model.specs.declared.command.Command.{Command}
-use Rattle.fileset_model.specs.declared.command.Command.TheVariants.{Mkfset, Rmfset, Clonefset, Showfsets, Setquota, Showquota, Create, Mkdir, Write, Read, Truncate, Rename, Link, Links, Unlink, Rmdir, List as ListNames, Stat, Fsync, Chfile, Sync, Cancel}
-use Rattle.fileset_model.specs.declared.command.Owner.{Owner}
-use Rattle.fileset_model.specs.declared.command.Place.{Place}
+use Rattle.fileset_values.specs.declared.command.Command.{Command}
+use Rattle.fileset_values.specs.declared.command.Command.TheVariants.{Mkfset, Rmfset, Clonefset, Showfsets, Setquota, Showquota, Create, Mkdir, Write, Read, Truncate, Rename, Link, Links, Unlink, Rmdir, List as ListNames, Stat, Fsync, Chfile, Sync, Cancel}
+use Rattle.fileset_values.specs.declared.command.Owner.{Owner}
+use Rattle.fileset_values.specs.declared.command.Place.{Place}
 use Rattle.fileset_model.specs.declared.fileset.FilesetSlot.{FilesetSlot}
 use Rattle.fileset_model.specs.declared.fileset.Role.{Role}
 use Rattle.fileset_model.specs.declared.fileset.Role.TheVariants.{Original, CloneOf}
 use Rattle.fileset_model.specs.declared.node.Node.{Node}
 use Rattle.fileset_model.specs.declared.node.Node.TheVariants.{File, Directory}
-use Rattle.fileset_model.specs.declared.reply.Refusal.{Refusal}
-use Rattle.fileset_model.specs.declared.reply.Refusal.TheVariants.{NoFileset, FilesetExists, Exists, NotEmpty, ReadOnly, HasClone, OutOfSync, IntoItself, TooFar, FilesetsFull, CloneOfClone, OutOfMemory, LinksFull}
-use Rattle.fileset_model.specs.declared.reply.Reply.{Reply}
-use Rattle.fileset_model.specs.declared.reply.Reply.TheVariants.{Done, Count, Read as Bytes, Names, FileStat, DirStat, Filesets, Quota, Refused}
+use Rattle.fileset_values.specs.declared.reply.Refusal.{Refusal}
+use Rattle.fileset_values.specs.declared.reply.Refusal.TheVariants.{NoFileset, FilesetExists, Exists, NotEmpty, ReadOnly, HasClone, OutOfSync, IntoItself, TooFar, FilesetsFull, CloneOfClone, OutOfMemory, LinksFull}
+use Rattle.fileset_values.specs.declared.reply.Reply.{Reply}
+use Rattle.fileset_values.specs.declared.reply.Reply.TheVariants.{Done, Count, Read as Bytes, Names, FileStat, DirStat, Filesets, Quota, Refused}
 
 -- the original of a clone
 abbrev pub original_of : Role → Option Name

@@ -3,10 +3,10 @@ use Rattle.std.specs.Prelude.{ℕ, refl}
 use Rattle.std.specs.Ordering.{nat_cmp}
 use Rattle.std.specs.FinMap as map
 use Rattle.std.specs.Coded.{Coded, code_by, coded×, coded_ℕ, coded_list}
-use Rattle.fileset_model.specs.Orders.{path_cmp, owner_cmp}
+use Rattle.fileset_values.specs.Orders.{path_cmp, owner_cmp}
 use Rattle.fileset_model.specs.declared.node.Node.{Node}
 use Rattle.fileset_model.specs.declared.fileset.Limits.{Limits}
-use Rattle.fileset_model.specs.contracts.command.Owner as owner
+use Rattle.fileset_values.specs.contracts.command.Owner as owner
 use Rattle.fileset_model.specs.contracts.node.Node as node
 use Rattle.fileset_model.specs.contracts.fileset.Limits as limits
 

@@ -1,6 +1,6 @@
 -- All filesets of a domain.
 use Rattle.std.specs.FinMap as map
-use Rattle.fileset_model.specs.Orders.{name_cmp}
+use Rattle.fileset_values.specs.Orders.{name_cmp}
 use Rattle.fileset_model.specs.declared.fileset.FilesetSlot.{FilesetSlot}
 
 -- all filesets by their names

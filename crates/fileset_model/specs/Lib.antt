@@ -2,8 +2,9 @@ pub mod Apply
 pub mod Fileset
 pub mod Filesets
 pub mod LooksLike
-pub mod Orders
 pub mod Pages
 pub mod Paths
-pub mod Shuffle
 pub mod Usage
+pub use Rattle.fileset_values.specs.domain_base
+pub use Rattle.fileset_values.specs as fileset_values
+pub use Rattle.sorted_sets.specs as sorted_sets

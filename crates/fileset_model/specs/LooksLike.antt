@@ -3,7 +3,7 @@ use Rattle.std.specs.Prelude.{◌≡◌, ℕ, ◌<◌, false, length, take, Opti
 use Rattle.std.specs.Option.{option_map}
 use Rattle.std.specs.FinMap as map
 use Rattle.fileset_model.specs.Apply.{original_of}
-use Rattle.fileset_model.specs.Orders.{Name, Path}
+use Rattle.fileset_values.specs.Orders.{Name, Path}
 use Rattle.fileset_model.specs.Paths.{paths_to, is_directory, is_out_of_sync_at, is_out_of_sync, node_at}
 use Rattle.fileset_model.specs.Filesets.{FilesetMap}
 use Rattle.fileset_model.specs.declared.fileset.FilesetSlot.{FilesetSlot}

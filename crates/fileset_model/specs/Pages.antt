@@ -4,8 +4,8 @@ use Rattle.std.specs.Option.{option_map_or}
 use Rattle.std.specs.List.{range_with_len}
 use Rattle.std.specs.Ordering.{nat_cmp}
 use Rattle.std.specs.FinMap.{FinMap, contains_key, get, insert, retain_keys}
-use Rattle.domain_base.specs.Page.{zero_bytes, overwritten}
-use Rattle.domain_base.specs.declared.limits.TheConstants.{PAGE_BYTES}
+use Rattle.fileset_values.specs.domain_base.Page.{zero_bytes, overwritten}
+use Rattle.fileset_values.specs.domain_base.declared.limits.TheConstants.{PAGE_BYTES}
 
 -- the pages that are there, by their numbers
 abbrev pub Pages : Type 0

@@ -4,16 +4,16 @@ use Rattle.std.specs.Option.{option_and_then, option_map_or}
 use Rattle.std.specs.List.{filter_map, range_with_len, starts_with}
 use Rattle.std.specs.Cmp.Lexicographic.{pointwise}
 use Rattle.std.specs.FinMap.{get, contains_key, entries}
-use Rattle.fileset_model.specs.Orders.{Name, Path}
+use Rattle.fileset_values.specs.Orders.{Name, Path}
 use Rattle.fileset_model.specs.Fileset.{Fileset}
 use Rattle.fileset_model.specs.declared.node.Node.{Node}
 use Rattle.fileset_model.specs.declared.node.Node.TheVariants.{File, Directory}
 use Rattle.fileset_model.specs.declared.fileset.Role.{Role}
 use Rattle.fileset_model.specs.declared.fileset.Role.TheVariants.{Original, CloneOf}
 use Rattle.fileset_model.specs.declared.fileset.FilesetSlot.{FilesetSlot}
-use Rattle.fileset_model.specs.declared.reply.NameItem.{NameItem}
-use Rattle.fileset_model.specs.declared.reply.Refusal.{Refusal}
-use Rattle.fileset_model.specs.declared.reply.Refusal.TheVariants.{NoPath, NotDirectory, IsDirectory, OutOfSync}
+use Rattle.fileset_values.specs.declared.reply.NameItem.{NameItem}
+use Rattle.fileset_values.specs.declared.reply.Refusal.{Refusal}
+use Rattle.fileset_values.specs.declared.reply.Refusal.TheVariants.{NoPath, NotDirectory, IsDirectory, OutOfSync}
 
 -- whether two names, or two paths, are the same
 abbrev pub same_name : Name → Name → Bool

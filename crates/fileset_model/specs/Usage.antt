@@ -2,17 +2,17 @@
 use Rattle.std.specs.Prelude.{ℕ, ◌+◌, ◌*◌, ◌==◌, Bool, true, false, not, ◌&&◌, nat_lt, List, [], ◌∷◌, length, filter, sum_by, unwrap_or, Option, if◌then◌else◌}
 use Rattle.std.specs.Option.{option_map_or}
 use Rattle.std.specs.FinMap as map
-use Rattle.domain_base.specs.Limits.{blocks_per_page}
-use Rattle.fileset_model.specs.Orders.{owner_cmp}
+use Rattle.fileset_values.specs.domain_base.Limits.{blocks_per_page}
+use Rattle.fileset_values.specs.Orders.{owner_cmp}
 use Rattle.fileset_model.specs.Fileset.{Fileset}
 use Rattle.fileset_model.specs.Paths.{refuse_if, first_refusal}
-use Rattle.fileset_model.specs.declared.command.Owner.{Owner}
-use Rattle.fileset_model.specs.declared.command.Owner.TheVariants.{User, Group, Fileset as WholeFileset}
+use Rattle.fileset_values.specs.declared.command.Owner.{Owner}
+use Rattle.fileset_values.specs.declared.command.Owner.TheVariants.{User, Group, Fileset as WholeFileset}
 use Rattle.fileset_model.specs.declared.fileset.Limits.{Limits}
 use Rattle.fileset_model.specs.declared.node.Node.{Node}
 use Rattle.fileset_model.specs.declared.node.Node.TheVariants.{File, Directory}
-use Rattle.fileset_model.specs.declared.reply.Refusal.{Refusal}
-use Rattle.fileset_model.specs.declared.reply.Refusal.TheVariants.{QuotaFiles, QuotaBlocks}
+use Rattle.fileset_values.specs.declared.reply.Refusal.{Refusal}
+use Rattle.fileset_values.specs.declared.reply.Refusal.TheVariants.{QuotaFiles, QuotaBlocks}
 
 -- whether what has these ids is the owner's
 abbrev pub is_owned : Owner → ℕ → ℕ → Bool

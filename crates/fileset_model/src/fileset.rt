@@ -4,25 +4,22 @@ ghost use Rattle.std.specs.Option.{option_map_or};
 ghost use Rattle.std.specs.Ordering.{eq_by_cmp, nat_cmp};
 ghost use Rattle.std.specs.FinMap.{get};
 ghost use Rattle.std.specs.FinMap.Entries.{where_key};
-ghost use Rattle.domain_base.specs.declared.limits.TheConstants.{FILE_BYTES};
+ghost use Rattle.fileset_values.specs.domain_base.declared.limits.TheConstants.{FILE_BYTES};
 ghost use Rattle.fileset_model.specs.Apply.{empty_fileset, flagged_node, is_clone, is_clone_of, linked, moved_path, renamed, original_of, truncated_node, with_change, with_node, without, written_node};
-ghost use Rattle.fileset_model.specs.Orders.{owner_cmp, path_cmp};
+ghost use Rattle.fileset_values.specs.Orders.{owner_cmp, path_cmp};
 ghost use Rattle.fileset_model.specs.Paths.{is_directory as is_directory_node, is_out_of_sync, name_below as name_of_row, node_at as node_under, names_one, paths_to, rows_of, same_path};
 ghost use Rattle.fileset_model.specs.Usage.{blocks_of, counts_for, is_owners, is_unlimited, limits_of, used_blocks, used_files, with_limits};
 ghost use Rattle.fileset_model.specs.declared.fileset.Role.TheVariants.{CloneOf as CloneRole};
 ghost use Rattle.std.specs.FinMap as map;
 
-use crate::command::Owner;
-use crate::names::{FilesetName, Name, Path};
 use crate::node::Node;
-use crate::reply::NameItem;
-use domain_base::OutOfMemory;
-use domain_base::limits::BLOCKS_PER_PAGE;
-use sorted_entries::{find, place_of, put, take_away};
+use fileset_values::limits::BLOCKS_PER_PAGE;
+use fileset_values::{FilesetName, Name, NameItem, OutOfMemory, Owner, Path};
+use sorted_sets::entries::{find, place_of, put, take_away};
 use std::alloc::Global;
 use std::marker::Model;
 
-/// The most files and blocks of 512 bytes that an owner may have; 0 is no limit.
+/// The most files and blocks of 512 bytes that an owner may have. A limit of 0 means no limit.
 #[derive(Clone, Copy, Debug, PartialEq, Eq)]
 pub struct Limits {
     pub files: u64,
@@ -30,7 +27,7 @@ pub struct Limits {
 }
 
 impl Limits {
-    /// Whether they bind nothing.
+    /// Whether these limits bind nothing.
     fn is_unlimited(&self) -> bool
         ensures { result ≡ is_unlimited self.now }
     {
@@ -63,7 +60,7 @@ impl Model for FilesetTree {
     ghost use Rattle.std.specs.Prelude.{◌≡◌, IsTrue};
     ghost use Rattle.std.specs.Ordering.{nat_cmp};
     ghost use Rattle.std.specs.FinMap as map;
-    ghost use Rattle.fileset_model.specs.Orders.{owner_cmp, path_cmp};
+    ghost use Rattle.fileset_values.specs.Orders.{owner_cmp, path_cmp};
 
     ghost view = { λ f. record {
       paths = map.from_sorted f.paths.items;
@@ -100,14 +97,14 @@ impl FilesetTree {
         find(&self.paths, path).copied()
     }
 
-    /// What has a number.
+    /// The node that has a number.
     pub fn node(&self, number: u64) -> Option<&Node>
         ensures { option_copied result ≡ map.get self.now.nodes number }
     {
         find(&self.nodes, &number)
     }
 
-    /// What stands at a path.
+    /// The node at a path.
     pub fn node_at(&self, path: &Path) -> Option<&Node>
         ensures { option_copied result ≡ node_under self.now path.now }
     {
@@ -215,7 +212,7 @@ impl FilesetTree {
         }
     }
 
-    /// Lets a second path lead to what stands at the first. After an error the tree is as before.
+    /// Makes a second path lead to what stands at the first. After an error the tree is as before.
     pub fn link(&mut self, path: &Path, to: Path) -> Result<(), OutOfMemory>
         ensures ok { OnOk result (self.new ≡ linked path.now to self.old) }
         ensures err { OnErr result (self.new ≡ self.old) }
@@ -227,7 +224,7 @@ impl FilesetTree {
         Ok(())
     }
 
-    /// Removes a path, and with its last path what stands there.
+    /// Removes a path. What stands there goes with its last path.
     pub fn remove(&mut self, path: &Path)
         ensures { self.new ≡ without path.now self.old }
     {
@@ -242,7 +239,7 @@ impl FilesetTree {
     }
 
     /// Moves what stands at a path, and all below it, to another path, in place of what stands
-    /// there; where both paths lead to one number, nothing changes. After an error the tree is as
+    /// there. If both paths lead to one number, nothing changes. After an error the tree is as
     /// before.
     pub fn rename(&mut self, alloc: Global, from: &Path, to: &Path) -> Result<(), OutOfMemory>
         ensures ok { OnOk result (self.new ≡ renamed from.now to.now self.old) }
@@ -315,7 +312,7 @@ impl FilesetTree {
         }
     }
 
-    /// Sets an owner's limits; an owner whose limits bind nothing has no entry. After an error the
+    /// Sets an owner's limits. An owner whose limits bind nothing has no entry. After an error the
     /// tree is as before.
     pub fn limit(&mut self, who: Owner, limits: Limits) -> Result<(), OutOfMemory>
         ensures ok { OnOk result
@@ -346,7 +343,7 @@ impl FilesetTree {
         Ok(FilesetSlot { tree, role })
     }
 
-    /// Another tree with the same files and directories, and no limits.
+    /// A tree with the same files and directories, and without limits.
     fn frozen(&self, alloc: Global) -> Result<FilesetTree, OutOfMemory>
         ensures { IfOk result (λ tree. tree ≡ record self.now { limits = map.empty }) }
     {
@@ -360,7 +357,7 @@ impl FilesetTree {
     }
 }
 
-/// The next number; where there is none, it is answered as out of memory.
+/// The next number. Fails as out of memory if there is none.
 fn number_after(number: u64) -> Result<u64, OutOfMemory>
     ensures ok { IfOk result (λ next. next ≡ number + 1) }
     ensures err { OnErr result (2 ^ 64 ≤ number + 1) }
@@ -381,7 +378,7 @@ fn count_paths(paths: &[(Path, u64)], number: u64) -> usize
     count
 }
 
-/// Whether another path leads to a number too.
+/// Whether another path leads to a number as well.
 fn is_named_elsewhere(paths: &[(Path, u64)], path: &Path, number: u64) -> bool
     ensures { result ≡ list_any (λ e. e.1 == number && not (same_path e.0 path.now)) paths.now }
 {
@@ -393,8 +390,8 @@ fn is_named_elsewhere(paths: &[(Path, u64)], path: &Path, number: u64) -> bool
     false
 }
 
-/// The paths without `to`, each that begins with `from` with that front exchanged for `to`. Of two
-/// paths that become one, the number of the first stays.
+/// The paths without `to`. In each that begins with `from`, that front is exchanged for `to`. If
+/// two paths become one, the number of the first stays.
 fn moved_paths(
     alloc: Global,
     paths: &[(Path, u64)],
@@ -416,7 +413,8 @@ fn moved_paths(
     Ok(moved)
 }
 
-/// A path that begins with `from`, with that front exchanged for `to`; any other as it is.
+/// A path that begins with `from`, with that front exchanged for `to`. Any other path stays as it
+/// is.
 fn exchanged(alloc: Global, path: &Path, from: &Path, to: &Path) -> Result<Path, OutOfMemory>
     ensures { IfOk result (λ exchanged. exchanged ≡ moved_path from.now to.now path.now) }
 {
@@ -439,7 +437,7 @@ fn below(alloc: Global, front: &Path, names: &[Name]) -> Result<Path, OutOfMemor
     Ok(Path::from_vec(all))
 }
 
-/// The name of a path that lies right below the directory at `parent`.
+/// The last name of a path that lies directly below the directory at `parent`.
 fn name_below<'a>(parent: &Path, path: &'a Path) -> Option<&'a Name>
     ensures { option_copied result ≡ name_of_row parent.now path.now }
 {
@@ -479,7 +477,7 @@ fn counts(who: Owner, root: Option<u64>, number: u64, node: &Node) -> bool
         }
 }
 
-/// The blocks of a node; a number that does not fit is answered as out of memory.
+/// The blocks of a node. A number that does not fit is reported as out of memory.
 fn node_blocks(node: &Node) -> Result<u64, OutOfMemory>
     ensures ok { IfOk result (λ blocks. blocks ≡ blocks_of node.now) }
     ensures err { OnErr result (2 ^ 64 ≤ blocks_of node.now) }
@@ -492,7 +490,7 @@ fn node_blocks(node: &Node) -> Result<u64, OutOfMemory>
     }
 }
 
-/// What an owner uses of these nodes, of which the root does not count.
+/// What an owner uses of these nodes. The root does not count.
 fn usage_of(nodes: &[(u64, Node)], who: Owner, root: Option<u64>) -> Result<Usage, OutOfMemory>
     ensures files { IfOk result (λ usage.
         usage.files ≡ length (filter (counts_for who root) nodes.now)) }
@@ -630,7 +628,7 @@ impl Role {
         }
     }
 
-    /// Whether a number lost its frozen content; an original's never does.
+    /// Whether a number lost its frozen content. No number of an original does.
     pub fn is_out_of_sync(&self, number: u64) -> bool
         ensures { result ≡ is_out_of_sync self.now number }
     {

@@ -1,18 +1,15 @@
 ghost use Rattle.std.specs.Prelude.{◌+◌, ◌≡◌, ◌≤◌, IfOk, List, None, OnErr, OnOk, Some, length, map as map_each, option_copied, ℕ};
-ghost use Rattle.domain_base.specs.declared.limits.TheConstants.{FILE_BYTES};
+ghost use Rattle.fileset_values.specs.domain_base.declared.limits.TheConstants.{FILE_BYTES};
 ghost use Rattle.fileset_model.specs.Apply.{empty_fileset, flagged_node, has_clone, linked, original_of, renamed, truncated_node, with_change, with_clone, with_node, with_tree, without, written_node};
 ghost use Rattle.fileset_model.specs.Usage.{with_limits};
 ghost use Rattle.fileset_model.specs.declared.fileset.FilesetSlot.{FilesetSlot as SlotOf};
 ghost use Rattle.fileset_model.specs.declared.fileset.Role.TheVariants.{Original as OriginalRole};
 ghost use Rattle.std.specs.FinMap as map;
 
-use crate::command::{Owner, Place};
 use crate::fileset::{FilesetSlot, FilesetTree, Limits, Role};
-use crate::names::{FilesetName, Path};
 use crate::node::Node;
-use crate::reply::FilesetItem;
-use domain_base::OutOfMemory;
-use sorted_entries::{find, place_of, put, take_away};
+use fileset_values::{FilesetItem, FilesetName, OutOfMemory, Owner, Path, Place};
+use sorted_sets::entries::{find, place_of, put, take_away};
 use std::alloc::Global;
 use std::marker::Model;
 
@@ -26,7 +23,7 @@ impl Model for Filesets {
     ghost use Rattle.std.specs.Prelude.{◌≡◌, IsTrue, List, ℕ};
     ghost use Rattle.std.specs.FinMap as map;
     ghost use Rattle.std.specs.Coded.{coded_ℕ, coded_list};
-    ghost use Rattle.fileset_model.specs.Orders.{name_cmp};
+    ghost use Rattle.fileset_values.specs.Orders.{name_cmp};
     ghost use Rattle.fileset_model.specs.declared.fileset.FilesetSlot.{FilesetSlot};
     ghost use Rattle.fileset_model.specs.contracts.fileset.FilesetSlot.{the_row};
 
@@ -63,8 +60,8 @@ impl Filesets {
         find(&self.slots, name)
     }
 
-    /// Puts a fileset under a name, in place of what had it. After an error the filesets are as
-    /// before.
+    /// Puts a fileset under a name, in place of any that had the name. After an error the filesets
+    /// are as before.
     pub fn insert(&mut self, name: FilesetName, slot: FilesetSlot) -> Result<(), OutOfMemory>
         ensures ok { OnOk result (self.new ≡ map.insert self.old name slot) }
         ensures err { OnErr result (self.new ≡ self.old) }
@@ -101,7 +98,7 @@ impl Filesets {
         Ok(number)
     }
 
-    /// Adds a node at a place; where there is no such fileset, nothing changes. After an error the
+    /// Adds a node at a place. If there is no such fileset, nothing changes. After an error the
     /// filesets are as before.
     pub fn add(
         &mut self,
@@ -122,7 +119,7 @@ impl Filesets {
         Ok(())
     }
 
-    /// Writes the bytes into the file at a place; where there is no such fileset, nothing changes.
+    /// Writes the bytes into the file at a place. If there is no such fileset, nothing changes.
     /// After an error the filesets are as before.
     pub fn write(
         &mut self,
@@ -146,8 +143,8 @@ impl Filesets {
         Ok(())
     }
 
-    /// Sets the size of the file at a place; where there is no such fileset, nothing changes. After
-    /// an error the filesets are as before.
+    /// Sets the size of the file at a place. If there is no such fileset, nothing changes. After an
+    /// error the filesets are as before.
     pub fn truncate(&mut self, alloc: Global, place: &Place, size: u64) -> Result<(), OutOfMemory>
         ensures ok { OnOk result (self.new ≡ with_tree self.old place.now.fileset
             (with_change place.now.path (truncated_node size))) }
@@ -160,8 +157,8 @@ impl Filesets {
         Ok(())
     }
 
-    /// Sets whether the data of the file at a place is logged; where there is no such fileset,
-    /// nothing changes.
+    /// Sets whether the data of the file at a place is logged. If there is no such fileset, nothing
+    /// changes.
     pub fn set_logged(&mut self, place: &Place, logged: bool)
         ensures { self.new ≡ with_tree self.old place.now.fileset
             (with_change place.now.path (flagged_node logged)) }
@@ -172,7 +169,7 @@ impl Filesets {
         self.slots[at].1.tree.set_logged(&place.path, logged);
     }
 
-    /// Removes what stands at a place; where there is no such fileset, nothing changes.
+    /// Removes what stands at a place. If there is no such fileset, nothing changes.
     pub fn remove(&mut self, place: &Place)
         ensures { self.new ≡ with_tree self.old place.now.fileset (without place.now.path) }
     {
@@ -182,7 +179,7 @@ impl Filesets {
         self.slots[at].1.tree.remove(&place.path);
     }
 
-    /// Lets a second path lead to the file at a place; where there is no such fileset, nothing
+    /// Makes a second path lead to the file at a place. If there is no such fileset, nothing
     /// changes. After an error the filesets are as before.
     pub fn link(&mut self, alloc: Global, place: &Place, to: &Path) -> Result<(), OutOfMemory>
         ensures ok { OnOk result
@@ -198,8 +195,8 @@ impl Filesets {
     }
 
     /// Moves what stands at a place, and all below it, to another path, in place of what stands
-    /// there; where there is no such fileset, or both paths lead to one number, nothing changes.
-    /// After an error the filesets are as before.
+    /// there. If there is no such fileset, or both paths lead to one number, nothing changes. After
+    /// an error the filesets are as before.
     pub fn rename(&mut self, alloc: Global, place: &Place, to: &Path) -> Result<(), OutOfMemory>
         ensures ok { OnOk result
             (self.new ≡ with_tree self.old place.now.fileset (renamed place.now.path to.now)) }
@@ -224,14 +221,14 @@ impl Filesets {
         false
     }
 
-    /// Removes the fileset with this name; where there is none, nothing changes.
+    /// Removes the fileset with this name. If there is none, nothing changes.
     pub fn remove_fileset(&mut self, name: &FilesetName)
         ensures { self.new ≡ map.remove self.old name.now }
     {
         take_away(&mut self.slots, name);
     }
 
-    /// Adds a frozen copy of a fileset under a new name; where there is no such fileset, nothing
+    /// Adds a frozen copy of a fileset under a new name. If there is no such fileset, nothing
     /// changes. After an error the filesets are as before.
     pub fn add_clone(
         &mut self,
@@ -250,8 +247,8 @@ impl Filesets {
         Ok(())
     }
 
-    /// Sets an owner's limits in a fileset; where there is no such fileset, nothing changes. After
-    /// an error the filesets are as before.
+    /// Sets an owner's limits in a fileset. If there is no such fileset, nothing changes. After an
+    /// error the filesets are as before.
     pub fn limit(
         &mut self,
         name: &FilesetName,

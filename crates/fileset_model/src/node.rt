@@ -1,16 +1,16 @@
 ghost use Rattle.std.specs.Prelude.{◌+◌, ◌≡◌, ◌≤◌, IfOk, OnErr, OnOk, length};
-ghost use Rattle.domain_base.specs.declared.limits.TheConstants.{FILE_BYTES};
+ghost use Rattle.fileset_values.specs.domain_base.declared.limits.TheConstants.{FILE_BYTES};
 ghost use Rattle.fileset_model.specs.Apply.{flagged_node, truncated_node, written_node};
 ghost use Rattle.fileset_model.specs.Paths.{is_directory};
 
 use crate::page_map::PageMap;
-use domain_base::OutOfMemory;
+use fileset_values::OutOfMemory;
 use std::alloc::Global;
 
-/// What a path of a fileset leads to.
+/// A file or directory of a fileset, as a path leads to it.
 #[derive(Drop)]
 pub enum Node {
-    /// A file of `size` bytes. The pages of it that are absent read as zeros.
+    /// A file of `size` bytes. Its absent pages read as zeros.
     File {
         uid: u32,
         gid: u32,
@@ -34,7 +34,8 @@ impl Node {
         }
     }
 
-    /// Writes the bytes into a file; a directory stays. After an error the node is as before.
+    /// Writes the bytes into a file. A directory stays as it is. After an error the node is as
+    /// before.
     pub fn write(&mut self, alloc: Global, offset: u64, bytes: &[u8]) -> Result<(), OutOfMemory>
         requires { offset + length bytes.now ≤ FILE_BYTES }
         ensures ok { OnOk result (self.new ≡ written_node offset bytes.now self.old) }
@@ -50,7 +51,7 @@ impl Node {
         Ok(())
     }
 
-    /// Sets the size of a file; a directory stays. After an error the node is as before.
+    /// Sets the size of a file. A directory stays as it is. After an error the node is as before.
     pub fn truncate(&mut self, alloc: Global, new_size: u64) -> Result<(), OutOfMemory>
         ensures ok { OnOk result (self.new ≡ truncated_node new_size self.old) }
         ensures err { OnErr result (self.new ≡ self.old) }
@@ -65,7 +66,7 @@ impl Node {
         Ok(())
     }
 
-    /// Sets whether the data of a file is logged; a directory stays.
+    /// Sets whether the data of a file is logged. A directory stays as it is.
     pub fn set_logged(&mut self, flag: bool)
         ensures { self.new ≡ flagged_node flag self.old }
     {
@@ -75,7 +76,7 @@ impl Node {
         }
     }
 
-    /// Another one with the same content.
+    /// A node with the same content.
     pub fn copy(&self, alloc: Global) -> Result<Node, OutOfMemory>
         ensures { IfOk result (λ copy. copy ≡ self.now) }
     {

@@ -3,19 +3,19 @@ ghost use Rattle.std.specs.List.{range_with_len};
 ghost use Rattle.std.specs.Option.{option_map_or};
 ghost use Rattle.std.specs.Ordering.{nat_cmp};
 ghost use Rattle.std.specs.FinMap.Entries.{find as found_at, is_sorted, put as put_at, where_key};
-ghost use Rattle.domain_base.specs.Page.{overwritten, zero_bytes};
-ghost use Rattle.domain_base.specs.declared.limits.TheConstants.{FILE_BYTES};
-ghost use Rattle.sorted_entries.specs.Entries.{put_each};
+ghost use Rattle.fileset_values.specs.domain_base.Page.{overwritten, zero_bytes};
+ghost use Rattle.fileset_values.specs.domain_base.declared.limits.TheConstants.{FILE_BYTES};
+ghost use Rattle.sorted_sets.specs.Entries.{put_each};
 ghost use Rattle.fileset_model.specs.Pages.{absent_pages, byte_at as byte_of, page_after as bytes_after, pages_of, truncated, written};
 ghost use Rattle.std.specs.FinMap as map;
 
-use domain_base::limits::{FILE_BYTES, PAGE_BYTES};
-use domain_base::{OutOfMemory, Page};
-use sorted_entries::{find, place_of, put};
+use fileset_values::limits::{FILE_BYTES, PAGE_BYTES};
+use fileset_values::{OutOfMemory, Page};
+use sorted_sets::entries::{find, place_of, put};
 use std::alloc::Global;
 use std::marker::Model;
 
-/// The pages of a file that are there, by their numbers.
+/// The pages of a file that are present, by their numbers.
 #[derive(Drop)]
 pub struct PageMap {
     pub(crate) pages: Vec<(u64, Page)>,
@@ -37,7 +37,7 @@ impl Model for PageMap {
 }
 
 impl PageMap {
-    /// No pages.
+    /// A map without pages.
     pub fn new(alloc: Global) -> PageMap
         ensures { result ≡ map.empty }
     {
@@ -46,14 +46,14 @@ impl PageMap {
         }
     }
 
-    /// How many pages there are.
+    /// How many pages are present.
     pub fn len(&self) -> usize
         ensures { result ≡ map.len self.now }
     {
         self.pages.len()
     }
 
-    /// The bytes from the offset on, so many; those of absent pages are zeros.
+    /// The `count` bytes from the offset on. The bytes of absent pages are zeros.
     pub fn read(&self, alloc: Global, offset: u64, count: u64) -> Result<Vec<u8>, OutOfMemory>
         requires { offset + count < 2 ^ 64 }
         ensures { IfOk result (λ v.
@@ -71,14 +71,14 @@ impl PageMap {
         Ok(bytes)
     }
 
-    /// Whether page `q` is there.
+    /// Whether page `q` is present.
     pub fn contains(&self, q: u64) -> bool
         ensures { result ≡ map.contains_key self.now q }
     {
         !is_absent(&self.pages, q)
     }
 
-    /// The numbers of the pages that are there, in rising order.
+    /// The numbers of the present pages, in rising order.
     pub fn numbers(&self, alloc: Global) -> Result<Vec<u64>, OutOfMemory>
         ensures { IfOk result (λ numbers. numbers.items ≡ map.keys self.now) }
     {
@@ -89,7 +89,7 @@ impl PageMap {
         Ok(numbers)
     }
 
-    /// How many of the pages that so many bytes from the offset on lie in are absent.
+    /// The number of absent pages among those that hold the `len` bytes from the offset on.
     pub fn count_absent(&self, offset: u64, len: u64) -> u64
         requires { offset + len < 2 ^ 64 }
         ensures { result ≡ absent_pages self.now offset len }
@@ -106,8 +106,8 @@ impl PageMap {
         absent
     }
 
-    /// Writes the bytes at the offset; what else lies in a page that was absent is zeros. After an
-    /// error the pages are as before.
+    /// Writes the bytes at the offset. The other bytes of a page that was absent are zeros. After
+    /// an error the pages are as before.
     pub fn write(&mut self, alloc: Global, offset: u64, bytes: &[u8]) -> Result<(), OutOfMemory>
         requires { offset + length bytes.now ≤ FILE_BYTES }
         ensures ok { OnOk result (self.new ≡ written self.old offset bytes.now) }
@@ -118,9 +118,9 @@ impl PageMap {
         Ok(())
     }
 
-    /// Cuts a file's pages at a size in bytes. A page that lies behind the size is dropped, and one
-    /// that it cuts in two keeps its front and has zeros from there on. After an error the pages
-    /// are as before.
+    /// Cuts a file's pages at a size in bytes. A page that begins at the size or after it is
+    /// dropped. A page that the size cuts in two keeps its front and has zeros from there on. After
+    /// an error the pages are as before.
     pub fn truncate(&mut self, alloc: Global, size: u64) -> Result<(), OutOfMemory>
         ensures ok { OnOk result (self.new ≡ truncated self.old size) }
         ensures err { OnErr result (self.new ≡ self.old) }
@@ -131,7 +131,7 @@ impl PageMap {
         Ok(())
     }
 
-    /// Another one with the same pages.
+    /// A map with the same pages.
     pub fn copy(&self, alloc: Global) -> Result<PageMap, OutOfMemory>
         ensures { IfOk result (λ copy. copy ≡ self.now) }
     {
@@ -150,7 +150,7 @@ fn is_absent(pages: &[(u64, Page)], q: u64) -> bool
     }
 }
 
-/// Page `q`, or these zeros where it is absent.
+/// Page `q`, or these zeros if it is absent.
 fn page_or<'a>(pages: &'a [(u64, Page)], q: u64, zeros: &'a Page) -> &'a Page
     requires { IsTrue (is_sorted nat_cmp pages.now) }
     ensures { result.now
@@ -162,7 +162,7 @@ fn page_or<'a>(pages: &'a [(u64, Page)], q: u64, zeros: &'a Page) -> &'a Page
     }
 }
 
-/// The bytes from `x` on that lie in its page, at most so many.
+/// The bytes from `x` to the end of its page, but at most `most` of them.
 fn bytes_in_page<'a>(pages: &'a [(u64, Page)], x: u64, most: u64, zeros: &'a Page) -> &'a [u8]
     requires sorted { IsTrue (is_sorted nat_cmp pages.now) }
     requires zeros { zeros.now ≡ zero_bytes PAGE_BYTES }
@@ -226,7 +226,7 @@ fn page_after(
     Ok(page)
 }
 
-/// Page `q`, or a page of zeros where it is absent.
+/// Page `q`, or a page of zeros if it is absent.
 fn page_or_zeros(alloc: Global, pages: &[(u64, Page)], q: u64) -> Result<Page, OutOfMemory>
     requires { IsTrue (is_sorted nat_cmp pages.now) }
     ensures { IfOk result (λ page. page ≡ unwrap_or
@@ -270,7 +270,8 @@ fn keep_below(pages: &mut Vec<(u64, Page)>, size: u64)
     pages.retain(|entry| begins_below(entry.0, size));
 }
 
-/// Sets all bytes behind the size to 0 in the page that it cuts in two, where that page is present.
+/// Sets to 0 all bytes from the size on in the page that the size cuts in two, if that page is
+/// present.
 fn zero_rest(pages: &mut Vec<(u64, Page)>, size: u64, zeros: &Page)
     requires sorted { IsTrue (is_sorted nat_cmp pages.old.items) }
     requires zeros { zeros.now ≡ zero_bytes PAGE_BYTES }

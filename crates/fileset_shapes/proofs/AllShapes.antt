@@ -5,15 +5,15 @@ use Rattle.std.proofs.lemmas.Slice.Eq.{bytes_eq-Decides}
 use Rattle.std.proofs.lemmas.Option.{slice_get_within}
 use Rattle.std.specs.List.{AllByRecursion, IsDistinct}
 use Rattle.std.specs.Option.{option_map, option_map_or}
-use Rattle.page_store.specs.Pages.{Pages}
-use Rattle.fileset_model.specs.Orders.{Name}
-use Rattle.fileset_model.specs.Paths.{same_name}
-use Rattle.fileset_table.specs.Table.{IsTable, Table, entry_of, has_name, share_name}
-use Rattle.fileset_table.specs.declared.slot.FilesetEntry.{FilesetEntry}
-use Rattle.fileset_table.specs.declared.slot.SlotItem.{SlotItem}
-use Rattle.fileset_table.specs.declared.slot.SlotItem.TheVariants as slot
-use Rattle.domain_layout.specs.Shape.{FilesetShape, HasFileset, IsShapeOf, Shapes}
-use Rattle.layout_laws.proofs.OnePage.{some_same}
+use Rattle.filesets_reading.specs.page_store.Pages.{Pages}
+use Rattle.filesets_reading.specs.fileset_values.Orders.{Name}
+use Rattle.filesets_reading.specs.fileset_model.Paths.{same_name}
+use Rattle.filesets_reading.specs.fileset_table.Table.{IsTable, Table, entry_of, has_name, share_name}
+use Rattle.filesets_reading.specs.fileset_table.declared.slot.FilesetEntry.{FilesetEntry}
+use Rattle.filesets_reading.specs.fileset_table.declared.slot.SlotItem.{SlotItem}
+use Rattle.filesets_reading.specs.fileset_table.declared.slot.SlotItem.TheVariants as slot
+use Rattle.filesets_reading.specs.domain_layout.Shape.{FilesetShape, HasFileset, IsShapeOf, Shapes}
+use Rattle.filesets_reading.proofs.OfDomainLayout.OnePage.{some_same}
 use Rattle.fileset_shapes.specs.Found.{SeesFileset, SeesItem, SeesShape}
 use Rattle.fileset_shapes.specs.Shapes.{AreShapesSeen, SeesSlots}
 use Rattle.fileset_shapes.specs.declared.found.FilesetSeen.{FilesetSeen}

@@ -1,17 +1,17 @@
 -- A page stands where a fileset has one of a file.
 use Rattle.std.proofs.Common.{◌≡◌, ℕ, List, Some, IsSome, IsSomeAnd}
-use Rattle.domain_base.specs.declared.place.Home.{Home}
-use Rattle.domain_base.specs.declared.place.Tag.{Tag}
-use Rattle.page_store.specs.Pages.{Pages}
-use Rattle.bmt_mcells.specs.Chain.{PlacedCell}
-use Rattle.fileset_table.specs.Page.{IsTablePage}
-use Rattle.domain_layout.specs.DirectoryRules.{Has}
-use Rattle.domain_layout.specs.Faults.{SaysTable}
-use Rattle.domain_layout.specs.Layout.{IsLayout, Layout}
-use Rattle.domain_layout.specs.Owners.{frame_of}
-use Rattle.domain_layout.specs.Reached.{MayBe}
-use Rattle.domain_layout.specs.Seen.{SeenFile}
-use Rattle.layout_laws.proofs.OnePage.{one_of}
+use Rattle.filesets_reading.specs.domain_base.declared.place.Home.{Home}
+use Rattle.filesets_reading.specs.domain_base.declared.place.Tag.{Tag}
+use Rattle.filesets_reading.specs.page_store.Pages.{Pages}
+use Rattle.filesets_reading.specs.metadata_cells.Chain.{PlacedCell}
+use Rattle.filesets_reading.specs.fileset_table.Page.{IsTablePage}
+use Rattle.filesets_reading.specs.domain_layout.DirectoryRules.{Has}
+use Rattle.filesets_reading.specs.domain_layout.Faults.{SaysTable}
+use Rattle.filesets_reading.specs.domain_layout.Layout.{IsLayout, Layout}
+use Rattle.filesets_reading.specs.domain_layout.Owners.{frame_of}
+use Rattle.filesets_reading.specs.domain_layout.Reached.{MayBe}
+use Rattle.filesets_reading.specs.domain_layout.Seen.{SeenFile}
+use Rattle.filesets_reading.proofs.OfDomainLayout.OnePage.{one_of}
 use Rattle.fileset_shapes.specs.Found.{HasAllPages}
 
 module _ (pages : Pages) (layout : Layout) (laid : IsLayout pages layout) where

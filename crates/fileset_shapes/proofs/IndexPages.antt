@@ -2,27 +2,27 @@
 use Rattle.std.proofs.Common.{◌≡◌, ◌∙◌, ℕ, suc, ◌+◌, ◌≤◌, List, [], ◌∷◌, ◌++◌, length, Option, Some, None, IsSomeAnd, slice_get, refl, sym, ap, subst, arith}
 use Rattle.std.specs.Option.{option_map}
 use Rattle.std.specs.Prelude.{map, unwrap_or}
-use Rattle.domain_base.specs.declared.place.CellAt.{CellAt}
-use Rattle.domain_base.specs.declared.place.Home.{Home}
-use Rattle.page_store.specs.Bitfiles.{shown_index}
-use Rattle.page_store.specs.Pages.{Pages}
-use Rattle.record_table.specs.Fields.{number_at}
-use Rattle.record_table.specs.Records.{Allowed}
-use Rattle.record_table.specs.declared.record.Record.{Record}
-use Rattle.record_table.specs.declared.record.Record.TheVariants as written
-use Rattle.bmt_mcells.specs.Cell.{Cell, record_of}
-use Rattle.bmt_mcells.specs.Chain.{PlacedCell, StandsAt}
-use Rattle.tag_dirs.specs.TagPage.{next_of}
-use Rattle.bitfile_cells.specs.Files.{HasFile, IsFile}
-use Rattle.bitfile_core.specs.Files.{first_record}
-use Rattle.bitfile_core.specs.Shown.{AreIndexPages}
-use Rattle.bitfile_core.proofs.Room.{allowed_found}
-use Rattle.domain_layout.specs.DirectoryRules.{AreReadPages}
-use Rattle.domain_layout.specs.Reached.{Frame, IsRead, Reaches, begins, goes_on, index_way, on_volume}
-use Rattle.layout_laws.proofs.OnePage.{some_same}
-use Rattle.layout_laws.proofs.OwnedOnce.{on_a_volume}
+use Rattle.filesets_reading.specs.domain_base.declared.place.CellAt.{CellAt}
+use Rattle.filesets_reading.specs.domain_base.declared.place.Home.{Home}
+use Rattle.filesets_reading.specs.page_store.Bitfiles.{shown_index}
+use Rattle.filesets_reading.specs.page_store.Pages.{Pages}
+use Rattle.filesets_reading.specs.cell_records.Fields.{number_at}
+use Rattle.filesets_reading.specs.cell_records.Records.{Allowed}
+use Rattle.filesets_reading.specs.cell_records.declared.record.Record.{Record}
+use Rattle.filesets_reading.specs.cell_records.declared.record.Record.TheVariants as written
+use Rattle.filesets_reading.specs.metadata_cells.Cell.{Cell, record_of}
+use Rattle.filesets_reading.specs.metadata_cells.Chain.{PlacedCell, StandsAt}
+use Rattle.filesets_reading.specs.tag_dirs.TagPage.{next_of}
+use Rattle.filesets_reading.specs.file_chains.Files.{HasFile, IsFile}
+use Rattle.filesets_reading.specs.fileset_files.Files.{first_record}
+use Rattle.filesets_reading.specs.fileset_files.Shown.{AreIndexPages}
+use Rattle.filesets_reading.proofs.OfFilesetFiles.Room.{allowed_found}
+use Rattle.filesets_reading.specs.domain_layout.DirectoryRules.{AreReadPages}
+use Rattle.filesets_reading.specs.domain_layout.Reached.{Frame, IsRead, Reaches, begins, goes_on, index_way, on_volume}
+use Rattle.filesets_reading.proofs.OfDomainLayout.OnePage.{some_same}
+use Rattle.filesets_reading.proofs.OfDomainLayout.OwnedOnce.{on_a_volume}
 use Rattle.filesets_reading.proofs.Ways.{IsWayTo, IsWholeWay, comes_read, get_map, map_pushed, pushed, way_begins, way_ends, way_on}
-use Rattle.page_filling.specs.Stored.{bytes_at}
+use Rattle.fileset_shapes.specs.Stored.{bytes_at}
 use Rattle.fileset_shapes.specs.Found.{index_shown}
 use Rattle.fileset_shapes.specs.Indexes.{HasIndexVolume, IsReadIndex}
 

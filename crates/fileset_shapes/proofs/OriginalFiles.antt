@@ -1,39 +1,39 @@
 -- Where no rule is broken: what a fileset has is right, and how an original's files are shown.
 use Rattle.std.proofs.Common.{◌≡◌, ◌∙◌, inl, inr, ℕ, ◌<◌, Bool, true, false, cond, nat_lt, List, ◌∷◌, Option, Some, None, IfSome, IsSome, IsSomeAnd, slice_get, refl, sym, ap, subst, arith}
 use Rattle.std.specs.Option.{option_and_then, option_map}
-use Rattle.domain_base.specs.declared.place.CellAt.{CellAt}
-use Rattle.domain_base.specs.declared.place.Home.{Home}
-use Rattle.domain_base.specs.declared.place.Kind.{Kind}
-use Rattle.domain_base.specs.declared.place.Kind.TheVariants.{Directory, File}
-use Rattle.domain_base.specs.declared.place.Tag.{Tag}
-use Rattle.page_store.specs.Pages.{Pages}
-use Rattle.record_table.specs.Fields.{number_at}
-use Rattle.record_table.specs.declared.record.Record.{Record}
-use Rattle.bmt_mcells.specs.Cell.{record_of}
-use Rattle.bmt_mcells.specs.CellPage.{home_of}
-use Rattle.bmt_mcells.specs.Chain.{PlacedCell}
-use Rattle.tag_dirs.specs.declared.dir.TagPlace.{TagPlace}
-use Rattle.tag_dirs.specs.Directory.{IsDirectoryAt, cell_of}
-use Rattle.extent_maps.specs.Runs.{Places, home_at}
-use Rattle.extent_maps.specs.declared.run.PagePlace.{PagePlace}
-use Rattle.extent_maps.specs.declared.run.PagePlace.TheVariants.{Absent, At, Hole}
-use Rattle.extent_records.specs.Writing.{places_before}
-use Rattle.bitfile_cells.specs.Files.{AreFile, IsFile, places_of}
-use Rattle.bitfile_core.specs.Files.{AreFiles, Chains, LeadsToFile, attributes_of, is_removed, keep_of, of_live}
-use Rattle.bitfile_core.specs.Shown.{AreIndexPages, IsWhat, ShowsAt, ShowsFile, index_in, index_of, page_there, shown_page}
-use Rattle.bitfile_core.specs.declared.attributes.Attributes.{Attributes}
-use Rattle.page_filling.specs.Stored.{AreStored}
-use Rattle.domain_layout.specs.DirectoryRules.{Has, HasIndexAt, HasWrongSize, IsWrongFile}
-use Rattle.domain_layout.proofs.NoTables.{none_of_tables}
-use Rattle.domain_layout.specs.Faults.{HasNoFault, HasNoTablesFault}
-use Rattle.domain_layout.specs.Layout.{IsLayout, Layout}
-use Rattle.domain_layout.specs.Owners.{frame_of}
-use Rattle.domain_layout.specs.Reached.{MayBe}
-use Rattle.domain_layout.specs.Seen.{SeenFile, kept_by, seen_in}
-use Rattle.domain_layout.specs.TagRules.{HasTags, IsFirstOf}
-use Rattle.layout_laws.proofs.Named.{first_there}
-use Rattle.layout_laws.proofs.OnePage.{some_same}
-use Rattle.layout_laws.proofs.OwnedOnce.{index_read, no_files, no_index}
+use Rattle.filesets_reading.specs.domain_base.declared.place.CellAt.{CellAt}
+use Rattle.filesets_reading.specs.domain_base.declared.place.Home.{Home}
+use Rattle.filesets_reading.specs.domain_base.declared.place.Kind.{Kind}
+use Rattle.filesets_reading.specs.domain_base.declared.place.Kind.TheVariants.{Directory, File}
+use Rattle.filesets_reading.specs.domain_base.declared.place.Tag.{Tag}
+use Rattle.filesets_reading.specs.page_store.Pages.{Pages}
+use Rattle.filesets_reading.specs.cell_records.Fields.{number_at}
+use Rattle.filesets_reading.specs.cell_records.declared.record.Record.{Record}
+use Rattle.filesets_reading.specs.metadata_cells.Cell.{record_of}
+use Rattle.filesets_reading.specs.metadata_cells.CellPage.{home_of}
+use Rattle.filesets_reading.specs.metadata_cells.Chain.{PlacedCell}
+use Rattle.filesets_reading.specs.tag_dirs.declared.dir.TagPlace.{TagPlace}
+use Rattle.filesets_reading.specs.tag_dirs.Directory.{IsDirectoryAt, cell_of}
+use Rattle.filesets_reading.specs.extent_maps.Runs.{Places, home_at}
+use Rattle.filesets_reading.specs.extent_maps.declared.run.PagePlace.{PagePlace}
+use Rattle.filesets_reading.specs.extent_maps.declared.run.PagePlace.TheVariants.{Absent, At, Hole}
+use Rattle.filesets_reading.specs.extent_records.Writing.{places_before}
+use Rattle.filesets_reading.specs.file_chains.Files.{AreFile, IsFile, places_of}
+use Rattle.filesets_reading.specs.fileset_files.Files.{AreFiles, Chains, LeadsToFile, attributes_of, is_removed, keep_of, of_live}
+use Rattle.filesets_reading.specs.fileset_files.Shown.{AreIndexPages, IsWhat, ShowsAt, ShowsFile, index_in, index_of, page_there, shown_page}
+use Rattle.filesets_reading.specs.fileset_files.declared.attributes.Attributes.{Attributes}
+use Rattle.fileset_shapes.specs.Stored.{AreStored}
+use Rattle.filesets_reading.specs.domain_layout.DirectoryRules.{Has, HasIndexAt, HasWrongSize, IsWrongFile}
+use Rattle.filesets_reading.proofs.OfDomainLayout.NoTables.{none_of_tables}
+use Rattle.filesets_reading.specs.domain_layout.Faults.{HasNoFault, HasNoTablesFault}
+use Rattle.filesets_reading.specs.domain_layout.Layout.{IsLayout, Layout}
+use Rattle.filesets_reading.specs.domain_layout.Owners.{frame_of}
+use Rattle.filesets_reading.specs.domain_layout.Reached.{MayBe}
+use Rattle.filesets_reading.specs.domain_layout.Seen.{SeenFile, kept_by, seen_in}
+use Rattle.filesets_reading.specs.domain_layout.TagRules.{HasTags, IsFirstOf}
+use Rattle.filesets_reading.proofs.OfDomainLayout.Named.{first_there}
+use Rattle.filesets_reading.proofs.OfDomainLayout.OnePage.{some_same}
+use Rattle.filesets_reading.proofs.OfDomainLayout.OwnedOnce.{index_read, no_files, no_index}
 use Rattle.filesets_reading.specs.Seen.{IsSeenAs, home_in}
 use Rattle.filesets_reading.specs.declared.seen.SeenPages.{SeenPages}
 use Rattle.filesets_reading.proofs.Originals.{keep_there}

@@ -1,42 +1,42 @@
 -- What is read at a tag of a clone.
 use Rattle.std.proofs.Common.{◌≡◌, ◌∙◌, ◌⊎◌, inl, inr, ℕ, Bool, true, false, cond, nat_lt, List, [], ◌∷◌, Option, Some, None, IfSome, IsSomeAnd, slice_get, refl, sym, ap, subst, ⊎_elim}
 use Rattle.std.specs.Option.{option_and_then, option_map_or}
-use Rattle.domain_base.specs.declared.place.CellAt.{CellAt}
-use Rattle.domain_base.specs.declared.place.Home.{Home}
-use Rattle.domain_base.specs.declared.place.Kind.{Kind}
-use Rattle.domain_base.specs.declared.place.Kind.TheVariants.{Directory, File}
-use Rattle.domain_base.specs.declared.place.Tag.{Tag}
-use Rattle.page_store.specs.Pages.{Pages}
-use Rattle.bmt_mcells.specs.Chain.{LinksFrom, PlacedCell}
-use Rattle.tag_dirs.specs.Directory.{cell_of}
-use Rattle.extent_maps.specs.Runs.{Places, home_at}
-use Rattle.extent_maps.specs.declared.run.PagePlace.{PagePlace}
-use Rattle.extent_maps.specs.declared.run.PagePlace.TheVariants.{Absent, At, Hole}
-use Rattle.bitfile_cells.specs.Files.{AreFile, IsFile, places_of}
-use Rattle.bitfile_core.specs.Files.{AreFiles, Chains, LeadsToFile, attributes_of, first_record, is_removed}
-use Rattle.bitfile_core.specs.declared.attributes.Attributes.{Attributes}
-use Rattle.chain_release.specs.Reading.{own_or, read_home}
-use Rattle.fileset_table.specs.Table.{entry_of}
-use Rattle.fileset_table.specs.declared.slot.FilesetEntry.{FilesetEntry}
-use Rattle.fileset_table.specs.declared.slot.SlotItem.{SlotItem}
-use Rattle.fileset_table.specs.declared.slot.SlotItem.TheVariants as slot
-use Rattle.domain_layout.proofs.NoTables.{none_of_extents}
-use Rattle.domain_layout.proofs.There.{is_not_there, is_there}
+use Rattle.filesets_reading.specs.domain_base.declared.place.CellAt.{CellAt}
+use Rattle.filesets_reading.specs.domain_base.declared.place.Home.{Home}
+use Rattle.filesets_reading.specs.domain_base.declared.place.Kind.{Kind}
+use Rattle.filesets_reading.specs.domain_base.declared.place.Kind.TheVariants.{Directory, File}
+use Rattle.filesets_reading.specs.domain_base.declared.place.Tag.{Tag}
+use Rattle.filesets_reading.specs.page_store.Pages.{Pages}
+use Rattle.filesets_reading.specs.metadata_cells.Chain.{LinksFrom, PlacedCell}
+use Rattle.filesets_reading.specs.tag_dirs.Directory.{cell_of}
+use Rattle.filesets_reading.specs.extent_maps.Runs.{Places, home_at}
+use Rattle.filesets_reading.specs.extent_maps.declared.run.PagePlace.{PagePlace}
+use Rattle.filesets_reading.specs.extent_maps.declared.run.PagePlace.TheVariants.{Absent, At, Hole}
+use Rattle.filesets_reading.specs.file_chains.Files.{AreFile, IsFile, places_of}
+use Rattle.filesets_reading.specs.fileset_files.Files.{AreFiles, Chains, LeadsToFile, attributes_of, first_record, is_removed}
+use Rattle.filesets_reading.specs.fileset_files.declared.attributes.Attributes.{Attributes}
+use Rattle.filesets_reading.specs.file_release.Reading.{own_or, read_home}
+use Rattle.filesets_reading.specs.fileset_table.Table.{entry_of}
+use Rattle.filesets_reading.specs.fileset_table.declared.slot.FilesetEntry.{FilesetEntry}
+use Rattle.filesets_reading.specs.fileset_table.declared.slot.SlotItem.{SlotItem}
+use Rattle.filesets_reading.specs.fileset_table.declared.slot.SlotItem.TheVariants as slot
+use Rattle.filesets_reading.proofs.OfDomainLayout.NoTables.{none_of_extents}
+use Rattle.filesets_reading.proofs.OfDomainLayout.There.{is_not_there, is_there}
 use Rattle.filesets_reading.proofs.ChainsThere.{file_there}
-use Rattle.domain_layout.specs.Layout.{first_tag_of}
-use Rattle.page_filling.specs.Stored.{AreStored}
-use Rattle.domain_layout.specs.DirectoryRules.{Has, IsInClone}
-use Rattle.domain_layout.specs.Reached.{MayBe}
-use Rattle.domain_layout.specs.Seen.{IsOfClone, IsOwn, IsOwnUnless, IsSource, SeenFile, frozen_of, is_in_sync, seen_in, seen_through, source_of}
-use Rattle.domain_layout.specs.Shape.{HasChains, ShowsSeen, shown_at}
-use Rattle.domain_layout.specs.Owners.{frame_of}
-use Rattle.domain_layout.specs.TagRules.{HasTags, IsFirstOf}
+use Rattle.filesets_reading.specs.domain_layout.Layout.{first_tag_of}
+use Rattle.fileset_shapes.specs.Stored.{AreStored}
+use Rattle.filesets_reading.specs.domain_layout.DirectoryRules.{Has, IsInClone}
+use Rattle.filesets_reading.specs.domain_layout.Reached.{MayBe}
+use Rattle.filesets_reading.specs.domain_layout.Seen.{IsOfClone, IsOwn, IsOwnUnless, IsSource, SeenFile, frozen_of, is_in_sync, seen_in, seen_through, source_of}
+use Rattle.filesets_reading.specs.domain_layout.Shape.{HasChains, ShowsSeen, shown_at}
+use Rattle.filesets_reading.specs.domain_layout.Owners.{frame_of}
+use Rattle.filesets_reading.specs.domain_layout.TagRules.{HasTags, IsFirstOf}
 use Rattle.filesets_reading.specs.Seen.{HasFewHomes, IsSeenAs, IsSeenThere}
 use Rattle.filesets_reading.specs.declared.seen.SeenPages.{SeenPages}
-use Rattle.layout_laws.proofs.OnePage.{some_same}
-use Rattle.shape_reading.specs.Clones.{AreOfClone, ReadsOfClone}
-use Rattle.shape_reading.specs.declared.files.FilesetFiles.{FilesetFiles}
-use Rattle.shape_reading.proofs.OwnFiles.{named_source}
+use Rattle.filesets_reading.proofs.OfDomainLayout.OnePage.{some_same}
+use Rattle.fileset_shapes.specs.Clones.{AreOfClone, ReadsOfClone}
+use Rattle.fileset_shapes.specs.declared.files.FilesetFiles.{FilesetFiles}
+use Rattle.fileset_shapes.proofs.OwnFiles.{named_source}
 use Rattle.fileset_shapes.specs.Files.{AreClones, ReadsClone, ReadsCloneAt}
 use Rattle.fileset_shapes.specs.Found.{index_shown, shown_by, shown_pages}
 use Rattle.fileset_shapes.specs.declared.found.TaggedFile.{TaggedFile}

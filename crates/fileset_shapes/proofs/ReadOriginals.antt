@@ -1,28 +1,28 @@
 -- What is read at a tag of an original.
 use Rattle.std.proofs.Common.{◌≡◌, ◌∙◌, List, [], ◌∷◌, Option, Some, None, IfSome, IsSomeAnd, refl, sym, subst}
 use Rattle.std.specs.Option.{option_and_then}
-use Rattle.domain_base.specs.declared.place.CellAt.{CellAt}
-use Rattle.domain_base.specs.declared.place.Home.{Home}
-use Rattle.domain_base.specs.declared.place.Tag.{Tag}
-use Rattle.page_store.specs.Pages.{Pages}
-use Rattle.bmt_mcells.specs.Chain.{PlacedCell}
-use Rattle.tag_dirs.specs.declared.dir.TagPlace.{TagPlace}
-use Rattle.tag_dirs.specs.Directory.{cell_of}
-use Rattle.bitfile_cells.specs.Files.{HasFile, IsFile}
-use Rattle.bitfile_core.specs.Files.{AreFiles, Chains, LeadsToFile}
-use Rattle.bitfile_core.specs.Shown.{AreIndexPages, ShowsAt, index_of}
-use Rattle.fileset_table.specs.declared.slot.SlotItem.TheVariants as slot
-use Rattle.domain_layout.proofs.NoTables.{none_of_tables}
-use Rattle.domain_layout.proofs.There.{is_there}
-use Rattle.domain_layout.specs.DirectoryRules.{Has}
-use Rattle.domain_layout.specs.Seen.{SeenFile, seen_in}
-use Rattle.domain_layout.specs.Owners.{frame_of}
-use Rattle.domain_layout.specs.TagRules.{HasTags, IsFirstOf}
-use Rattle.layout_laws.proofs.Named.{first_there}
+use Rattle.filesets_reading.specs.domain_base.declared.place.CellAt.{CellAt}
+use Rattle.filesets_reading.specs.domain_base.declared.place.Home.{Home}
+use Rattle.filesets_reading.specs.domain_base.declared.place.Tag.{Tag}
+use Rattle.filesets_reading.specs.page_store.Pages.{Pages}
+use Rattle.filesets_reading.specs.metadata_cells.Chain.{PlacedCell}
+use Rattle.filesets_reading.specs.tag_dirs.declared.dir.TagPlace.{TagPlace}
+use Rattle.filesets_reading.specs.tag_dirs.Directory.{cell_of}
+use Rattle.filesets_reading.specs.file_chains.Files.{HasFile, IsFile}
+use Rattle.filesets_reading.specs.fileset_files.Files.{AreFiles, Chains, LeadsToFile}
+use Rattle.filesets_reading.specs.fileset_files.Shown.{AreIndexPages, ShowsAt, index_of}
+use Rattle.filesets_reading.specs.fileset_table.declared.slot.SlotItem.TheVariants as slot
+use Rattle.filesets_reading.proofs.OfDomainLayout.NoTables.{none_of_tables}
+use Rattle.filesets_reading.proofs.OfDomainLayout.There.{is_there}
+use Rattle.filesets_reading.specs.domain_layout.DirectoryRules.{Has}
+use Rattle.filesets_reading.specs.domain_layout.Seen.{SeenFile, seen_in}
+use Rattle.filesets_reading.specs.domain_layout.Owners.{frame_of}
+use Rattle.filesets_reading.specs.domain_layout.TagRules.{HasTags, IsFirstOf}
+use Rattle.filesets_reading.proofs.OfDomainLayout.Named.{first_there}
 use Rattle.filesets_reading.specs.Seen.{HasFewHomes, IsSeenAs, IsSeenThere}
 use Rattle.filesets_reading.specs.declared.seen.SeenPages.{SeenPages}
-use Rattle.shape_reading.specs.declared.files.FilesetFiles.{FilesetFiles}
-use Rattle.shape_reading.proofs.OwnFiles.{chain_there}
+use Rattle.fileset_shapes.specs.declared.files.FilesetFiles.{FilesetFiles}
+use Rattle.fileset_shapes.proofs.OwnFiles.{chain_there}
 use Rattle.fileset_shapes.specs.Files.{AreOriginals, ReadsOriginal, ReadsOriginalAt}
 use Rattle.fileset_shapes.specs.Found.{index_shown, shown_by}
 use Rattle.fileset_shapes.specs.Indexes.{IsReadIndex, IsWholeIndex}

@@ -1,23 +1,23 @@
 -- What a fileset has where no tag of it is used.
 use Rattle.std.proofs.Common.{◌≡◌, ◌⊎◌, inl, inr, ℕ, false, true, List, Option, Some, None, IfSome, IsSome, IsSomeAnd, refl, sym, subst, ⊎_elim}
 use Rattle.std.specs.Option.{option_and_then}
-use Rattle.domain_base.specs.declared.place.CellAt.{CellAt}
-use Rattle.domain_base.specs.declared.place.Tag.{Tag}
-use Rattle.page_store.specs.Pages.{Pages}
-use Rattle.bmt_mcells.specs.Chain.{PlacedCell}
-use Rattle.tag_dirs.specs.declared.dir.TagPlace.{TagPlace}
-use Rattle.tag_dirs.specs.Directory.{cell_of}
-use Rattle.bitfile_cells.specs.Files.{IsFile}
-use Rattle.bitfile_core.specs.Files.{AreFiles, Chains, LeadsToFile}
-use Rattle.domain_layout.specs.Seen.{seen_in}
+use Rattle.filesets_reading.specs.domain_base.declared.place.CellAt.{CellAt}
+use Rattle.filesets_reading.specs.domain_base.declared.place.Tag.{Tag}
+use Rattle.filesets_reading.specs.page_store.Pages.{Pages}
+use Rattle.filesets_reading.specs.metadata_cells.Chain.{PlacedCell}
+use Rattle.filesets_reading.specs.tag_dirs.declared.dir.TagPlace.{TagPlace}
+use Rattle.filesets_reading.specs.tag_dirs.Directory.{cell_of}
+use Rattle.filesets_reading.specs.file_chains.Files.{IsFile}
+use Rattle.filesets_reading.specs.fileset_files.Files.{AreFiles, Chains, LeadsToFile}
+use Rattle.filesets_reading.specs.domain_layout.Seen.{seen_in}
 use Rattle.filesets_reading.specs.Seen.{IsSeenThere}
-use Rattle.shape_reading.specs.Clones.{ReadsOfClone}
-use Rattle.shape_reading.specs.declared.files.FilesetFiles.{FilesetFiles}
+use Rattle.fileset_shapes.specs.Clones.{ReadsOfClone}
+use Rattle.fileset_shapes.specs.declared.files.FilesetFiles.{FilesetFiles}
 use Rattle.fileset_shapes.specs.Files.{AreClones, AreOriginals, ReadsCloneAt, ReadsOriginalAt}
 use Rattle.fileset_shapes.specs.Sources.{HasTag, IsSource, ReadsAt}
 use Rattle.fileset_shapes.specs.declared.found.TaggedFile.{TaggedFile}
-use Rattle.fileset_shapes.specs.declared.sources.FilesetSource.{FilesetSource}
-use Rattle.fileset_shapes.specs.declared.sources.FilesetSource.TheVariants as source
+use Rattle.fileset_shapes.specs.declared.fileset_sources.FilesetSource.{FilesetSource}
+use Rattle.fileset_shapes.specs.declared.fileset_sources.FilesetSource.TheVariants as source
 use Rattle.fileset_shapes.proofs.ReadClones.{clone_none}
 use Rattle.fileset_shapes.proofs.ReadOriginals.{original_none}
 

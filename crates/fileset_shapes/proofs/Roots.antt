@@ -2,38 +2,38 @@
 use Rattle.std.proofs.Common.{◌≡◌, ◌∙◌, inl, inr, ℕ, zero, suc, ◌+◌, ◌/◌, ◌%◌, ◌<◌, Bool, true, false, cond, nat_eq, nat_le, List, [], ◌∷◌, length, Option, Some, None, IfSome, IsSome, IsSomeAnd, slice_get, refl, sym, ap, subst, arith}
 use Rattle.std.proofs.lemmas.Bool.{eq-eqb}
 use Rattle.std.specs.Option.{option_and_then, option_map}
-use Rattle.domain_base.specs.declared.place.CellAt.{CellAt}
-use Rattle.domain_base.specs.declared.place.Home.{Home}
-use Rattle.domain_base.specs.declared.place.Tag.{Tag}
-use Rattle.page_store.specs.Bitfiles.{Bitfile}
-use Rattle.page_store.specs.Pages.{Pages}
-use Rattle.bmt_mcells.specs.Cell.{Cell}
-use Rattle.bmt_mcells.specs.Chain.{PlacedCell, StandsAt}
-use Rattle.tag_dirs.specs.declared.dir.TagPlace.{TagPlace}
-use Rattle.tag_dirs.specs.Directory.{IsDirectory, IsDirectoryAt, IsPageOf, cell_for, cell_of, home_behind, home_with}
-use Rattle.tag_dirs.specs.TagPage.{entry_of as entry_in, next_of, slot_of}
-use Rattle.tag_dirs.proofs.Slots.{found}
-use Rattle.bitfile_cells.specs.Files.{IsFile}
-use Rattle.bitfile_core.specs.Files.{LeadsToFile, attributes_of, is_removed, of_live}
-use Rattle.bitfile_core.specs.Shown.{ShowsAt}
-use Rattle.fileset_table.specs.declared.slot.FilesetEntry.{FilesetEntry}
-use Rattle.fileset_table.specs.declared.slot.SlotItem.TheVariants as slot
-use Rattle.name_space.specs.Names.{root_tag}
-use Rattle.domain_layout.proofs.NoTables.{none_of_tables}
-use Rattle.domain_layout.specs.CellRules.{IsUsed, say_removed}
-use Rattle.domain_layout.specs.Layout.{Layout, first_tag_of}
-use Rattle.domain_layout.specs.Owners.{frame_of}
-use Rattle.domain_layout.specs.Reached.{Frame, Reaches, begins, goes_on, on_volume, tags_way}
-use Rattle.domain_layout.specs.Seen.{IsOwnUnless, SeenFile}
-use Rattle.domain_layout.specs.Shape.{FilesetShape, IsOriginal}
-use Rattle.domain_layout.specs.TagRules.{HasEntry, HasTags}
-use Rattle.layout_laws.proofs.Named.{first_there}
-use Rattle.layout_laws.proofs.OnePage.{HasOne, one_of, some_same}
-use Rattle.layout_laws.proofs.OwnedOnce.{no_tags}
+use Rattle.filesets_reading.specs.domain_base.declared.place.CellAt.{CellAt}
+use Rattle.filesets_reading.specs.domain_base.declared.place.Home.{Home}
+use Rattle.filesets_reading.specs.domain_base.declared.place.Tag.{Tag}
+use Rattle.filesets_reading.specs.page_store.Bitfiles.{Bitfile}
+use Rattle.filesets_reading.specs.page_store.Pages.{Pages}
+use Rattle.filesets_reading.specs.metadata_cells.Cell.{Cell}
+use Rattle.filesets_reading.specs.metadata_cells.Chain.{PlacedCell, StandsAt}
+use Rattle.filesets_reading.specs.tag_dirs.declared.dir.TagPlace.{TagPlace}
+use Rattle.filesets_reading.specs.tag_dirs.Directory.{IsDirectory, IsDirectoryAt, IsPageOf, cell_for, cell_of, home_behind, home_with}
+use Rattle.filesets_reading.specs.tag_dirs.TagPage.{entry_of as entry_in, next_of, slot_of}
+use Rattle.filesets_reading.proofs.OfTagDirs.Slots.{found}
+use Rattle.filesets_reading.specs.file_chains.Files.{IsFile}
+use Rattle.filesets_reading.specs.fileset_files.Files.{LeadsToFile, attributes_of, is_removed, of_live}
+use Rattle.filesets_reading.specs.fileset_files.Shown.{ShowsAt}
+use Rattle.filesets_reading.specs.fileset_table.declared.slot.FilesetEntry.{FilesetEntry}
+use Rattle.filesets_reading.specs.fileset_table.declared.slot.SlotItem.TheVariants as slot
+use Rattle.filesets_reading.specs.name_space.Names.{root_tag}
+use Rattle.filesets_reading.proofs.OfDomainLayout.NoTables.{none_of_tables}
+use Rattle.filesets_reading.specs.domain_layout.CellRules.{IsUsed, say_removed}
+use Rattle.filesets_reading.specs.domain_layout.Layout.{Layout, first_tag_of}
+use Rattle.filesets_reading.specs.domain_layout.Owners.{frame_of}
+use Rattle.filesets_reading.specs.domain_layout.Reached.{Frame, Reaches, begins, goes_on, on_volume, tags_way}
+use Rattle.filesets_reading.specs.domain_layout.Seen.{IsOwnUnless, SeenFile}
+use Rattle.filesets_reading.specs.domain_layout.Shape.{FilesetShape, IsOriginal}
+use Rattle.filesets_reading.specs.domain_layout.TagRules.{HasEntry, HasTags}
+use Rattle.filesets_reading.proofs.OfDomainLayout.Named.{first_there}
+use Rattle.filesets_reading.proofs.OfDomainLayout.OnePage.{HasOne, one_of, some_same}
+use Rattle.filesets_reading.proofs.OfDomainLayout.OwnedOnce.{no_tags}
 use Rattle.filesets_reading.specs.Seen.{IsSeenThere}
 use Rattle.filesets_reading.proofs.Ways.{pushed}
-use Rattle.shape_reading.specs.Clones.{ReadsOwn}
-use Rattle.shape_reading.proofs.OwnFiles.{own_removed}
+use Rattle.fileset_shapes.specs.Clones.{ReadsOwn}
+use Rattle.fileset_shapes.proofs.OwnFiles.{own_removed}
 use Rattle.fileset_shapes.specs.Files.{IsWhole}
 use Rattle.fileset_shapes.proofs.OriginalFiles.{none_some}
 

@@ -3,42 +3,42 @@ use Rattle.std.proofs.Common.{◌≡◌, ◌∙◌, ℕ, zero, suc, ◌^◌, ◌
 use Rattle.std.specs.List.{list_all}
 use Rattle.std.specs.Prelude.{◌&&◌}
 use Rattle.std.specs.Option.{option_and_then, option_map, option_map_or}
-use Rattle.domain_base.specs.Version.{number_of}
-use Rattle.domain_base.specs.declared.place.Tag.{Tag}
-use Rattle.page_store.specs.Bitfiles.{same_tag}
-use Rattle.page_store.specs.Pages.{Pages}
-use Rattle.log_ring.specs.Homes.{IsMember, member_of}
-use Rattle.tag_dirs.specs.declared.dir.TagPlace.{TagPlace}
-use Rattle.tag_dirs.specs.Directory.{IsDirectoryAt}
-use Rattle.tag_dirs.proofs.Reading.{same_directory}
-use Rattle.bitfile_core.specs.Files.{AreFiles, Chains, HasFiles}
-use Rattle.bitfile_core.proofs.OneChain.{same_tag_itself}
-use Rattle.fileset_table.specs.Page.{IsTablePage}
-use Rattle.fileset_table.specs.Table.{IsTable, Table, entry_of, is_original, leads_to_original}
-use Rattle.fileset_table.specs.declared.slot.FilesetEntry.{FilesetEntry}
-use Rattle.fileset_table.specs.declared.slot.SlotItem.{SlotItem}
-use Rattle.fileset_table.specs.declared.slot.SlotItem.TheVariants as slot
-use Rattle.domain_layout.proofs.NoTables.{none_of_extents, none_of_tables}
-use Rattle.domain_layout.specs.Faults.{HasNoExtentFault, HasNoFault, SaysTable}
-use Rattle.domain_layout.specs.Layout.{Layout}
-use Rattle.domain_layout.specs.Owners.{frame_of}
-use Rattle.domain_layout.specs.Reached.{Frame}
-use Rattle.domain_layout.specs.Seen.{seen_in}
-use Rattle.domain_layout.specs.Shape.{AreQuotas, FilesetShape, IsClone, IsOriginal, limits_in}
-use Rattle.domain_layout.specs.TagRules.{HasTags}
-use Rattle.layout_laws.proofs.OnePage.{HasOne, one_of, some_same}
+use Rattle.filesets_reading.specs.domain_base.Version.{number_of}
+use Rattle.filesets_reading.specs.domain_base.declared.place.Tag.{Tag}
+use Rattle.filesets_reading.specs.page_store.Bitfiles.{same_tag}
+use Rattle.filesets_reading.specs.page_store.Pages.{Pages}
+use Rattle.filesets_reading.specs.log_ring.Homes.{IsMember, member_of}
+use Rattle.filesets_reading.specs.tag_dirs.declared.dir.TagPlace.{TagPlace}
+use Rattle.filesets_reading.specs.tag_dirs.Directory.{IsDirectoryAt}
+use Rattle.filesets_reading.proofs.OfTagDirs.Reading.{same_directory}
+use Rattle.filesets_reading.specs.fileset_files.Files.{AreFiles, Chains, HasFiles}
+use Rattle.filesets_reading.proofs.OfFilesetFiles.OneChain.{same_tag_itself}
+use Rattle.filesets_reading.specs.fileset_table.Page.{IsTablePage}
+use Rattle.filesets_reading.specs.fileset_table.Table.{IsTable, Table, entry_of, is_original, leads_to_original}
+use Rattle.filesets_reading.specs.fileset_table.declared.slot.FilesetEntry.{FilesetEntry}
+use Rattle.filesets_reading.specs.fileset_table.declared.slot.SlotItem.{SlotItem}
+use Rattle.filesets_reading.specs.fileset_table.declared.slot.SlotItem.TheVariants as slot
+use Rattle.filesets_reading.proofs.OfDomainLayout.NoTables.{none_of_extents, none_of_tables}
+use Rattle.filesets_reading.specs.domain_layout.Faults.{HasNoExtentFault, HasNoFault, SaysTable}
+use Rattle.filesets_reading.specs.domain_layout.Layout.{Layout}
+use Rattle.filesets_reading.specs.domain_layout.Owners.{frame_of}
+use Rattle.filesets_reading.specs.domain_layout.Reached.{Frame}
+use Rattle.filesets_reading.specs.domain_layout.Seen.{seen_in}
+use Rattle.filesets_reading.specs.domain_layout.Shape.{AreQuotas, FilesetShape, IsClone, IsOriginal, limits_in}
+use Rattle.filesets_reading.specs.domain_layout.TagRules.{HasTags}
+use Rattle.filesets_reading.proofs.OfDomainLayout.OnePage.{HasOne, one_of, some_same}
 use Rattle.filesets_reading.specs.Chains.{MayHaveFiles}
 use Rattle.filesets_reading.specs.Good.{AreGood, HasTagsAt}
 use Rattle.filesets_reading.specs.declared.tables.DomainTables.{DomainTables}
-use Rattle.shape_reading.specs.Limits.{IsInSlot}
-use Rattle.shape_reading.specs.declared.files.FilesetFiles.{FilesetFiles}
+use Rattle.fileset_shapes.specs.Limits.{IsInSlot}
+use Rattle.fileset_shapes.specs.declared.files.FilesetFiles.{FilesetFiles}
 use Rattle.fileset_shapes.specs.Files.{AreClones, AreOriginals, IsFound, IsWhole, ReadsClone}
 use Rattle.fileset_shapes.specs.Found.{HasAllPages, HaveOwnTags, IsStored, SeesItem, file_at, shown_by}
 use Rattle.fileset_shapes.specs.Shapes.{AreFilesAt, HasEntryAt, IsDomain}
 use Rattle.fileset_shapes.specs.Sources.{AreAllOf}
 use Rattle.fileset_shapes.specs.declared.found.FilesetSeen.{FilesetSeen}
 use Rattle.fileset_shapes.specs.declared.found.TaggedFile.{TaggedFile}
-use Rattle.fileset_shapes.specs.declared.sources.FilesetSource.TheVariants as source
+use Rattle.fileset_shapes.specs.declared.fileset_sources.FilesetSource.TheVariants as source
 use Rattle.fileset_shapes.proofs.OriginalFiles.{none_some}
 use Rattle.fileset_shapes.proofs.ReadClones.{entry_tags}
 use Rattle.fileset_shapes.proofs.TaggedFiles.{found_at}

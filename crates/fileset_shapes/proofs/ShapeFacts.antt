@@ -2,42 +2,42 @@
 use Rattle.std.proofs.Common.{◌≡◌, ◌∙◌, ◌⊎◌, inl, inr, ℕ, ◌≤◌, Bool, true, false, cond, List, [], ◌∷◌, Option, Some, None, IfSome, IsSomeAnd, refl, sym, ap, subst, ⊎_elim}
 use Rattle.std.specs.Prelude.{map, slice_get}
 use Rattle.std.specs.Option.{option_and_then}
-use Rattle.domain_base.specs.Limits.{max_links}
-use Rattle.domain_base.specs.declared.place.CellAt.{CellAt}
-use Rattle.domain_base.specs.declared.place.Home.{Home}
-use Rattle.domain_base.specs.declared.place.Kind.{Kind}
-use Rattle.domain_base.specs.declared.place.Kind.TheVariants.{Directory, File}
-use Rattle.domain_base.specs.declared.place.Tag.{Tag}
-use Rattle.page_store.specs.Bitfiles.{Bitfile, shown_index}
-use Rattle.page_store.specs.Pages.{Pages}
-use Rattle.record_table.specs.Records.{Allowed}
-use Rattle.record_table.specs.declared.record.Record.{Record}
-use Rattle.record_table.specs.declared.record.Record.TheVariants as written
-use Rattle.bmt_mcells.specs.Cell.{record_of}
-use Rattle.bmt_mcells.specs.CellPage.{home_of}
-use Rattle.bmt_mcells.specs.Chain.{LinksFrom, PlacedCell}
-use Rattle.tag_dirs.specs.Directory.{cell_of}
-use Rattle.bitfile_cells.specs.Files.{AreFile}
-use Rattle.bitfile_core.proofs.Room.{allowed_found}
-use Rattle.bitfile_core.specs.Files.{LeadsToFile, attributes_in, attributes_of, is_removed, of_live}
-use Rattle.bitfile_core.specs.Shown.{AreIndexPages, IsWhat, ShowsAt, ShowsFile, index_in, shown_page}
-use Rattle.bitfile_core.specs.declared.attributes.Attributes.{Attributes}
-use Rattle.fileset_table.specs.Table.{Table, entry_of}
-use Rattle.fileset_table.specs.declared.slot.FilesetEntry.{FilesetEntry}
-use Rattle.fileset_table.specs.declared.slot.SlotItem.{SlotItem}
-use Rattle.fileset_table.specs.declared.slot.SlotItem.TheVariants as slot
-use Rattle.domain_layout.specs.CellRules.{of_clone}
-use Rattle.domain_layout.specs.DirectoryRules.{AreReadPages, Has, HasIndex, HasIndexAt, IsFirstHome, IsInClone, IsInItem, IsInOriginal, IsNotThere, IsThere, total_in}
-use Rattle.domain_layout.specs.Layout.{Layout}
-use Rattle.domain_layout.specs.Owners.{frame_of}
-use Rattle.domain_layout.specs.Reached.{IsUnread, MayBe, index_way}
-use Rattle.domain_layout.specs.Seen.{IsOfClone, IsOwn, IsOwnUnless, SeenFile, seen_in, seen_through}
-use Rattle.domain_layout.proofs.OneShape.{own_same}
-use Rattle.domain_layout.proofs.There.{chain_is, chain_none, is_there}
-use Rattle.domain_layout.specs.Shape.{FilesetShape, IsClone, IsOriginal, IsSameSeen, IsShapeOf, ShowsSeen, ShowsSeenAt, shown_at}
-use Rattle.domain_layout.specs.TagRules.{HasTags}
-use Rattle.layout_laws.proofs.OnePage.{HasOne, one_of, some_same}
-use Rattle.shape_reading.specs.declared.files.FilesetFiles.{FilesetFiles}
+use Rattle.filesets_reading.specs.domain_base.Limits.{max_links}
+use Rattle.filesets_reading.specs.domain_base.declared.place.CellAt.{CellAt}
+use Rattle.filesets_reading.specs.domain_base.declared.place.Home.{Home}
+use Rattle.filesets_reading.specs.domain_base.declared.place.Kind.{Kind}
+use Rattle.filesets_reading.specs.domain_base.declared.place.Kind.TheVariants.{Directory, File}
+use Rattle.filesets_reading.specs.domain_base.declared.place.Tag.{Tag}
+use Rattle.filesets_reading.specs.page_store.Bitfiles.{Bitfile, shown_index}
+use Rattle.filesets_reading.specs.page_store.Pages.{Pages}
+use Rattle.filesets_reading.specs.cell_records.Records.{Allowed}
+use Rattle.filesets_reading.specs.cell_records.declared.record.Record.{Record}
+use Rattle.filesets_reading.specs.cell_records.declared.record.Record.TheVariants as written
+use Rattle.filesets_reading.specs.metadata_cells.Cell.{record_of}
+use Rattle.filesets_reading.specs.metadata_cells.CellPage.{home_of}
+use Rattle.filesets_reading.specs.metadata_cells.Chain.{LinksFrom, PlacedCell}
+use Rattle.filesets_reading.specs.tag_dirs.Directory.{cell_of}
+use Rattle.filesets_reading.specs.file_chains.Files.{AreFile}
+use Rattle.filesets_reading.proofs.OfFilesetFiles.Room.{allowed_found}
+use Rattle.filesets_reading.specs.fileset_files.Files.{LeadsToFile, attributes_in, attributes_of, is_removed, of_live}
+use Rattle.filesets_reading.specs.fileset_files.Shown.{AreIndexPages, IsWhat, ShowsAt, ShowsFile, index_in, shown_page}
+use Rattle.filesets_reading.specs.fileset_files.declared.attributes.Attributes.{Attributes}
+use Rattle.filesets_reading.specs.fileset_table.Table.{Table, entry_of}
+use Rattle.filesets_reading.specs.fileset_table.declared.slot.FilesetEntry.{FilesetEntry}
+use Rattle.filesets_reading.specs.fileset_table.declared.slot.SlotItem.{SlotItem}
+use Rattle.filesets_reading.specs.fileset_table.declared.slot.SlotItem.TheVariants as slot
+use Rattle.filesets_reading.specs.domain_layout.CellRules.{of_clone}
+use Rattle.filesets_reading.specs.domain_layout.DirectoryRules.{AreReadPages, Has, HasIndex, HasIndexAt, IsFirstHome, IsInClone, IsInItem, IsInOriginal, IsNotThere, IsThere, total_in}
+use Rattle.filesets_reading.specs.domain_layout.Layout.{Layout}
+use Rattle.filesets_reading.specs.domain_layout.Owners.{frame_of}
+use Rattle.filesets_reading.specs.domain_layout.Reached.{IsUnread, MayBe, index_way}
+use Rattle.filesets_reading.specs.domain_layout.Seen.{IsOfClone, IsOwn, IsOwnUnless, SeenFile, seen_in, seen_through}
+use Rattle.filesets_reading.proofs.OfDomainLayout.OneShape.{own_same}
+use Rattle.filesets_reading.proofs.OfDomainLayout.There.{chain_is, chain_none, is_there}
+use Rattle.filesets_reading.specs.domain_layout.Shape.{FilesetShape, IsClone, IsOriginal, IsSameSeen, IsShapeOf, ShowsSeen, ShowsSeenAt, shown_at}
+use Rattle.filesets_reading.specs.domain_layout.TagRules.{HasTags}
+use Rattle.filesets_reading.proofs.OfDomainLayout.OnePage.{HasOne, one_of, some_same}
+use Rattle.fileset_shapes.specs.declared.files.FilesetFiles.{FilesetFiles}
 use Rattle.fileset_shapes.specs.Files.{AreClones, IsWhole}
 use Rattle.fileset_shapes.specs.Indexes.{IsReadIndex}
 use Rattle.fileset_shapes.proofs.IndexPages.{read_index}

@@ -2,9 +2,9 @@
 use Rattle.std.proofs.Common.{◌≡◌, ◌∙◌, ℕ, zero, suc, ◌<◌, true, false, List, [], ◌∷◌, Option, Some, None, IsSome, slice_get, refl, sym, ap, arith}
 use Rattle.std.specs.List.{cons_option}
 use Rattle.std.specs.Option.{option_and_then}
-use Rattle.domain_base.specs.declared.place.Home.{Home}
-use Rattle.page_store.specs.Pages.{Pages}
-use Rattle.page_filling.specs.Stored.{AreStored}
+use Rattle.filesets_reading.specs.domain_base.declared.place.Home.{Home}
+use Rattle.filesets_reading.specs.page_store.Pages.{Pages}
+use Rattle.fileset_shapes.specs.Stored.{AreStored}
 use Rattle.filesets_reading.specs.Seen.{home_in}
 use Rattle.fileset_shapes.specs.Found.{pages_at}
 

@@ -1,28 +1,28 @@
 -- Where no rule is broken: each page of a file stands where pages of files may.
 use Rattle.std.proofs.Common.{◌≡◌, ◌∙◌, inl, ℕ, zero, suc, List, [], ◌∷◌, Contains, refl, sym, subst, arith, ⊎_elim}
 use Rattle.std.proofs.lemmas.List.Elements.{Contains-append_cases}
-use Rattle.domain_base.specs.declared.place.Home.{Home}
-use Rattle.domain_base.specs.declared.place.Tag.{Tag}
-use Rattle.page_store.specs.Pages.{Pages}
-use Rattle.record_table.specs.declared.record.Record.{Record}
-use Rattle.bmt_mcells.specs.CellPage.{home_of}
-use Rattle.bmt_mcells.specs.Chain.{Follow, PlacedCell, StandsAt, records_of}
-use Rattle.extent_maps.specs.Runs.{place_of}
-use Rattle.extent_maps.specs.declared.run.PagePlace.{PagePlace}
-use Rattle.extent_maps.specs.declared.run.PagePlace.TheVariants.{Absent, At, Hole}
-use Rattle.extent_maps.proofs.EditLemmas.{over, place_append}
-use Rattle.extent_records.specs.Rows.{runs_in, runs_of}
-use Rattle.extent_records.specs.Writing.{places_in}
-use Rattle.bitfile_cells.specs.Files.{AreFile, places_of}
-use Rattle.domain_layout.proofs.NoTables.{none_of_tables}
-use Rattle.domain_layout.specs.Faults.{HasNoFault, HasNoTablesFault}
-use Rattle.domain_layout.specs.Layout.{IsLayout, Layout}
-use Rattle.domain_layout.specs.Owners.{frame_of}
-use Rattle.domain_layout.specs.Reached.{MayBe}
-use Rattle.domain_layout.specs.TagRules.{IsFirstOf}
-use Rattle.layout_laws.proofs.Named.{InChain, begins_file, goes_along, place_in}
-use Rattle.layout_laws.proofs.OwnedOnce.{no_extent}
-use Rattle.layout_laws.proofs.Reached.{may_be_by}
+use Rattle.filesets_reading.specs.domain_base.declared.place.Home.{Home}
+use Rattle.filesets_reading.specs.domain_base.declared.place.Tag.{Tag}
+use Rattle.filesets_reading.specs.page_store.Pages.{Pages}
+use Rattle.filesets_reading.specs.cell_records.declared.record.Record.{Record}
+use Rattle.filesets_reading.specs.metadata_cells.CellPage.{home_of}
+use Rattle.filesets_reading.specs.metadata_cells.Chain.{Follow, PlacedCell, StandsAt, records_of}
+use Rattle.filesets_reading.specs.extent_maps.Runs.{place_of}
+use Rattle.filesets_reading.specs.extent_maps.declared.run.PagePlace.{PagePlace}
+use Rattle.filesets_reading.specs.extent_maps.declared.run.PagePlace.TheVariants.{Absent, At, Hole}
+use Rattle.filesets_reading.proofs.OfExtentMaps.EditLemmas.{over, place_append}
+use Rattle.filesets_reading.specs.extent_records.Rows.{runs_in, runs_of}
+use Rattle.filesets_reading.specs.extent_records.Writing.{places_in}
+use Rattle.filesets_reading.specs.file_chains.Files.{AreFile, places_of}
+use Rattle.filesets_reading.proofs.OfDomainLayout.NoTables.{none_of_tables}
+use Rattle.filesets_reading.specs.domain_layout.Faults.{HasNoFault, HasNoTablesFault}
+use Rattle.filesets_reading.specs.domain_layout.Layout.{IsLayout, Layout}
+use Rattle.filesets_reading.specs.domain_layout.Owners.{frame_of}
+use Rattle.filesets_reading.specs.domain_layout.Reached.{MayBe}
+use Rattle.filesets_reading.specs.domain_layout.TagRules.{IsFirstOf}
+use Rattle.filesets_reading.proofs.OfDomainLayout.Named.{InChain, begins_file, goes_along, place_in}
+use Rattle.filesets_reading.proofs.OfDomainLayout.OwnedOnce.{no_extent}
+use Rattle.filesets_reading.proofs.OfDomainLayout.Reached.{may_be_by}
 use Rattle.filesets_reading.proofs.OnTables.{on_table}
 
 -- ---- which record says a place

@@ -1,13 +1,13 @@
 -- Lists of files under their tags, with one file more.
 use Rattle.std.proofs.Common.{◌≡◌, ◌∙◌, ◌⊎◌, ℕ, suc, ◌+◌, ◌<◌, Bool, true, false, cond, List, [], ◌∷◌, ◌++◌, length, Option, Some, None, slice_get, refl, sym, ap, subst, arith, ⊎_elim}
 use Rattle.std.proofs.lemmas.Bool.{cases_lt}
-use Rattle.domain_base.specs.declared.place.Tag.{Tag}
-use Rattle.page_store.specs.Bitfiles.{same_tag}
-use Rattle.bitfile_core.proofs.OneChain.{same_tag_itself}
-use Rattle.bitfile_core.proofs.OneFile.{tags_same}
-use Rattle.layout_laws.proofs.OnePage.{some_same}
+use Rattle.filesets_reading.specs.domain_base.declared.place.Tag.{Tag}
+use Rattle.filesets_reading.specs.page_store.Bitfiles.{same_tag}
+use Rattle.filesets_reading.proofs.OfFilesetFiles.OneChain.{same_tag_itself}
+use Rattle.filesets_reading.proofs.OfFilesetFiles.OneFile.{tags_same}
+use Rattle.filesets_reading.proofs.OfDomainLayout.OnePage.{some_same}
 use Rattle.filesets_reading.proofs.Ways.{get_pushed, within_of}
-use Rattle.row_paths.proofs.AllLed.{at_contains, contains_at}
+use Rattle.filesets_reading.proofs.OfDirectoryRows.AllLed.{at_contains, contains_at}
 use Rattle.fileset_shapes.specs.Found.{HaveOwnTags, file_at}
 use Rattle.fileset_shapes.specs.Tags.{ListsOnce}
 use Rattle.fileset_shapes.specs.declared.found.TaggedFile.{TaggedFile}

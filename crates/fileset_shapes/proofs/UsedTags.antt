@@ -3,18 +3,18 @@ use Rattle.std.proofs.Common.{◌≡◌, ◌∙◌, ◌⊎◌, inl, inr, ℕ, �
 use Rattle.std.proofs.lemmas.Bool.{cases_lt, eqb-true}
 use Rattle.std.proofs.lemmas.List.Elements.{Contains-append_left, Contains-push, Contains-push_cases}
 use Rattle.std.specs.Option.{option_and_then, option_map}
-use Rattle.domain_base.specs.declared.place.CellAt.{CellAt}
-use Rattle.domain_base.specs.declared.place.Tag.{Tag}
-use Rattle.page_store.specs.Pages.{Pages}
-use Rattle.record_table.specs.Fields.{number_at}
-use Rattle.tag_dirs.specs.declared.dir.TagPlace.{TagPlace}
-use Rattle.tag_dirs.specs.declared.page.TagEntry.{TagEntry}
-use Rattle.tag_dirs.specs.Directory.{IsDirectory, cell_for, cell_of, entry_at, sequence_of}
-use Rattle.tag_dirs.proofs.Slots.{found}
-use Rattle.layout_laws.proofs.Named.{entry_by}
-use Rattle.layout_laws.proofs.OnePage.{some_same}
+use Rattle.filesets_reading.specs.domain_base.declared.place.CellAt.{CellAt}
+use Rattle.filesets_reading.specs.domain_base.declared.place.Tag.{Tag}
+use Rattle.filesets_reading.specs.page_store.Pages.{Pages}
+use Rattle.filesets_reading.specs.cell_records.Fields.{number_at}
+use Rattle.filesets_reading.specs.tag_dirs.declared.dir.TagPlace.{TagPlace}
+use Rattle.filesets_reading.specs.tag_dirs.declared.page.TagEntry.{TagEntry}
+use Rattle.filesets_reading.specs.tag_dirs.Directory.{IsDirectory, cell_for, cell_of, entry_at, sequence_of}
+use Rattle.filesets_reading.proofs.OfTagDirs.Slots.{found}
+use Rattle.filesets_reading.proofs.OfDomainLayout.Named.{entry_by}
+use Rattle.filesets_reading.proofs.OfDomainLayout.OnePage.{some_same}
 use Rattle.filesets_reading.proofs.Ways.{get_pushed, within_of}
-use Rattle.row_paths.proofs.AllLed.{at_contains, contains_at}
+use Rattle.filesets_reading.proofs.OfDirectoryRows.AllLed.{at_contains, contains_at}
 use Rattle.fileset_shapes.specs.Tags.{IsOnFirst, IsTagOf, IsUsed, IsUsedOnFirst, IsUsedOnFirstEntries, ListsOnce}
 
 no_bool : false ≡ true → ⊥

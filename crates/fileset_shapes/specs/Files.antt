@@ -1,26 +1,26 @@
 -- The files of a fileset, tag by tag, as they are read.
 use Rattle.std.specs.Prelude.{◌≡◌, ◌^◌, ◌≤◌, ℕ, List, Option, Some, IfSome, slice_get}
 use Rattle.std.specs.Option.{option_and_then, option_map}
-use Rattle.domain_base.specs.declared.place.Tag.{Tag}
-use Rattle.page_store.specs.Pages.{Pages}
-use Rattle.log_ring.specs.Homes.{IsMember, member_of}
-use Rattle.bmt_mcells.specs.Chain.{PlacedCell}
-use Rattle.tag_dirs.specs.Directory.{IsDirectoryAt}
-use Rattle.bitfile_core.specs.Files.{AreFiles, Chains}
-use Rattle.bitfile_core.specs.Shown.{ShowsAt}
-use Rattle.fileset_table.specs.Table.{entry_of}
-use Rattle.fileset_table.specs.declared.slot.FilesetEntry.{FilesetEntry}
-use Rattle.fileset_table.specs.declared.slot.SlotItem.{SlotItem}
-use Rattle.fileset_table.specs.declared.slot.SlotItem.TheVariants as slot
-use Rattle.domain_layout.specs.Faults.{HasNoFault}
-use Rattle.domain_layout.specs.Layout.{IsLayout, Layout}
-use Rattle.domain_layout.specs.Owners.{frame_of}
-use Rattle.domain_layout.specs.Seen.{IsOfClone, SeenFile, seen_in}
-use Rattle.domain_layout.specs.Shape.{ShowsSeenAt}
+use Rattle.filesets_reading.specs.domain_base.declared.place.Tag.{Tag}
+use Rattle.filesets_reading.specs.page_store.Pages.{Pages}
+use Rattle.filesets_reading.specs.log_ring.Homes.{IsMember, member_of}
+use Rattle.filesets_reading.specs.metadata_cells.Chain.{PlacedCell}
+use Rattle.filesets_reading.specs.tag_dirs.Directory.{IsDirectoryAt}
+use Rattle.filesets_reading.specs.fileset_files.Files.{AreFiles, Chains}
+use Rattle.filesets_reading.specs.fileset_files.Shown.{ShowsAt}
+use Rattle.filesets_reading.specs.fileset_table.Table.{entry_of}
+use Rattle.filesets_reading.specs.fileset_table.declared.slot.FilesetEntry.{FilesetEntry}
+use Rattle.filesets_reading.specs.fileset_table.declared.slot.SlotItem.{SlotItem}
+use Rattle.filesets_reading.specs.fileset_table.declared.slot.SlotItem.TheVariants as slot
+use Rattle.filesets_reading.specs.domain_layout.Faults.{HasNoFault}
+use Rattle.filesets_reading.specs.domain_layout.Layout.{IsLayout, Layout}
+use Rattle.filesets_reading.specs.domain_layout.Owners.{frame_of}
+use Rattle.filesets_reading.specs.domain_layout.Seen.{IsOfClone, SeenFile, seen_in}
+use Rattle.filesets_reading.specs.domain_layout.Shape.{ShowsSeenAt}
 use Rattle.filesets_reading.specs.Seen.{IsSeenThere}
 use Rattle.filesets_reading.specs.declared.seen.SeenPages.{SeenPages}
-use Rattle.shape_reading.specs.Clones.{AreFilesOf}
-use Rattle.shape_reading.specs.declared.files.FilesetFiles.{FilesetFiles}
+use Rattle.fileset_shapes.specs.Clones.{AreFilesOf}
+use Rattle.fileset_shapes.specs.declared.files.FilesetFiles.{FilesetFiles}
 use Rattle.fileset_shapes.specs.Found.{HasAllPages, IsStored, shown_by}
 use Rattle.fileset_shapes.specs.declared.found.TaggedFile.{TaggedFile}
 

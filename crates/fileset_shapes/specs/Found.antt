@@ -2,24 +2,24 @@
 -- say.
 use Rattle.std.specs.Prelude.{◌≡◌, ◌^◌, ◌<◌, ℕ, List, [], ◌∷◌, Option, Some, None, IsSome, IsSomeAnd, filter_map, map, slice_get, if◌then◌else◌}
 use Rattle.std.specs.Option.{option_and_then, option_map}
-use Rattle.domain_base.specs.declared.place.Home.{Home}
-use Rattle.domain_base.specs.declared.place.Kind.{Kind}
-use Rattle.domain_base.specs.declared.place.Kind.TheVariants.{Directory, File}
-use Rattle.domain_base.specs.declared.place.Tag.{Tag}
-use Rattle.page_store.specs.Bitfiles.{Bitfile, same_tag, shown_index}
-use Rattle.page_store.specs.Pages.{Pages}
-use Rattle.bmt_mcells.specs.Chain.{PlacedCell}
-use Rattle.fileset_model.specs.declared.command.Owner.{Owner}
-use Rattle.fileset_table.specs.Table.{Table}
-use Rattle.fileset_table.specs.declared.slot.FilesetEntry.{FilesetEntry}
-use Rattle.fileset_table.specs.declared.slot.SlotItem.{SlotItem}
-use Rattle.fileset_table.specs.declared.slot.SlotItem.TheVariants as slot
-use Rattle.page_filling.specs.Stored.{AreStored, bytes_at}
-use Rattle.domain_layout.specs.DirectoryRules.{Has}
-use Rattle.domain_layout.specs.Faults.{SaysTable}
-use Rattle.domain_layout.specs.Reached.{Frame, IsWithin}
-use Rattle.domain_layout.specs.Seen.{SeenFile}
-use Rattle.domain_layout.specs.Shape.{FilesetShape, IsShapeOf, limits_in}
+use Rattle.filesets_reading.specs.domain_base.declared.place.Home.{Home}
+use Rattle.filesets_reading.specs.domain_base.declared.place.Kind.{Kind}
+use Rattle.filesets_reading.specs.domain_base.declared.place.Kind.TheVariants.{Directory, File}
+use Rattle.filesets_reading.specs.domain_base.declared.place.Tag.{Tag}
+use Rattle.filesets_reading.specs.page_store.Bitfiles.{Bitfile, same_tag, shown_index}
+use Rattle.filesets_reading.specs.page_store.Pages.{Pages}
+use Rattle.filesets_reading.specs.metadata_cells.Chain.{PlacedCell}
+use Rattle.filesets_reading.specs.fileset_values.declared.command.Owner.{Owner}
+use Rattle.filesets_reading.specs.fileset_table.Table.{Table}
+use Rattle.filesets_reading.specs.fileset_table.declared.slot.FilesetEntry.{FilesetEntry}
+use Rattle.filesets_reading.specs.fileset_table.declared.slot.SlotItem.{SlotItem}
+use Rattle.filesets_reading.specs.fileset_table.declared.slot.SlotItem.TheVariants as slot
+use Rattle.fileset_shapes.specs.Stored.{AreStored, bytes_at}
+use Rattle.filesets_reading.specs.domain_layout.DirectoryRules.{Has}
+use Rattle.filesets_reading.specs.domain_layout.Faults.{SaysTable}
+use Rattle.filesets_reading.specs.domain_layout.Reached.{Frame, IsWithin}
+use Rattle.filesets_reading.specs.domain_layout.Seen.{SeenFile}
+use Rattle.filesets_reading.specs.domain_layout.Shape.{FilesetShape, IsShapeOf, limits_in}
 use Rattle.filesets_reading.specs.Seen.{HasFewHomes, IsSeenThere}
 use Rattle.fileset_shapes.specs.declared.found.FilesetSeen.{FilesetSeen}
 use Rattle.fileset_shapes.specs.declared.found.TaggedFile.{TaggedFile}

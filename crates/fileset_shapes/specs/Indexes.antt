@@ -1,11 +1,11 @@
 -- Indexes of which each page is read.
 use Rattle.std.specs.Prelude.{◌≤◌, ℕ, List}
-use Rattle.domain_base.specs.declared.place.Home.{Home}
-use Rattle.page_store.specs.Pages.{Pages}
-use Rattle.record_table.specs.Fields.{number_at}
-use Rattle.record_table.specs.declared.record.Record.{Record}
-use Rattle.record_table.specs.declared.record.Record.TheVariants.{DirIndex}
-use Rattle.domain_layout.specs.Reached.{Frame, IsRead, IsUnread, index_way}
+use Rattle.filesets_reading.specs.domain_base.declared.place.Home.{Home}
+use Rattle.filesets_reading.specs.page_store.Pages.{Pages}
+use Rattle.filesets_reading.specs.cell_records.Fields.{number_at}
+use Rattle.filesets_reading.specs.cell_records.declared.record.Record.{Record}
+use Rattle.filesets_reading.specs.cell_records.declared.record.Record.TheVariants.{DirIndex}
+use Rattle.filesets_reading.specs.domain_layout.Reached.{Frame, IsRead, IsUnread, index_way}
 
 -- the volume of an index is one that there may be
 abbrev pub HasIndexVolume : Record → Type 0

@@ -1,16 +1,16 @@
 -- Where a fileset stands whose shape is read.
 use Rattle.std.specs.Prelude.{◌≡◌, ℕ, List, Option, Some, IsSomeAnd, length, slice_get}
-use Rattle.page_store.specs.Pages.{Pages}
-use Rattle.fileset_table.specs.Table.{Table}
-use Rattle.fileset_table.specs.declared.slot.FilesetEntry.{FilesetEntry}
-use Rattle.fileset_table.specs.declared.slot.SlotItem.{SlotItem}
-use Rattle.fileset_table.specs.Table.{entry_of}
-use Rattle.domain_layout.specs.Faults.{HasNoFault}
-use Rattle.domain_layout.specs.Reached.{Frame}
-use Rattle.domain_layout.specs.Shape.{AreShapesOf, Shapes}
+use Rattle.filesets_reading.specs.page_store.Pages.{Pages}
+use Rattle.filesets_reading.specs.fileset_table.Table.{Table}
+use Rattle.filesets_reading.specs.fileset_table.declared.slot.FilesetEntry.{FilesetEntry}
+use Rattle.filesets_reading.specs.fileset_table.declared.slot.SlotItem.{SlotItem}
+use Rattle.filesets_reading.specs.fileset_table.Table.{entry_of}
+use Rattle.filesets_reading.specs.domain_layout.Faults.{HasNoFault}
+use Rattle.filesets_reading.specs.domain_layout.Reached.{Frame}
+use Rattle.filesets_reading.specs.domain_layout.Shape.{AreShapesOf, Shapes}
 use Rattle.filesets_reading.specs.Tables.{AreTablesOf}
 use Rattle.filesets_reading.specs.declared.tables.DomainTables.{DomainTables}
-use Rattle.shape_reading.specs.declared.files.FilesetFiles.{FilesetFiles}
+use Rattle.fileset_shapes.specs.declared.files.FilesetFiles.{FilesetFiles}
 use Rattle.fileset_shapes.specs.Files.{AreFilesBy}
 use Rattle.fileset_shapes.specs.Found.{HasAllPages, SeesShape, SeesSlot}
 use Rattle.fileset_shapes.specs.declared.found.FilesetSeen.{FilesetSeen}

@@ -1,13 +1,13 @@
 -- From where the files of a fileset are read.
 use Rattle.std.specs.Prelude.{◌≡◌, ◌⊎◌, ◌^◌, ◌<◌, ℕ, List, Option, Some, slice_get}
-use Rattle.domain_base.specs.declared.place.Tag.{Tag}
-use Rattle.page_store.specs.Pages.{Pages}
+use Rattle.filesets_reading.specs.domain_base.declared.place.Tag.{Tag}
+use Rattle.filesets_reading.specs.page_store.Pages.{Pages}
 use Rattle.fileset_shapes.specs.Files.{AreClones, AreOriginals, ReadsCloneAt, ReadsOriginalAt}
 use Rattle.fileset_shapes.specs.Found.{HaveOwnTags, file_at}
 use Rattle.fileset_shapes.specs.Tags.{IsUsed}
 use Rattle.fileset_shapes.specs.declared.found.TaggedFile.{TaggedFile}
-use Rattle.fileset_shapes.specs.declared.sources.FilesetSource.{FilesetSource}
-use Rattle.fileset_shapes.specs.declared.sources.FilesetSource.TheVariants as source
+use Rattle.fileset_shapes.specs.declared.fileset_sources.FilesetSource.{FilesetSource}
+use Rattle.fileset_shapes.specs.declared.fileset_sources.FilesetSource.TheVariants as source
 
 -- the files are those of a fileset of a domain in which no rule is broken
 abbrev pub IsSource : Pages → FilesetSource → Type 0

@@ -1,9 +1,9 @@
 -- Lists of the tags that are used.
 use Rattle.std.specs.Prelude.{◌≡◌, ◌⊎◌, ◌↔◌, ◌/◌, ◌%◌, ◌^◌, ◌<◌, ℕ, List, Some, IsSome, Contains, slice_get}
-use Rattle.domain_base.specs.declared.place.Tag.{Tag}
-use Rattle.page_store.specs.Pages.{Pages}
-use Rattle.tag_dirs.specs.Directory.{cell_of}
-use Rattle.tag_dirs.specs.declared.dir.TagPlace.{TagPlace}
+use Rattle.filesets_reading.specs.domain_base.declared.place.Tag.{Tag}
+use Rattle.filesets_reading.specs.page_store.Pages.{Pages}
+use Rattle.filesets_reading.specs.tag_dirs.Directory.{cell_of}
+use Rattle.filesets_reading.specs.tag_dirs.declared.dir.TagPlace.{TagPlace}
 
 -- a list has each tag of a kind once, and no other; their sequences are numbers of two bytes
 pub record ListsOnce (is : Tag → Type 0) (tags : List Tag) : Type 0 where

@@ -1,11 +1,8 @@
 //! What is read of a fileset.
-use bmt_mcells::RecordList;
-use domain_base::{Home, Tag};
-use fileset_model::FilesetName;
-use filesets_reading::SeenPages;
+use filesets_reading::{FilesetName, Home, RecordList, SeenPages, Tag};
 
-/// A file or directory with its tag, and the homes of the pages of its index in their order: none
-/// in a clone.
+/// A file or directory with its tag, and the homes of the pages of its index in their order; a
+/// clone has none.
 #[derive(Drop)]
 pub struct TaggedFile {
     pub tag: Tag,
@@ -13,8 +10,8 @@ pub struct TaggedFile {
     pub index: Vec<Home>,
 }
 
-/// A fileset: the name of its original where it is a clone, its files and directories, and the
-/// records of its quota cells, which say the limits of users and groups.
+/// A fileset: the name of its original if it is a clone, its files and directories, and the records
+/// of its quota cells, which say the limits of users and groups.
 #[derive(Drop)]
 pub struct FilesetSeen {
     pub original: Option<FilesetName>,

@@ -1,16 +1,13 @@
 //! The pages of the index of a directory.
 ghost use Rattle.std.specs.Prelude.{◌≡◌, List, IfOk, IfSome, Some};
-ghost use Rattle.bmt_mcells.specs.Chain.{PlacedCell};
-ghost use Rattle.bitfile_cells.specs.Files.{HasFile, IsFile};
-ghost use Rattle.bitfile_core.specs.Shown.{AreIndexPages, index_in as index_there, index_of};
+ghost use Rattle.filesets_reading.specs.metadata_cells.Chain.{PlacedCell};
+ghost use Rattle.filesets_reading.specs.file_chains.Files.{HasFile, IsFile};
+ghost use Rattle.filesets_reading.specs.fileset_files.Shown.{AreIndexPages, index_in as index_there, index_of};
 ghost use Rattle.fileset_shapes.specs.Found.{index_shown};
 ghost use Rattle.fileset_shapes.specs.Indexes.{HasIndexVolume, IsWholeIndex};
 
-use bmt_mcells::find_record;
-use domain_base::{CellAt, Home, OutOfMemory, VolIx};
-use page_store::MetaPages;
+use filesets_reading::{CellAt, Home, MetaPages, OutOfMemory, Record, VolIx, find_record};
 use page_ways::{IndexWay, PageWay};
-use record_table::Record;
 use std::alloc::Global;
 
 /// The home of the first page of an index, by the record of it.

@@ -1,14 +1,16 @@
-//! The shapes of all filesets.
-ghost use Rattle.std.specs.Prelude.{List, Option};
-ghost use Rattle.page_store.specs.Pages.{Pages};
-ghost use Rattle.fileset_table.specs.Table.{IsTable, Table};
-ghost use Rattle.domain_layout.specs.Shape.{Shapes};
-ghost use Rattle.fileset_shapes.specs.Shapes.{AreShapesSeen, SeesSlots};
-ghost use Rattle.fileset_shapes.specs.declared.found.FilesetSeen.{FilesetSeen};
+//! Laws of paths by rows that were read.
+ghost use Rattle.std.specs.Prelude.{◌≡◌};
+ghost use Rattle.filesets_reading.specs.domain_base.declared.place.Kind.TheVariants.{Directory};
+ghost use Rattle.filesets_reading.specs.domain_base.declared.place.Tag.{Tag};
+ghost use Rattle.filesets_reading.specs.page_store.Bitfiles.{Bitfiles};
+ghost use Rattle.filesets_reading.specs.directory_rows.Directory.{rows_in};
+ghost use Rattle.filesets_reading.specs.fileset_values.Orders.{Path};
+ghost use Rattle.filesets_reading.specs.name_space.Names.{led_to, root_tag};
+ghost use Rattle.filesets_reading.specs.directory_rows.Ways.{RowsBy, led_by};
 
-/// A table of which all slots were read has a shape of each of its filesets.
-pub fn slots_have_shapes()
-    ensures { (pages : Pages) (table : Table) (found : List (Option FilesetSeen)) → IsTable table
-        → SeesSlots pages table found
-        → (shapes : Shapes) × AreShapesSeen pages table found shapes }
+/// By rows, paths lead to what they lead to in a set of files that has the same rows in each
+/// directory.
+pub fn rows_lead_as_names()
+    ensures { (files : Bitfiles) (rows : RowsBy) → ((tag : Tag) → rows tag ≡ rows_in files tag)
+        → (path : Path) → led_by rows (root_tag, Directory) path ≡ led_to files path }
 {}

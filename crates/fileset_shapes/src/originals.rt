@@ -2,16 +2,14 @@
 ghost use Rattle.std.specs.Prelude.{IfOk};
 ghost use Rattle.fileset_shapes.specs.Files.{AreOriginals, ReadsOriginalAt};
 
+use crate::FilesetFiles;
 use crate::found::TaggedFile;
 use crate::indexes::read_index;
-use domain_base::{OutOfMemory, Tag};
-use filesets_reading::read_original;
-use page_store::MetaPages;
-use shape_reading::FilesetFiles;
+use filesets_reading::{MetaPages, OutOfMemory, Tag, read_original};
 use std::alloc::Global;
 
 /// The file or directory that a tag names in an original, with its pages and those of its index.
-/// None exactly where it names none, or one that is to be removed.
+/// None if and only if it names nothing, or something that is to be removed.
 pub(crate) fn read_original_at<M: MetaPages>(
     alloc: Global,
     pages: &M,

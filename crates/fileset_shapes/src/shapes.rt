@@ -1,19 +1,18 @@
 //! The filesets of a domain.
 ghost use Rattle.std.specs.Prelude.{◌≡◌, IfOk, Some, slice_get};
-ghost use Rattle.fileset_table.specs.declared.slot.SlotItem.TheVariants as slot;
+ghost use Rattle.filesets_reading.specs.fileset_table.declared.slot.SlotItem.TheVariants as slot;
 ghost use Rattle.page_ways.specs.Frame.{frame_in};
 ghost use Rattle.fileset_shapes.specs.Found.{SeesItem, SeesSlot};
 ghost use Rattle.fileset_shapes.specs.Shapes.{AreFilesAt, HasEntryAt, IsDomain, SeesSlots};
 
+use crate::fileset_sources::{FilesetSource, read_files};
 use crate::found::FilesetSeen;
-use crate::sources::{FilesetSource, read_files};
-use bitfile_core::Bitfiles;
-use domain_base::{FilesetNo, OutOfMemory};
-use fileset_table::{FilesetEntry, SlotItem};
-use filesets_reading::{DomainTables, look_at_files, read_tags};
-use page_store::MetaPages;
+use crate::{FilesetFiles, read_quotas};
+use filesets_reading::{
+    Bitfiles, DomainTables, FilesetEntry, FilesetNo, MetaPages, OutOfMemory, SlotItem,
+    look_at_files, read_tags,
+};
 use page_ways::DomainFrame;
-use shape_reading::{FilesetFiles, read_quotas};
 use std::alloc::Global;
 
 /// The files of the fileset in a slot.
@@ -107,7 +106,8 @@ fn read_clone_in<M: MetaPages>(
     })
 }
 
-/// The fileset in a slot. None exactly where no fileset is, or one that is being removed.
+/// The fileset in a slot. None if and only if no fileset is in the slot, or one that is being
+/// removed.
 pub fn read_slot<M: MetaPages>(
     alloc: Global,
     pages: &M,

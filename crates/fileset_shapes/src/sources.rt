@@ -1,109 +1,135 @@
-//! All files and directories of a fileset.
-ghost use Rattle.std.specs.Prelude.{◌⊎◌, IfOk};
-ghost use Rattle.tag_dirs.specs.Directory.{IsDirectory};
-ghost use Rattle.fileset_shapes.specs.Sources.{AreAllOf, HasTag, IsSource, ReadsAt};
-ghost use Rattle.fileset_shapes.specs.Tags.{IsUsed, ListsOnce};
+//! The file through which a clone's file is read, and the homes of both together.
+ghost use Rattle.std.specs.Prelude.{◌≡◌, ◌≤◌, ℕ, IfOk, IfSome, List, length};
+ghost use Rattle.filesets_reading.specs.domain_base.Limits.{file_pages};
+ghost use Rattle.filesets_reading.specs.metadata_cells.Chain.{PlacedCell};
+ghost use Rattle.filesets_reading.specs.file_chains.Files.{HasFile, IsFile};
+ghost use Rattle.filesets_reading.specs.fileset_files.Files.{first_record as first_there};
+ghost use Rattle.filesets_reading.specs.file_release.Reading.{own_or as own_or_there, read_home as read_there};
+ghost use Rattle.filesets_reading.specs.extent_maps.Runs.{place_of};
+ghost use Rattle.filesets_reading.specs.domain_layout.Seen.{IsSource, frozen_in as frozen_there, frozen_of, source_in as source_there, source_of};
+ghost use Rattle.filesets_reading.specs.Seen.{home_in};
+ghost use Rattle.fileset_shapes.specs.Clones.{HasVolume, MayBeSource};
 
-use crate::clones::read_clone_at;
-use crate::found::TaggedFile;
-use crate::originals::read_original_at;
-use crate::tags::used_tags;
-use domain_base::{OutOfMemory, Tag};
-use page_store::MetaPages;
-use shape_reading::FilesetFiles;
+use filesets_reading::{
+    CellAt, ExtentMap, Home, MetaPages, OutOfMemory, PagePlace, Record, VolIx, end_of, find_record,
+    look_at_chain, read_file_map,
+};
 use std::alloc::Global;
-use tag_dirs::TagDir;
 
-/// From where the files of a fileset are read.
-#[derive(Drop)]
-pub(crate) enum FilesetSource {
-    /// The files of an original.
-    Original {
-        files: FilesetFiles,
-    },
-    /// The files of the clone with this number, and those of its original.
-    Clone {
-        own: FilesetFiles,
-        behind: FilesetFiles,
-        number: u64,
-    },
-}
-
-/// The tags that two tag directories have in use, each once.
-pub fn tags_of_both<M: MetaPages>(
-    alloc: Global,
-    pages: &M,
-    own: &TagDir,
-    behind: &TagDir,
-) -> Result<Vec<Tag>, OutOfMemory>
-    requires own { IsDirectory (M.pages pages.now) own.now }
-    requires behind { IsDirectory (M.pages pages.now) behind.now }
-    ensures { IfOk result (λ tags. ListsOnce (λ tag. IsUsed (M.pages pages.now) own.now tag
-        ⊎ IsUsed (M.pages pages.now) behind.now tag) tags.items) }
+/// The record of a kind in the first cell of a file.
+pub(crate) fn first_record<M: MetaPages>(pages: &M, at: &CellAt, kind: u8) -> Option<Record>
+    ensures { (cells : List PlacedCell) → IsFile (M.pages pages.now) at.now cells
+        → result ≡ first_there kind cells }
 {
-    let mut tags = used_tags(alloc, pages, own)?;
-    let more = used_tags(alloc, pages, behind)?;
-    for i in 0..more.len() {
-        let tag = more[i];
-        if own.look(pages, tag).is_none() {
-            tags.push(tag)?;
-        }
-    }
-    Ok(tags)
+    find_record(pages, *at, kind)
 }
 
-/// The tags at which a fileset may have something, each once.
-fn tags_of<M: MetaPages>(
+/// The first cell of the file through which one is read, by a record of a clone's file.
+fn source_in(value: &Record) -> Option<CellAt>
+    requires { HasVolume value.now }
+    ensures { result ≡ source_there value.now }
+{
+    match value {
+        Record::CloneFile {
+            source_vol,
+            source_cell,
+            source_page,
+            ..
+        } => Some(CellAt {
+            vol: VolIx::new(u32::from(*source_vol))?,
+            page: *source_page,
+            cell: *source_cell,
+        }),
+        _ => None,
+    }
+}
+
+/// How many pages the file had when it was cloned, by a record of a clone's file.
+fn frozen_in(value: &Record) -> u32
+    ensures { result ≡ frozen_there value.now }
+{
+    match value {
+        Record::CloneFile { frozen, .. } => *frozen,
+        _ => 0,
+    }
+}
+
+/// The first cell of the file through which a clone's file is read, if it still is.
+pub(crate) fn source_at<M: MetaPages>(pages: &M, at: &CellAt) -> Option<CellAt>
+    requires { HasFile (M.pages pages.now) at.now }
+    ensures { (cells : List PlacedCell) → IsFile (M.pages pages.now) at.now cells
+        → result ≡ source_of cells }
+{
+    source_in(&first_record(pages, at, 2)?)
+}
+
+/// How many pages the source of a clone's file had when the clone was made.
+pub(crate) fn frozen_at<M: MetaPages>(pages: &M, at: &CellAt) -> u32
+    ensures { (cells : List PlacedCell) → IsFile (M.pages pages.now) at.now cells
+        → result ≡ frozen_of cells }
+{
+    match first_record(pages, at, 2) {
+        Some(value) => frozen_in(&value),
+        None => 0,
+    }
+}
+
+/// Where the source has its pages, no matter how many it keeps.
+pub(crate) fn read_source<M: MetaPages>(
     alloc: Global,
     pages: &M,
-    source: &FilesetSource,
-) -> Result<Vec<Tag>, OutOfMemory>
-    requires { IsSource (M.pages pages.now) source.now }
-    ensures { IfOk result (λ tags. ListsOnce (HasTag (M.pages pages.now) source.now) tags.items) }
+    source: &Option<CellAt>,
+) -> Result<ExtentMap, OutOfMemory>
+    requires { IfSome source.now (MayBeSource (M.pages pages.now)) }
+    ensures { IfOk result (λ map. IsSource (M.pages pages.now) source.now (place_of map)) }
 {
     match source {
-        FilesetSource::Original { files } => used_tags(alloc, pages, &files.tags),
-        FilesetSource::Clone { own, behind, .. } => {
-            tags_of_both(alloc, pages, &own.tags, &behind.tags)
+        Some(at) => {
+            look_at_chain(alloc, pages, *at)?;
+            read_file_map(alloc, pages, *at)
         }
+        None => Ok(ExtentMap::new(alloc)),
     }
 }
 
-/// What a fileset has at a tag.
-fn read_at<M: MetaPages>(
-    alloc: Global,
-    pages: &M,
-    source: &FilesetSource,
-    tag: Tag,
-) -> Result<Option<TaggedFile>, OutOfMemory>
-    requires { IsSource (M.pages pages.now) source.now }
-    ensures { IfOk result (ReadsAt (M.pages pages.now) source.now tag) }
+/// The home of a place, or another home if the page is absent.
+fn own_or(own: PagePlace, other: Option<Home>) -> Option<Home>
+    ensures { result ≡ own_or_there own other }
 {
-    match source {
-        FilesetSource::Original { files } => read_original_at(alloc, pages, files, tag),
-        FilesetSource::Clone {
-            own,
-            behind,
-            number,
-        } => read_clone_at(alloc, pages, own, behind, *number, tag),
+    match own {
+        PagePlace::At(home) => Some(home),
+        PagePlace::Hole => None,
+        PagePlace::Absent => other,
     }
 }
 
-/// All files and directories of a fileset.
-pub(crate) fn read_files<M: MetaPages>(
-    alloc: Global,
-    pages: &M,
-    source: &FilesetSource,
-) -> Result<Vec<TaggedFile>, OutOfMemory>
-    requires { IsSource (M.pages pages.now) source.now }
-    ensures { IfOk result (λ files. AreAllOf (M.pages pages.now) source.now files.items) }
+/// The home at which a page is read, by where it stands and where the source has it.
+fn read_home(page: u32, frozen: u32, own: &ExtentMap, source: &ExtentMap) -> Option<Home>
+    ensures { result ≡ read_there frozen (place_of own.now) (place_of source.now) page }
 {
-    let tags = tags_of(alloc, pages, source)?;
-    let mut files = Vec::new(alloc);
-    for i in 0..tags.len() {
-        if let Some(file) = read_at(alloc, pages, source, tags[i])? {
-            files.push(file)?;
-        }
+    let behind = if page < frozen {
+        source.home_of(page).home()
+    } else {
+        None
+    };
+    own_or(own.home_of(page), behind)
+}
+
+/// The home at which each page is read.
+pub(crate) fn read_homes(
+    alloc: Global,
+    frozen: u32,
+    own: &ExtentMap,
+    source: &ExtentMap,
+) -> Result<Vec<Option<Home>>, OutOfMemory>
+    ensures homes { IfOk result (λ homes. (page : ℕ) → home_in homes.items page
+        ≡ read_there frozen (place_of own.now) (place_of source.now) page) }
+    ensures few { IfOk result (λ homes. length homes.items ≤ file_pages) }
+{
+    let end = end_of(own.runs()).max(end_of(source.runs()));
+    let mut homes = Vec::new(alloc);
+    for page in 0..end {
+        homes.push(read_home(page, frozen, own, source))?;
     }
-    Ok(files)
+    Ok(homes)
 }

@@ -1,15 +1,12 @@
 //! The tags in use of a tag directory.
 ghost use Rattle.std.specs.Prelude.{◌≡◌, ◌+◌, ◌*◌, ◌<◌, Some, None, IfNone, IfOk, IfSome, OnOk, length, slice_get};
-ghost use Rattle.domain_base.specs.declared.place.Tag.{Tag as TagOf};
-ghost use Rattle.tag_dirs.specs.Directory.{IsDirectory, cell_of};
+ghost use Rattle.filesets_reading.specs.domain_base.declared.place.Tag.{Tag as TagOf};
+ghost use Rattle.filesets_reading.specs.tag_dirs.Directory.{IsDirectory, cell_of};
 ghost use Rattle.filesets_reading.specs.Chains.{IsPlaceOf};
 ghost use Rattle.fileset_shapes.specs.Tags.{IsTagOf, IsUsed, IsUsedOnFirst, ListsOnce};
 
-use domain_base::{OutOfMemory, Tag};
-use page_store::MetaPages;
-use record_table::u16_at;
+use filesets_reading::{MetaPages, OutOfMemory, Tag, TagDir, TagPlace, u16_at};
 use std::alloc::Global;
-use tag_dirs::{TagDir, TagPlace};
 
 /// The tag of an entry of a page, if it is used.
 fn tag_at<M: MetaPages>(pages: &M, dir: &TagDir, place: &TagPlace, entry: u32) -> Option<Tag>
@@ -35,8 +32,8 @@ fn tag_at<M: MetaPages>(pages: &M, dir: &TagDir, place: &TagPlace, entry: u32) -
     }
 }
 
-/// Puts the tags in use of a page behind those of the pages in front of it. After an error some are
-/// put.
+/// Appends the tags in use of a page to those of the pages before it. After an error some have been
+/// appended.
 fn push_tags<M: MetaPages>(
     pages: &M,
     dir: &TagDir,

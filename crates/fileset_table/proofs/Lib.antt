@@ -9,3 +9,4 @@ pub mod Slots
 pub mod Tried
 pub mod Unique
 pub mod Written
+pub mod OfWordForms

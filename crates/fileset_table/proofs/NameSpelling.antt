@@ -8,9 +8,9 @@ use Rattle.fileset_table.specs.Reading.{Reads}
 use Rattle.std.proofs.lemmas.List.{take_at, drop_at, drop-take, drop-drop, take-take}
 use Rattle.std.proofs.Math.Seq.{take-add}
 use Rattle.std.specs.List.{list_all}
-use Rattle.domain_base.specs.Page.{zero_bytes}
-use Rattle.record_table.specs.Fields.{number_at}
-use Rattle.bmt_mcells.proofs.OneByOne.{are_zeros, zeros_are}
+use Rattle.metadata_cells.specs.domain_base.Page.{zero_bytes}
+use Rattle.metadata_cells.specs.cell_records.Fields.{number_at}
+use Rattle.metadata_cells.proofs.OneByOne.{are_zeros, zeros_are}
 use Rattle.word_forms.specs.Forms.{has_length, is_fileset_character, is_fileset_name}
 use Rattle.fileset_table.specs.Slot.{IsNamed}
 

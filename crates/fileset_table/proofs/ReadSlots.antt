@@ -6,9 +6,9 @@ use Rattle.fileset_table.specs.declared.slot.SlotItem.{SlotItem}
 use Rattle.fileset_table.specs.declared.slot.TableFault.{TableFault}
 use Rattle.fileset_table.specs.declared.slot.TableFault.TheVariants.{Bad, OutOfMemory}
 use Rattle.fileset_table.specs.Reading.{Fails}
-use Rattle.domain_base.specs.declared.place.CellAt.{CellAt}
-use Rattle.record_table.specs.Fields.{number_at}
-use Rattle.bmt_mcells.specs.Cell.{IsAddress}
+use Rattle.metadata_cells.specs.domain_base.declared.place.CellAt.{CellAt}
+use Rattle.metadata_cells.specs.cell_records.Fields.{number_at}
+use Rattle.metadata_cells.specs.Cell.{IsAddress}
 use Rattle.word_forms.specs.Forms.{is_fileset_name}
 use Rattle.std.specs.List.{AllByRecursion}
 use Rattle.fileset_table.specs.declared.slot.FilesetEntry.{FilesetEntry}

@@ -2,14 +2,14 @@
 use Rattle.std.proofs.Common.{◌≡◌, ◌∙◌, ◌⊎◌, inl, inr, ℕ, ◌+◌, ◌*◌, ◌<◌, ◌≤◌, Some, List, [], ◌∷◌, ◌++◌, length, take, drop, get_or, slice_get, append_assoc, refl, sym, ap, subst, arith, length-append, length-drop, length-take}
 use Rattle.std.proofs.lemmas.Bool.{cases_lt}
 use Rattle.std.specs.Option.{IsSomeAnd}
-use Rattle.domain_base.specs.Page.{overwritten}
-use Rattle.record_table.specs.Fields.{Fit, number_at}
-use Rattle.record_table.specs.Records.{spelled}
-use Rattle.record_table.specs.Rules.{nothing_seen}
-use Rattle.record_table.proofs.Scan.{decoded, decoded_again}
-use Rattle.bmt_mcells.proofs.Written.{any_of, pass_any}
-use Rattle.bmt_mcells.proofs.Changed.{number-same}
-use Rattle.bmt_mcells.proofs.Places.{part_before, part_there, rest_after}
+use Rattle.metadata_cells.specs.domain_base.Page.{overwritten}
+use Rattle.metadata_cells.specs.cell_records.Fields.{Fit, number_at}
+use Rattle.metadata_cells.specs.cell_records.Records.{spelled}
+use Rattle.metadata_cells.specs.cell_records.Rules.{nothing_seen}
+use Rattle.metadata_cells.proofs.OfCellRecords.Scan.{decoded, decoded_again}
+use Rattle.metadata_cells.proofs.Written.{any_of, pass_any}
+use Rattle.metadata_cells.proofs.Changed.{number-same}
+use Rattle.metadata_cells.proofs.Places.{part_before, part_there, rest_after}
 use Rattle.fileset_table.specs.declared.slot.SlotItem.{SlotItem}
 use Rattle.fileset_table.specs.Slot.{IsSlot}
 use Rattle.fileset_table.specs.Page.{AreSlots, HasHeader, slot_bytes}

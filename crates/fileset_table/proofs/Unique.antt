@@ -6,11 +6,11 @@ use Rattle.std.specs.Result.{IfOk}
 use Rattle.fileset_table.specs.declared.slot.TableFault.{TableFault}
 use Rattle.fileset_table.specs.declared.slot.TableFault.TheVariants.{Bad, OutOfMemory}
 use Rattle.fileset_table.specs.Reading.{Reads}
-use Rattle.domain_base.specs.Page.{zero_bytes}
-use Rattle.domain_base.specs.declared.place.CellAt.{CellAt}
-use Rattle.domain_base.specs.declared.place.Home.{Home}
-use Rattle.record_table.specs.Fields.{number_at}
-use Rattle.bmt_mcells.specs.Cell.{IsAddress, IsFileset}
+use Rattle.metadata_cells.specs.domain_base.Page.{zero_bytes}
+use Rattle.metadata_cells.specs.domain_base.declared.place.CellAt.{CellAt}
+use Rattle.metadata_cells.specs.domain_base.declared.place.Home.{Home}
+use Rattle.metadata_cells.specs.cell_records.Fields.{number_at}
+use Rattle.metadata_cells.specs.Cell.{IsAddress, IsFileset}
 use Rattle.fileset_table.specs.declared.slot.FilesetEntry.{FilesetEntry}
 use Rattle.fileset_table.specs.declared.slot.SlotItem.{SlotItem}
 use Rattle.fileset_table.specs.declared.slot.SlotItem.TheVariants.{Free, Original, Clone, Removed}

@@ -4,16 +4,16 @@ use Rattle.std.proofs.lemmas.List.{append-nil, drop_all, drop_at, drop-append-le
 use borrow.Rule.Slice.PartMut.{put_mid, post_of}
 use Rattle.std.proofs.Math.Seq.{take-append-add}
 use Rattle.byteorder.specs.Endian.{little_number}
-use Rattle.domain_base.specs.Page.{zero_bytes, length-zero_bytes}
-use Rattle.domain_base.specs.declared.place.CellAt.{CellAt}
-use Rattle.domain_base.specs.declared.place.Home.{Home}
-use Rattle.record_table.specs.Fields.{Fit, number_at}
-use Rattle.record_table.specs.Records.{spelled}
-use Rattle.record_table.specs.Rules.{nothing_seen}
-use Rattle.record_table.proofs.Bytes.{little_number-take}
-use Rattle.record_table.proofs.Scan.{decoded, decoded_again}
-use Rattle.bmt_mcells.specs.Cell.{IsAddress}
-use Rattle.bmt_mcells.proofs.Written.{any_of, pass_any, zeros_left}
+use Rattle.metadata_cells.specs.domain_base.Page.{zero_bytes, length-zero_bytes}
+use Rattle.metadata_cells.specs.domain_base.declared.place.CellAt.{CellAt}
+use Rattle.metadata_cells.specs.domain_base.declared.place.Home.{Home}
+use Rattle.metadata_cells.specs.cell_records.Fields.{Fit, number_at}
+use Rattle.metadata_cells.specs.cell_records.Records.{spelled}
+use Rattle.metadata_cells.specs.cell_records.Rules.{nothing_seen}
+use Rattle.metadata_cells.proofs.OfCellRecords.Bytes.{little_number-take}
+use Rattle.metadata_cells.proofs.OfCellRecords.Scan.{decoded, decoded_again}
+use Rattle.metadata_cells.specs.Cell.{IsAddress}
+use Rattle.metadata_cells.proofs.Written.{any_of, pass_any, zeros_left}
 use Rattle.fileset_table.specs.declared.writing.SlotNumbers.{SlotNumbers}
 use Rattle.word_forms.specs.Forms.{is_fileset_name}
 use Rattle.fileset_table.specs.declared.slot.FilesetEntry.{FilesetEntry}

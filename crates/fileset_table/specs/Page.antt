@@ -1,6 +1,6 @@
 -- The page of the fileset table: 16 bytes, and 32 slots of 128 bytes.
 use Rattle.std.specs.Prelude.{◌≡◌, ◌+◌, ◌*◌, ◌<◌, ℕ, List, length, take, drop, IsSomeAnd, slice_get}
-use Rattle.record_table.specs.Fields.{number_at}
+use Rattle.metadata_cells.specs.cell_records.Fields.{number_at}
 use Rattle.fileset_table.specs.declared.slot.SlotItem.{SlotItem}
 use Rattle.fileset_table.specs.Slot.{IsSlot}
 use Rattle.fileset_table.specs.Table.{IsTable, Table}

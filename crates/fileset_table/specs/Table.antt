@@ -3,7 +3,7 @@ use Rattle.std.specs.Prelude.{◌≡◌, ◌^◌, ◌<◌, ◌≤◌, ◌==◌, 
 use Rattle.std.specs.Coded.{Coded, code_by, coded×, coded_ℕ, coded_list}
 use Rattle.std.specs.List.{AllByRecursion, IsDistinct, list_all}
 use Rattle.std.specs.Option.{option_map_or}
-use Rattle.domain_base.specs.declared.place.CellAt.{CellAt}
+use Rattle.metadata_cells.specs.domain_base.declared.place.CellAt.{CellAt}
 use Rattle.fileset_model.specs.Paths.{same_name}
 use Rattle.word_forms.specs.Forms.{is_fileset_name}
 use Rattle.fileset_table.specs.declared.slot.FilesetEntry.{FilesetEntry}

@@ -1,8 +1,8 @@
 -- What the parts of a slot are once they are written, and a page of which one slot was.
 use Rattle.std.specs.Prelude.{◌≡◌, ◌+◌, ◌-◌, ◌≤◌, ℕ, List, [], ◌∷◌, ◌++◌, length, take, drop}
-use Rattle.domain_base.specs.Page.{zero_bytes}
-use Rattle.record_table.specs.Fields.{number_at}
-use Rattle.bmt_mcells.specs.Cell.{IsAddress}
+use Rattle.metadata_cells.specs.domain_base.Page.{zero_bytes}
+use Rattle.metadata_cells.specs.cell_records.Fields.{number_at}
+use Rattle.metadata_cells.specs.Cell.{IsAddress}
 use Rattle.fileset_table.specs.declared.slot.SlotItem.{SlotItem}
 use Rattle.fileset_table.specs.declared.writing.SlotNumbers.{SlotNumbers}
 use Rattle.fileset_table.specs.Slot.{IsHome, IsSlot}

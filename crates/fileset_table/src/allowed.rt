@@ -1,13 +1,13 @@
-//! What a slot may have by itself.
+//! What a slot may hold by itself.
 ghost use Rattle.std.specs.Prelude.{◌↔◌, IsTrue};
 ghost use Rattle.fileset_table.specs.Table.{IsAllowed, IsAllowedEntry, IsCellNumber};
 
 use crate::slot::{FilesetEntry, SlotItem};
-use domain_base::CellAt;
-use domain_base::limits::PAGE_CELLS;
+use metadata_cells::CellAt;
+use metadata_cells::limits::PAGE_CELLS;
 use word_forms::is_fileset_name;
 
-/// Whether a cell is one of its page, if there is one.
+/// Whether a cell, if there is one, has a number that a page of cells has.
 fn is_cell(quota: &Option<CellAt>) -> bool
     ensures { IsTrue result ↔ IsCellNumber quota.now }
 {
@@ -17,14 +17,14 @@ fn is_cell(quota: &Option<CellAt>) -> bool
     }
 }
 
-/// Whether a slot may have this fileset.
+/// Whether a slot may hold this fileset.
 fn is_allowed_entry(entry: &FilesetEntry) -> bool
     ensures { IsTrue result ↔ IsAllowedEntry entry.now }
 {
     is_fileset_name(entry.name.as_slice()) && is_cell(&entry.quota)
 }
 
-/// Whether a slot may have this, whatever the others have.
+/// Whether a slot may hold this, whatever the others hold.
 pub(crate) fn is_allowed(item: &SlotItem) -> bool
     ensures { IsTrue result ↔ IsAllowed item.now }
 {

@@ -11,16 +11,16 @@ ghost use Rattle.fileset_table.specs.declared.slot.SlotItem.TheVariants.{Clone, 
 
 use crate::slot::TableFault;
 use crate::table::FilesetTable;
-use domain_base::Page;
+use metadata_cells::Page;
 use std::alloc::Global;
 
-/// The law that a page says one table at most.
+/// The law that a page says at most one table.
 pub fn a_page_is_one_table()
     ensures { (page : List ℕ) (a b : Table) → IsTablePage page a → IsTablePage page b → a ≡ b }
 {}
 
-/// Writes a table to a page and reads it again: it is the same, and nothing but want of memory
-/// keeps it from that.
+/// Writes a table to a page and reads it again. The result is the same. Fails only if memory runs
+/// out.
 pub fn written_and_read(
     alloc: Global,
     table: &FilesetTable,
@@ -34,7 +34,7 @@ pub fn written_and_read(
 }
 
 /// The law that a fileset without a clone may leave its slot, which is then free or that of a
-/// fileset being removed, and that the table stays one.
+/// fileset being removed, and that the table stays a table.
 pub fn a_fileset_leaves()
     ensures { (table : Table) (number : ℕ) (item : SlotItemOf) → IsTable table
         → list_any (is_clone_of number) table.slots ≡ false → is_fileset item ≡ false
@@ -61,16 +61,16 @@ pub fn a_clone_joins()
         → IsTable (with_slot number (Clone original n entry) table) }
 {}
 
-/// The law that of a fileset all may change but its name and what it is: where its tag directory
-/// begins, its limits, the quota cell, and of a clone its number.
+/// The law that all of a fileset may change except its name and its kind: where its tag directory
+/// begins, its limits, the quota cell, and the number of a clone.
 pub fn a_fileset_changes()
     ensures { (table : Table) (number : ℕ) (old item : SlotItemOf) → IsTable table
         → slice_get table.slots number ≡ Some old → IsSameFileset old item → IsAllowed item
         → IsTable (with_slot number item table) }
 {}
 
-/// The law that what a slot had gives the table that was, where it is put back behind one other
-/// change of the slot.
+/// The law that putting back what a slot had, after one other change of the slot, gives the table
+/// as it was.
 pub fn a_slot_comes_back()
     ensures { (table : Table) (number : ℕ) (had item : SlotItemOf)
         → slice_get table.slots number ≡ Some had

@@ -15,3 +15,10 @@ pub use laws::{
 };
 pub use slot::{FilesetEntry, SlotItem, TableFault};
 pub use table::FilesetTable;
+
+// What stands below and is named above.
+pub use fileset_model::{Limits, Usage};
+pub use metadata_cells::{
+    CellAt, FilesetNo, Home, MemoryPages, MetaPages, OutOfMemory, Page, Record, Tag, VolIx, limits,
+};
+pub use word_forms::{FilesetName, Owner, Refusal, is_fileset_name, push_number};

@@ -1,9 +1,9 @@
 //! Slots of the fileset table, read from their bytes.
 ghost use Rattle.std.specs.Prelude.{◌≡◌, ◌↔◌, IsTrue, ℕ, true, length, IfSome, IfNone, Option, Some};
-ghost use Rattle.domain_base.specs.declared.place.CellAt.{CellAt};
-ghost use Rattle.domain_base.specs.declared.place.Home.{Home};
-ghost use Rattle.record_table.specs.Fields.{number_at};
-ghost use Rattle.bmt_mcells.specs.Cell.{IsFileset};
+ghost use Rattle.metadata_cells.specs.domain_base.declared.place.CellAt.{CellAt};
+ghost use Rattle.metadata_cells.specs.domain_base.declared.place.Home.{Home};
+ghost use Rattle.metadata_cells.specs.cell_records.Fields.{number_at};
+ghost use Rattle.metadata_cells.specs.Cell.{IsFileset};
 ghost use Rattle.word_forms.specs.Forms.{is_fileset_name};
 ghost use Rattle.fileset_table.specs.Page.{AreSlots, HasHeader, IsTablePage};
 ghost use Rattle.fileset_table.specs.Reading.{Reads, ReadsAs};
@@ -11,11 +11,9 @@ ghost use Rattle.fileset_table.specs.Slot.{HasFirstTag, HasQuota, IsEntry, IsNam
 
 use crate::rules::are_slots;
 use crate::slot::{FilesetEntry, SlotItem, TableFault};
-use domain_base::{CellAt, FilesetNo, Home, VolIx};
-use fileset_model::FilesetName;
-use record_table::{are_zeros, u8_at, u16_at, u32_at, u64_at};
+use metadata_cells::{CellAt, FilesetNo, Home, VolIx, are_zeros, u8_at, u16_at, u32_at, u64_at};
 use std::alloc::Global;
-use word_forms::{WordFault, fileset};
+use word_forms::{FilesetName, WordFault, fileset};
 
 /// How many slots a table has.
 pub(crate) const SLOTS: usize = 32;
@@ -29,10 +27,10 @@ pub(crate) const SLOT_BYTES: usize = 128;
 /// The first bytes of the page, `FSTB`, as a number.
 pub(crate) const MAGIC: u32 = 0x4254_5346;
 
-/// The most clones that can have been made, 2^63 less 1.
+/// The most clones that can have been made: 2^63 - 1.
 const MOST_MADE: u64 = 0x7fff_ffff_ffff_ffff;
 
-/// The name of the form of fileset names that the bytes are.
+/// The fileset name that the bytes are, if they have its form.
 fn name_of(alloc: Global, bytes: &[u8]) -> Result<FilesetName, TableFault>
     ensures { Reads (λ name. (is_fileset_name name ≡ true) × (name ≡ bytes.now)) result }
 {
@@ -55,7 +53,7 @@ fn read_name(alloc: Global, bytes: &[u8]) -> Result<FilesetName, TableFault>
     name_of(alloc, &bytes[2..end])
 }
 
-/// The first tag page in a slot. None where there is none, or its home is none that there may be.
+/// The first tag page in a slot. Returns None if there is none, or its home is not allowed.
 fn read_home(bytes: &[u8]) -> Option<Home>
     requires { length bytes.now ≡ 128 }
     ensures some { IfSome result (λ home. HasFirstTag bytes.now (Some home)) }
@@ -66,7 +64,7 @@ fn read_home(bytes: &[u8]) -> Option<Home>
     Some(Home { vol, page })
 }
 
-/// The first tag page in a slot, if there is one. None where its home is none that there may be.
+/// The first tag page in a slot, if there is one. Returns None if its home is not allowed.
 fn read_first_tag(bytes: &[u8]) -> Option<Option<Home>>
     requires { length bytes.now ≡ 128 }
     ensures some { IfSome result (HasFirstTag bytes.now) }
@@ -81,7 +79,7 @@ fn read_first_tag(bytes: &[u8]) -> Option<Option<Home>>
     }
 }
 
-/// The first quota cell in a slot, if there is one. None where its address is malformed.
+/// The first quota cell in a slot, if there is one. Returns None if its address is malformed.
 fn read_quota(bytes: &[u8]) -> Option<Option<CellAt>>
     requires { length bytes.now ≡ 128 }
     ensures some { IfSome result (HasQuota bytes.now) }
@@ -179,7 +177,7 @@ fn read_removed(bytes: &[u8]) -> Result<SlotItem, TableFault>
     Ok(SlotItem::Removed { first_tag, quota })
 }
 
-/// What a slot has.
+/// The item that a slot holds.
 pub(crate) fn read_slot(alloc: Global, bytes: &[u8]) -> Result<SlotItem, TableFault>
     requires { length bytes.now ≡ 128 }
     ensures { Reads (IsSlot bytes.now) result }

@@ -4,7 +4,7 @@ ghost use Rattle.std.specs.List.{list_all};
 ghost use Rattle.fileset_table.specs.Table.{AreTogether, HaveOneClone, HaveOwnNames, has_name as names, is_clone_of as clones, is_fileset as has_fileset, is_free as has_none, is_original as has_original, leads_to_original as leads, share_name as names_shared, share_original as originals_shared};
 
 use crate::slot::SlotItem;
-use domain_base::limits::MAX_FILESETS;
+use metadata_cells::limits::MAX_FILESETS;
 
 impl SlotItem {
     /// Whether the slot has no fileset, not even one that is being removed.

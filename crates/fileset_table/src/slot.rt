@@ -2,17 +2,16 @@
 ghost use Rattle.std.specs.Prelude.{◌≡◌};
 ghost use Rattle.fileset_table.specs.declared.slot.TableFault.TheVariants as table;
 
-use domain_base::{CellAt, FilesetNo, Home, OutOfMemory};
-use fileset_model::FilesetName;
+use metadata_cells::{CellAt, FilesetNo, Home, OutOfMemory};
 use std::alloc::AllocFailed;
-use word_forms::WordFault;
+use word_forms::{FilesetName, WordFault};
 
 /// Why a page was not read as a fileset table.
 #[derive(Clone, Copy, Debug, PartialEq, Eq)]
 pub enum TableFault {
-    /// The page is none.
+    /// The page holds no table.
     Bad,
-    /// No memory could be had.
+    /// Memory ran out.
     OutOfMemory,
 }
 
@@ -32,21 +31,21 @@ impl<T: Drop> From<AllocFailed<T>> for TableFault {
     }
 }
 
-/// What the table has of a fileset.
+/// What the table holds for a fileset.
 #[derive(Drop)]
 pub struct FilesetEntry {
     pub name: FilesetName,
     /// The first page of the fileset's tag directory.
     pub first_tag: Home,
-    /// The most files and directories that the fileset may have; 0 is no limit.
+    /// The most files and directories that the fileset may have. A limit of 0 means no limit.
     pub files_limit: u64,
-    /// The most blocks of 512 bytes that its files may have; 0 is no limit.
+    /// The most blocks of 512 bytes that its files may have. A limit of 0 means no limit.
     pub blocks_limit: u64,
     /// The first cell of the limits of users and groups, if there are any.
     pub quota: Option<CellAt>,
 }
 
-/// What a slot of the table has.
+/// The content of a slot of the table.
 #[derive(Drop)]
 pub enum SlotItem {
     Free,

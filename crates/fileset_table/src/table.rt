@@ -10,8 +10,8 @@ use crate::reading::read_table;
 use crate::rules::are_slots;
 use crate::slot::{SlotItem, TableFault};
 use crate::writing::put_table;
-use domain_base::limits::FILESET_SLOTS;
-use domain_base::{FilesetNo, OutOfMemory, Page};
+use metadata_cells::limits::FILESET_SLOTS;
+use metadata_cells::{FilesetNo, OutOfMemory, Page};
 use std::alloc::Global;
 use std::marker::Model;
 use std::mem::replace;
@@ -47,7 +47,7 @@ impl FilesetTable {
         Ok(FilesetTable { slots, made: 0 })
     }
 
-    /// Reads a page. Bad comes exactly where it says no table.
+    /// Reads a page. Fails with Bad if and only if the page says no table.
     pub fn read(alloc: Global, page: &Page) -> Result<FilesetTable, TableFault>
         ensures { Reads (IsTablePage page.now) result }
     {
@@ -55,7 +55,7 @@ impl FilesetTable {
         Ok(FilesetTable { slots, made })
     }
 
-    /// Writes the table to a page; the bytes behind the last slot stay.
+    /// Writes the table to a page. The bytes after the last slot stay.
     pub fn write(&self, page: &mut Page)
         ensures table { IsTablePage page.new self.now }
         ensures rest { drop 4112 page.new ≡ drop 4112 page.old }
@@ -63,7 +63,7 @@ impl FilesetTable {
         put_table(&self.slots, self.made, page);
     }
 
-    /// What a slot has. The table keeps its rules.
+    /// The content of a slot. The table keeps its rules.
     pub fn slot(&self, number: FilesetNo) -> &SlotItem
         ensures value { slice_get self.now.slots number ≡ Some result.now }
         ensures good { IsTable self.now }
@@ -79,7 +79,7 @@ impl FilesetTable {
         self.slots[number.number() as usize] = item;
     }
 
-    /// Puts this into a slot, and answers what it had.
+    /// Puts this into a slot, and returns what the slot had.
     pub fn replace_slot(&mut self, number: FilesetNo, item: SlotItem) -> SlotItem
         requires { IsTable (with_slot number item self.old) }
         ensures value { self.new ≡ with_slot number item self.old }
@@ -88,7 +88,7 @@ impl FilesetTable {
         exchange(&mut self.slots, number.number() as usize, item)
     }
 
-    /// Puts this into a slot where that leaves a table; else it hands it back, and nothing changes.
+    /// Puts this into a slot if that leaves a table. Otherwise hands it back, and nothing changes.
     pub fn try_set_slot(&mut self, number: FilesetNo, item: SlotItem) -> Result<(), SlotItem>
         ensures ok { OnOk result (IsTable (with_slot number item self.old)
             × (self.new ≡ with_slot number item self.old)) }
@@ -109,7 +109,7 @@ impl FilesetTable {
         self.made
     }
 
-    /// Says how many clones were made.
+    /// Sets how many clones were made.
     pub fn set_made(&mut self, made: u64)
         requires { IsCount made }
         ensures { self.new ≡ record self.old { made = made } }
@@ -117,8 +117,8 @@ impl FilesetTable {
         self.made = made;
     }
 
-    /// The slot of the original or clone of this name. None exactly where there is none; a fileset
-    /// that is being removed has no name.
+    /// The slot of the original or clone of this name. Returns None if and only if there is none. A
+    /// fileset that is being removed has no name.
     pub fn find(&self, name: &[u8]) -> Option<FilesetNo>
         ensures some { IfSome result (λ number.
             IsSomeAnd (slice_get self.now.slots number) (λ item. has_name name.now item ≡ true)) }
@@ -127,7 +127,7 @@ impl FilesetTable {
         find_slot(&self.slots, name)
     }
 
-    /// The first slot that is free. None exactly where none is.
+    /// The first slot that is free. Returns None if and only if none is free.
     pub fn free_slot(&self) -> Option<FilesetNo>
         ensures some { IfSome result (λ number.
             IsSomeAnd (slice_get self.now.slots number) (λ item. is_free item ≡ true)) }
@@ -139,7 +139,7 @@ impl FilesetTable {
     }
 }
 
-/// Puts this into a slot, and answers what it had.
+/// Puts this into a slot, and returns what the slot had.
 fn exchange(slots: &mut Vec<SlotItem>, at: usize, item: SlotItem) -> SlotItem
     requires { at < length slots.old.items }
     ensures slots { slots.new.items ≡ slice_set slots.old.items at item }
@@ -148,8 +148,8 @@ fn exchange(slots: &mut Vec<SlotItem>, at: usize, item: SlotItem) -> SlotItem
     replace(&mut slots[at], item)
 }
 
-/// Puts this into a slot where all slots then keep the rules that none can keep by itself; else it
-/// hands it back, and nothing changes.
+/// Puts this into a slot if all slots then keep the rules that no slot can keep by itself.
+/// Otherwise hands it back, and nothing changes.
 fn try_exchange(slots: &mut Vec<SlotItem>, at: usize, item: SlotItem) -> Result<(), SlotItem>
     requires { at < length slots.old.items }
     ensures ok { OnOk result (AreTogether (slice_set slots.old.items at item)

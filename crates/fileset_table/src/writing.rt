@@ -1,10 +1,10 @@
 //! The fileset table, written to its page.
 ghost use Rattle.std.specs.Prelude.{◌≡◌, ◌-◌, ◌<◌, ◌≤◌, ◌∷◌, ◌++◌, true, length, drop};
 ghost use Rattle.std.specs.List.{AllByRecursion};
-ghost use Rattle.domain_base.specs.Page.{zero_bytes};
-ghost use Rattle.record_table.specs.Fields.{Fit, number_at};
-ghost use Rattle.record_table.specs.Records.{spelled};
-ghost use Rattle.bmt_mcells.specs.Cell.{IsAddress};
+ghost use Rattle.metadata_cells.specs.domain_base.Page.{zero_bytes};
+ghost use Rattle.metadata_cells.specs.cell_records.Fields.{Fit, number_at};
+ghost use Rattle.metadata_cells.specs.cell_records.Records.{spelled};
+ghost use Rattle.metadata_cells.specs.Cell.{IsAddress};
 ghost use Rattle.word_forms.specs.Forms.{is_fileset_name};
 ghost use Rattle.fileset_table.specs.declared.slot.SlotItem.TheVariants.{Removed};
 ghost use Rattle.fileset_table.specs.Page.{AreSlots, HasHeader};
@@ -14,13 +14,12 @@ ghost use Rattle.fileset_table.specs.Writing.{HasNumbers, HasParts, SetsSlot, nu
 
 use crate::reading::{HEADER_BYTES, MAGIC, SLOT_BYTES};
 use crate::slot::{FilesetEntry, SlotItem};
-use domain_base::{CellAt, Home, Page};
-use record_table::put;
+use metadata_cells::{CellAt, Home, Page, put};
 
-/// The numbers of a slot behind its name.
+/// The numbers that a slot has after its name.
 #[derive(Clone, Copy)]
 struct SlotNumbers {
-    /// The slot of a clone's original and 1 more, and else 0.
+    /// The slot of a clone's original plus 1, or else 0.
     original: u32,
     number: u64,
     first_tag: Option<Home>,
@@ -33,7 +32,7 @@ struct SlotNumbers {
 /// made.
 const HEADER: [u8; 3] = [4, 4, 8];
 
-/// The widths of the numbers of a slot from its byte 40 on: the original and 1 more, four bytes
+/// The widths of the numbers of a slot from its byte 40 on: the original's slot plus 1, four bytes
 /// that say nothing, the clone's number, the volume and page of the first tag page, the limits of
 /// files and of blocks, and a zero, the volume, the cell and the page of the first quota cell.
 const NUMBERS: [u8; 11] = [4, 4, 8, 4, 4, 8, 8, 2, 1, 1, 4];
@@ -116,7 +115,7 @@ fn put_numbers(numbers: &SlotNumbers, out: &mut [u8])
     );
 }
 
-/// Writes the state and the name to zeros.
+/// Writes the state and the name over zeros.
 fn put_name(state: u8, name: &[u8], out: &mut [u8])
     requires zeros { out.old ≡ zero_bytes 128 }
     requires room { length out.old ≡ 128 }
@@ -129,7 +128,7 @@ fn put_name(state: u8, name: &[u8], out: &mut [u8])
     out[2..2 + name.len()].copy_from_slice(name);
 }
 
-/// Writes the state, the name and the numbers to zeros.
+/// Writes the state, the name and the numbers over zeros.
 fn put_parts(state: u8, name: &[u8], numbers: &SlotNumbers, out: &mut [u8])
     requires zeros { out.old ≡ zero_bytes 128 }
     requires room { length out.old ≡ 128 }
@@ -184,7 +183,7 @@ fn put_removed(first_tag: &Option<Home>, quota: &Option<CellAt>, out: &mut [u8])
     put_parts(3, &[], &numbers, out);
 }
 
-/// Writes what a slot has to zeros.
+/// Writes the content of a slot over zeros.
 fn spell_slot(item: &SlotItem, out: &mut [u8])
     requires zeros { out.old ≡ zero_bytes 128 }
     requires room { length out.old ≡ 128 }
@@ -204,7 +203,7 @@ fn spell_slot(item: &SlotItem, out: &mut [u8])
     }
 }
 
-/// Writes what a slot has to its place, and leaves all other slots.
+/// Writes the content of a slot to its place, and leaves all other slots.
 fn put_slot(number: usize, item: &SlotItem, page: &mut Page)
     requires number { number < 32 }
     requires allowed { IsAllowed item.now }
@@ -215,7 +214,7 @@ fn put_slot(number: usize, item: &SlotItem, page: &mut Page)
     page.set(HEADER_BYTES + SLOT_BYTES * number, &bytes);
 }
 
-/// Writes what a table begins with.
+/// Writes the header of a table.
 fn put_header(made: u64, page: &mut Page)
     ensures header { HasHeader page.new }
     ensures made { number_at 8 8 page.new ≡ made }
@@ -226,7 +225,7 @@ fn put_header(made: u64, page: &mut Page)
     page.set(0, &header);
 }
 
-/// Writes a table's slots, and how many clones were made. The bytes behind the last slot stay.
+/// Writes a table's slots, and how many clones were made. The bytes after the last slot stay.
 pub(crate) fn put_table(slots: &[SlotItem], made: u64, page: &mut Page)
     requires whole { length slots.now ≡ 32 }
     requires allowed { AllByRecursion IsAllowed slots.now }

@@ -4,24 +4,24 @@ use Rattle.std.proofs.lemmas.Bool.{cases_lt, eq-eqb}
 use Rattle.std.specs.FinMap as map
 use Rattle.std.specs.List.{AllByRecursion, IsDistinct}
 use Rattle.std.specs.Option.{option_and_then, option_map_or}
-use Rattle.page_store.specs.Pages.{Pages}
-use Rattle.domain_layout.specs.Filled.{AreFilled, Contents, Fills, FillsThere}
-use Rattle.domain_layout.specs.Read.{ReadsFrom, contents_of}
-use Rattle.domain_layout.specs.Shape.{FilesetShape, IsShapeOf, Shapes}
-use Rattle.fileset_laws.proofs.ValidLemmas.{from_some_and, some_inj, to_some_and}
-use Rattle.fileset_model.proofs.MapLemmas.{get-insert_other, get-insert_same}
-use Rattle.fileset_model.specs.Filesets.{FilesetMap}
-use Rattle.fileset_model.specs.Orders.{Name, name_cmp, name_cmp-total, name_cmp-IsAntisymmetric}
-use Rattle.fileset_model.specs.Paths.{same_name}
-use Rattle.fileset_table.specs.Table.{HaveOwnNames, Table, entry_of, has_name, share_name}
-use Rattle.fileset_table.specs.declared.slot.FilesetEntry.{FilesetEntry}
-use Rattle.fileset_table.specs.declared.slot.SlotItem.{SlotItem}
-use Rattle.shows_fileset.proofs.Decided.{list_decided}
+use Rattle.fileset_shapes.specs.page_store.Pages.{Pages}
+use Rattle.fileset_shapes.specs.domain_layout.Filled.{AreFilled, Contents, Fills, FillsThere}
+use Rattle.fileset_shapes.specs.domain_layout.Read.{ReadsFrom, contents_of}
+use Rattle.fileset_shapes.specs.domain_layout.Shape.{FilesetShape, IsShapeOf, Shapes}
+use Rattle.fileset_shapes.proofs.OfLegalHistories.ValidLemmas.{from_some_and, some_inj, to_some_and}
+use Rattle.fileset_shapes.proofs.OfFilesetValues.MapLemmas.{get-insert_other, get-insert_same}
+use Rattle.fileset_shapes.specs.fileset_model.Filesets.{FilesetMap}
+use Rattle.fileset_shapes.specs.fileset_values.Orders.{Name, name_cmp, name_cmp-total, name_cmp-IsAntisymmetric}
+use Rattle.fileset_shapes.specs.fileset_model.Paths.{same_name}
+use Rattle.fileset_shapes.specs.fileset_table.Table.{HaveOwnNames, Table, entry_of, has_name, share_name}
+use Rattle.fileset_shapes.specs.fileset_table.declared.slot.FilesetEntry.{FilesetEntry}
+use Rattle.fileset_shapes.specs.fileset_table.declared.slot.SlotItem.{SlotItem}
+use Rattle.filesets_filled.proofs.Decided.{list_decided}
 use Rattle.std.proofs.lemmas.Option.{slice_get_within}
-use Rattle.domain_base.specs.declared.place.Home.{Home}
-use Rattle.domain_layout.specs.Reached.{Frame}
-use Rattle.fileset_table.specs.Page.{IsTablePage}
-use Rattle.filesets_reading.specs.declared.tables.DomainTables.{DomainTables}
+use Rattle.fileset_shapes.specs.domain_base.declared.place.Home.{Home}
+use Rattle.fileset_shapes.specs.domain_layout.Reached.{Frame}
+use Rattle.fileset_shapes.specs.fileset_table.Page.{IsTablePage}
+use Rattle.fileset_shapes.specs.filesets_reading.declared.tables.DomainTables.{DomainTables}
 use Rattle.fileset_shapes.specs.Shapes.{IsDomain}
 use Rattle.filesets_filled.proofs.Says.{all_slots, table_page}
 use Rattle.filesets_filled.specs.Slots.{AreFilledUpTo, FillsEntry, FillsItem, FillsSlot, with_found}

@@ -1,2 +1,13 @@
+pub mod Decided
+pub mod Placed
+pub mod Entries
+pub mod RowFacts
+pub mod RowRules
+pub mod Entered
+pub mod ShownPages
+pub mod Indexes
+pub mod PartsRead
+pub mod Filled
+pub mod Shown
 pub mod Says
 pub mod FilledSlots

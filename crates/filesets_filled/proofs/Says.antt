@@ -1,52 +1,52 @@
 -- Where no rule is broken, what is read of a fileset says one.
 use Rattle.std.proofs.Common.{◌≡◌, ◌∙◌, ◌⊎◌, inl, inr, ⊎_elim, ℕ, zero, suc, ◌^◌, ◌≤◌, false, List, [], ◌∷◌, length, map, Option, Some, None, IsSome, IsSomeAnd, is_some, Contains, slice_get, refl, sym, ap, subst}
 use Rattle.std.specs.Option.{option_and_then, option_map, option_map_or}
-use Rattle.domain_base.specs.declared.place.Home.{Home}
-use Rattle.domain_base.specs.declared.place.Kind.TheVariants.{Directory}
-use Rattle.domain_base.specs.declared.place.Tag.{Tag}
-use Rattle.page_store.specs.Bitfiles.{Bitfile, Bitfiles, IsDirectory}
-use Rattle.page_store.specs.Pages.{Pages}
-use Rattle.log_ring.specs.Homes.{IsMember, member_of}
-use Rattle.dir_index.specs.Index.{index_pages}
-use Rattle.fileset_laws.proofs.ValidLemmas.{from_some_and, some_inj, to_some_and}
-use Rattle.fileset_model.specs.Orders.{Name}
-use Rattle.fileset_table.specs.Page.{IsTablePage}
-use Rattle.fileset_table.specs.Table.{HaveOwnNames, Table, entry_of}
-use Rattle.fileset_table.specs.declared.slot.FilesetEntry.{FilesetEntry}
-use Rattle.fileset_table.specs.declared.slot.SlotItem.{SlotItem}
-use Rattle.fileset_table.specs.declared.slot.SlotItem.TheVariants as slot
-use Rattle.name_space.specs.Names.{root_tag}
-use Rattle.domain_layout.specs.CellRules.{of_clone}
-use Rattle.domain_layout.specs.DirectoryRules.{IsDirectoryFault, IsIndexFault}
-use Rattle.domain_layout.specs.Faults.{HasNoFault}
-use Rattle.domain_layout.specs.Layout.{Layout}
-use Rattle.domain_layout.specs.Owners.{frame_of}
-use Rattle.domain_layout.specs.Reached.{Frame}
-use Rattle.domain_layout.specs.Seen.{SeenFile}
-use Rattle.domain_layout.specs.Shape.{FilesetShape, IsClone, IsShapeOf, ShowsSeen, ShowsSeenAt}
-use Rattle.layout_laws.proofs.OwnedOnce.{no_files, no_index}
-use Rattle.row_paths.proofs.AllLed.{at_contains, contains_at}
-use Rattle.filesets_reading.specs.Tables.{AreTablesOf}
-use Rattle.filesets_reading.specs.declared.tables.DomainTables.{DomainTables}
-use Rattle.fileset_names.specs.Rows.{AreWhole}
-use Rattle.fileset_names.specs.Trees.{MayBeOf}
-use Rattle.shows_fileset.specs.Showing.{HaveTheirIndexes, ListsDirectories, ShowsFileset}
-use Rattle.shows_fileset.proofs.Entries.{distinct_map, distinct_once, in_map, once_distinct}
-use Rattle.shows_fileset.proofs.Indexes.{indexes}
-use Rattle.shows_fileset.proofs.RowRules.{all_led, are_rows}
+use Rattle.fileset_shapes.specs.domain_base.declared.place.Home.{Home}
+use Rattle.fileset_shapes.specs.domain_base.declared.place.Kind.TheVariants.{Directory}
+use Rattle.fileset_shapes.specs.domain_base.declared.place.Tag.{Tag}
+use Rattle.fileset_shapes.specs.page_store.Bitfiles.{Bitfile, Bitfiles, IsDirectory}
+use Rattle.fileset_shapes.specs.page_store.Pages.{Pages}
+use Rattle.fileset_shapes.specs.log_ring.Homes.{IsMember, member_of}
+use Rattle.fileset_shapes.specs.directory_pages.Index.{index_pages}
+use Rattle.fileset_shapes.proofs.OfLegalHistories.ValidLemmas.{from_some_and, some_inj, to_some_and}
+use Rattle.fileset_shapes.specs.fileset_values.Orders.{Name}
+use Rattle.fileset_shapes.specs.fileset_table.Page.{IsTablePage}
+use Rattle.fileset_shapes.specs.fileset_table.Table.{HaveOwnNames, Table, entry_of}
+use Rattle.fileset_shapes.specs.fileset_table.declared.slot.FilesetEntry.{FilesetEntry}
+use Rattle.fileset_shapes.specs.fileset_table.declared.slot.SlotItem.{SlotItem}
+use Rattle.fileset_shapes.specs.fileset_table.declared.slot.SlotItem.TheVariants as slot
+use Rattle.fileset_shapes.specs.name_space.Names.{root_tag}
+use Rattle.fileset_shapes.specs.domain_layout.CellRules.{of_clone}
+use Rattle.fileset_shapes.specs.domain_layout.DirectoryRules.{IsDirectoryFault, IsIndexFault}
+use Rattle.fileset_shapes.specs.domain_layout.Faults.{HasNoFault}
+use Rattle.fileset_shapes.specs.domain_layout.Layout.{Layout}
+use Rattle.fileset_shapes.specs.domain_layout.Owners.{frame_of}
+use Rattle.fileset_shapes.specs.domain_layout.Reached.{Frame}
+use Rattle.fileset_shapes.specs.domain_layout.Seen.{SeenFile}
+use Rattle.fileset_shapes.specs.domain_layout.Shape.{FilesetShape, IsClone, IsShapeOf, ShowsSeen, ShowsSeenAt}
+use Rattle.fileset_shapes.proofs.OfDomainLayout.OwnedOnce.{no_files, no_index}
+use Rattle.fileset_shapes.proofs.OfDirectoryRows.AllLed.{at_contains, contains_at}
+use Rattle.fileset_shapes.specs.filesets_reading.Tables.{AreTablesOf}
+use Rattle.fileset_shapes.specs.filesets_reading.declared.tables.DomainTables.{DomainTables}
+use Rattle.fileset_shapes.specs.name_space.Rows.{AreWhole}
+use Rattle.fileset_shapes.specs.name_space.Trees.{MayBeOf}
+use Rattle.filesets_filled.specs.Showing.{HaveTheirIndexes, ListsDirectories, ShowsFileset}
+use Rattle.filesets_filled.proofs.Entries.{distinct_map, distinct_once, in_map, once_distinct}
+use Rattle.filesets_filled.proofs.Indexes.{indexes}
+use Rattle.filesets_filled.proofs.RowRules.{all_led, are_rows}
 use Rattle.fileset_shapes.specs.Files.{IsWhole}
 use Rattle.fileset_shapes.proofs.Held.{says_table}
 use Rattle.fileset_shapes.specs.Found.{HasAllPages, HaveOwnTags, SeesFileset, SeesItem, SeesShape, SeesSlot, file_at, shown_by}
 use Rattle.fileset_shapes.specs.Shapes.{IsDomain}
 use Rattle.fileset_shapes.specs.declared.found.FilesetSeen.{FilesetSeen}
 use Rattle.fileset_shapes.specs.declared.found.TaggedFile.{TaggedFile}
-use Rattle.domain_layout.specs.Filled.{Fills}
-use Rattle.domain_layout.specs.Read.{contents_of}
+use Rattle.fileset_shapes.specs.domain_layout.Filled.{Fills}
+use Rattle.fileset_shapes.specs.domain_layout.Read.{contents_of}
 use Rattle.filesets_filled.specs.Slots.{FillsEntry, FillsItem, FillsSlot}
 use Rattle.filesets_filled.specs.declared.slots.NamedFileset.{NamedFileset}
-use Rattle.fileset_filling.specs.Filling.{SaysFileset}
-use Rattle.fileset_filling.proofs.PartsRead.{file_is}
-use Rattle.shows_fileset.proofs.Shown.{an_original_has_a_root, shows_a_fileset, shows_indexes}
+use Rattle.filesets_filled.specs.Filling.{SaysFileset}
+use Rattle.filesets_filled.proofs.PartsRead.{file_is}
+use Rattle.filesets_filled.proofs.Shown.{an_original_has_a_root, shows_a_fileset, shows_indexes}
 
 none_is_some : {P X : Type 0} (x : X) → None ≡ Some x → P
 none_is_some x is = absurd (cc)

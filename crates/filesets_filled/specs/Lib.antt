@@ -1,1 +1,4 @@
+pub mod Showing
+pub mod Parts
+pub mod Filling
 pub mod Slots

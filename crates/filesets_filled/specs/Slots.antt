@@ -1,23 +1,23 @@
 -- The filesets that were filled, slot by slot.
 use Rattle.std.specs.Prelude.{◌≡◌, ◌<◌, ℕ, Option, Some, None, IfSome, IsSome, IsSomeAnd, slice_get}
 use Rattle.std.specs.FinMap.{insert}
-use Rattle.disk_label.specs.declared.anchor.Anchor.{Anchor}
-use Rattle.page_store.specs.Pages.{Pages}
-use Rattle.domain_base.specs.declared.version.Version.{Version}
-use Rattle.domain_layout.specs.Faults.{HasNoFault}
-use Rattle.domain_layout.specs.Filled.{AreFilled, Fills}
-use Rattle.domain_layout.specs.Layout.{IsLayout, Layout}
-use Rattle.domain_layout.specs.Owners.{frame_of}
-use Rattle.domain_layout.specs.Reached.{Frame}
-use Rattle.domain_layout.specs.Read.{contents_of}
-use Rattle.domain_layout.specs.Shape.{FilesetShape, IsShapeOf, Shapes}
-use Rattle.fileset_model.specs.Filesets.{FilesetMap}
-use Rattle.fileset_model.specs.Orders.{Name}
-use Rattle.fileset_model.specs.declared.fileset.FilesetSlot.{FilesetSlot}
-use Rattle.fileset_table.specs.Table.{Table, entry_of}
-use Rattle.fileset_table.specs.declared.slot.FilesetEntry.{FilesetEntry}
-use Rattle.fileset_table.specs.declared.slot.SlotItem.{SlotItem}
-use Rattle.filesets_reading.specs.Good.{IsNamed, frame_at}
+use Rattle.fileset_shapes.specs.disk_label.declared.anchor.Anchor.{Anchor}
+use Rattle.fileset_shapes.specs.page_store.Pages.{Pages}
+use Rattle.fileset_shapes.specs.domain_base.declared.version.Version.{Version}
+use Rattle.fileset_shapes.specs.domain_layout.Faults.{HasNoFault}
+use Rattle.fileset_shapes.specs.domain_layout.Filled.{AreFilled, Fills}
+use Rattle.fileset_shapes.specs.domain_layout.Layout.{IsLayout, Layout}
+use Rattle.fileset_shapes.specs.domain_layout.Owners.{frame_of}
+use Rattle.fileset_shapes.specs.domain_layout.Reached.{Frame}
+use Rattle.fileset_shapes.specs.domain_layout.Read.{contents_of}
+use Rattle.fileset_shapes.specs.domain_layout.Shape.{FilesetShape, IsShapeOf, Shapes}
+use Rattle.fileset_shapes.specs.fileset_model.Filesets.{FilesetMap}
+use Rattle.fileset_shapes.specs.fileset_values.Orders.{Name}
+use Rattle.fileset_shapes.specs.fileset_model.declared.fileset.FilesetSlot.{FilesetSlot}
+use Rattle.fileset_shapes.specs.fileset_table.Table.{Table, entry_of}
+use Rattle.fileset_shapes.specs.fileset_table.declared.slot.FilesetEntry.{FilesetEntry}
+use Rattle.fileset_shapes.specs.fileset_table.declared.slot.SlotItem.{SlotItem}
+use Rattle.fileset_shapes.specs.filesets_reading.Good.{IsNamed, frame_at}
 use Rattle.fileset_shapes.specs.Found.{HasAllPages}
 use Rattle.filesets_filled.specs.declared.slots.NamedFileset.{NamedFileset}
 

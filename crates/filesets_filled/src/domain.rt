@@ -1,19 +1,17 @@
 //! All filesets of a domain.
 ghost use Rattle.std.specs.Prelude.{◌≡◌, IfOk, Some};
-ghost use Rattle.domain_base.specs.declared.place.Home.{Home};
-ghost use Rattle.domain_layout.specs.Read.{ReadsFrom};
-ghost use Rattle.filesets_reading.specs.Good.{frame_at};
-ghost use Rattle.page_ways.specs.Frame.{frame_in};
+ghost use Rattle.fileset_shapes.specs.domain_base.declared.place.Home.{Home};
+ghost use Rattle.fileset_shapes.specs.domain_layout.Read.{ReadsFrom};
+ghost use Rattle.fileset_shapes.specs.filesets_reading.Good.{frame_at};
+ghost use Rattle.fileset_shapes.specs.page_ways.Frame.{frame_in};
 ghost use Rattle.fileset_shapes.specs.Shapes.{IsDomain};
 ghost use Rattle.filesets_filled.specs.Slots.{AreFilledUpTo, IsGoodDomain, IsLaidOut};
 
 use crate::slots::{put_found, read_fileset};
-use disk_label::Anchor;
-use domain_base::{FilesetNo, OutOfMemory, Version};
-use fileset_model::Filesets;
-use filesets_reading::{DomainTables, read_domain};
-use page_store::MetaPages;
-use page_ways::DomainFrame;
+use fileset_shapes::{
+    Anchor, DomainFrame, DomainTables, FilesetNo, Filesets, MetaPages, OutOfMemory, Version,
+    read_domain,
+};
 use std::alloc::Global;
 
 /// The filesets in all slots of a table.
@@ -39,8 +37,9 @@ fn read_tables_filesets<M: MetaPages>(
     Ok(all)
 }
 
-/// The filesets that the pages of a domain with this anchor have, once its log is redone: its pages
-/// break no rule, and each page of its volumes is there. So they are laid out as a domain's are.
+/// The filesets that the pages of a domain with this anchor have, once its log is redone: if its
+/// pages break no rule and each page of its volumes is there. So the pages are laid out as a
+/// domain's are.
 pub fn read_filesets<M: MetaPages>(
     alloc: Global,
     pages: &M,

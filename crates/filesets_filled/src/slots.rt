@@ -1,18 +1,15 @@
 //! The fileset in a slot.
 ghost use Rattle.std.specs.Prelude.{◌≡◌, IfOk, OnOk, Some, option_copied, slice_get};
-ghost use Rattle.fileset_table.specs.Table.{entry_of as entry_there};
-ghost use Rattle.page_ways.specs.Frame.{frame_in};
+ghost use Rattle.fileset_shapes.specs.fileset_table.Table.{entry_of as entry_there};
+ghost use Rattle.fileset_shapes.specs.page_ways.Frame.{frame_in};
 ghost use Rattle.fileset_shapes.specs.Shapes.{IsDomain};
 ghost use Rattle.filesets_filled.specs.Slots.{FillsSlot, with_found};
 
-use domain_base::{FilesetNo, OutOfMemory};
-use fileset_filling::fill_fileset;
-use fileset_model::{FilesetName, FilesetSlot, Filesets};
-use fileset_shapes::{FilesetSeen, read_slot};
-use fileset_table::{FilesetEntry, SlotItem};
-use filesets_reading::DomainTables;
-use page_store::MetaPages;
-use page_ways::DomainFrame;
+use crate::fill_fileset;
+use fileset_shapes::{
+    DomainFrame, DomainTables, FilesetEntry, FilesetName, FilesetNo, FilesetSeen, FilesetSlot,
+    Filesets, MetaPages, OutOfMemory, SlotItem, read_slot,
+};
 use std::alloc::Global;
 
 /// A fileset with its name.
@@ -32,7 +29,8 @@ fn entry_of(item: &SlotItem) -> Option<&FilesetEntry>
     }
 }
 
-/// The fileset in a slot, filled. None exactly where no fileset is, or one that is being removed.
+/// The fileset in a slot, filled. None if and only if no fileset is in the slot, or one that is
+/// being removed.
 pub(crate) fn read_fileset<M: MetaPages>(
     alloc: Global,
     pages: &M,

@@ -4,25 +4,25 @@ use Rattle.std.proofs.lemmas.Bool.{cases_Bool, eq-eqb, eqb-true, lt-ltb}
 use Rattle.std.proofs.lemmas.Option.{slice_get-get_or}
 use Rattle.std.specs.Option.{option_and_then, option_map}
 use Rattle.std.specs.Prelude.{map, slice_index_or}
-use Rattle.domain_base.specs.declared.place.CellAt.{CellAt}
-use Rattle.domain_base.specs.declared.place.Home.{Home}
-use Rattle.domain_base.specs.Page.{zero_bytes}
-use Rattle.page_store.specs.Pages.{Pages}
-use Rattle.record_table.specs.Fields.{number_at}
-use Rattle.bmt_mcells.specs.Cell.{Cell, IsCell, IsFreeOrUsed}
-use Rattle.bmt_mcells.specs.CellPage.{IsCellPage, cell_at, cell_of, free_cells, index_of, is_cell_page, next_of}
-use Rattle.bmt_mcells.specs.Chain.{StandsAt}
-use Rattle.bmt_mcells.specs.declared.used.UsedCell.{UsedCell}
+use Rattle.domain_layout.specs.domain_base.declared.place.CellAt.{CellAt}
+use Rattle.domain_layout.specs.domain_base.declared.place.Home.{Home}
+use Rattle.domain_layout.specs.domain_base.Page.{zero_bytes}
+use Rattle.domain_layout.specs.page_store.Pages.{Pages}
+use Rattle.domain_layout.specs.cell_records.Fields.{number_at}
+use Rattle.domain_layout.specs.metadata_cells.Cell.{Cell, IsCell, IsFreeOrUsed}
+use Rattle.domain_layout.specs.metadata_cells.CellPage.{IsCellPage, cell_at, cell_of, free_cells, index_of, is_cell_page, next_of}
+use Rattle.domain_layout.specs.metadata_cells.Chain.{StandsAt}
+use Rattle.domain_layout.specs.metadata_cells.declared.used.UsedCell.{UsedCell}
 use Rattle.domain_layout.specs.CellRules.{HasWrongHeader, IsCellsFault, IsCellsPage}
 use Rattle.domain_layout.specs.Faults.{IsTablesFault, FaultRow}
 use Rattle.domain_layout.specs.Layout.{IsCellTable, IsPageAt}
 use Rattle.domain_layout.specs.Reached.{Frame, IsUnread, cells_way, first_cells}
-use Rattle.layout_laws.proofs.ChainsAlike.{same_bytes}
-use Rattle.layout_laws.proofs.OnePage.{one_of, some_same}
-use Rattle.layout_laws.proofs.Reached.{same_number}
+use Rattle.domain_layout.proofs.ChainsAlike.{same_bytes}
+use Rattle.domain_layout.proofs.OnePage.{one_of, some_same}
+use Rattle.domain_layout.proofs.Reached.{same_number}
 use Rattle.filesets_reading.specs.Good.{AreDecided, AreGood, IsDecided}
 use Rattle.filesets_reading.proofs.Ways.{IsWayTo, IsWholeWay, comes_read, get_map, get_pushed, map_pushed, way_begins, way_ends, way_on}
-use Rattle.log_ring.specs.Homes.{IsMember}
+use Rattle.domain_layout.specs.log_ring.Homes.{IsMember}
 
 -- ---- what no fault says
 

@@ -1,25 +1,25 @@
 -- Where no rule of tables is broken, the chains of two files share no cell.
 use Rattle.std.proofs.Common.{◌≡◌, ◌∙◌, ◌⊎◌, inl, inr, ℕ, zero, suc, ◌<◌, true, false, nat_eq, nat_lt, ◌&&◌, ◌||◌, List, [], ◌∷◌, ◌++◌, Some, None, Contains, slice_get, refl, sym, ap, subst, arith, ⊎_elim}
 use Rattle.std.proofs.lemmas.Bool.{cases_order, eq-eqb, lt-ltb, or_left, or_right}
-use Rattle.domain_base.specs.declared.place.CellAt.{CellAt}
-use Rattle.domain_base.specs.declared.place.Tag.{Tag}
-use Rattle.page_store.specs.Bitfiles.{same_tag}
-use Rattle.page_store.specs.Pages.{Pages}
-use Rattle.record_table.specs.Fields.{number_at}
-use Rattle.bmt_mcells.specs.Cell.{Cell}
-use Rattle.bmt_mcells.specs.Chain.{Follow, PlacedCell, StandsAt, may_follow, places}
-use Rattle.bmt_mcells.specs.declared.head.CellKind.TheVariants as kinds
-use Rattle.bmt_mcells.proofs.Unique.{one_stands}
-use Rattle.bitfile_cells.specs.Files.{AreFile}
-use Rattle.bitfile_core.specs.Files.{AreApart}
+use Rattle.domain_layout.specs.domain_base.declared.place.CellAt.{CellAt}
+use Rattle.domain_layout.specs.domain_base.declared.place.Tag.{Tag}
+use Rattle.domain_layout.specs.page_store.Bitfiles.{same_tag}
+use Rattle.domain_layout.specs.page_store.Pages.{Pages}
+use Rattle.domain_layout.specs.cell_records.Fields.{number_at}
+use Rattle.domain_layout.specs.metadata_cells.Cell.{Cell}
+use Rattle.domain_layout.specs.metadata_cells.Chain.{Follow, PlacedCell, StandsAt, may_follow, places}
+use Rattle.domain_layout.specs.metadata_cells.declared.head.CellKind.TheVariants as kinds
+use Rattle.domain_layout.proofs.OfMetadataCells.Unique.{one_stands}
+use Rattle.domain_layout.specs.file_chains.Files.{AreFile}
+use Rattle.domain_layout.specs.fileset_files.Files.{AreApart}
 use Rattle.domain_layout.specs.CellRules.{Follows, IsChainHead, IsInChain, IsLink, Link, begins, is_before}
 use Rattle.domain_layout.specs.Faults.{HasNoTablesFault}
 use Rattle.domain_layout.specs.Layout.{IsLayout, Layout}
 use Rattle.domain_layout.specs.Owners.{frame_of}
 use Rattle.domain_layout.specs.TagRules.{IsFirstOf}
-use Rattle.layout_laws.proofs.Named.{follows_on, last_link, link_of, link_to, no_cell}
-use Rattle.layout_laws.proofs.OnePage.{some_same}
-use Rattle.layout_laws.proofs.OwnedOnce.{same_cell}
+use Rattle.domain_layout.proofs.Named.{follows_on, last_link, link_of, link_to, no_cell}
+use Rattle.domain_layout.proofs.OnePage.{some_same}
+use Rattle.domain_layout.proofs.OwnedOnce.{same_cell}
 use Rattle.filesets_reading.proofs.ChainsThere.{later_kind, of_file}
 
 -- ---- cells in order

@@ -5,38 +5,38 @@ use Rattle.std.proofs.lemmas.Bool.{le-leb}
 use Rattle.std.proofs.lemmas.Grind.{flat_map-append}
 use Rattle.std.proofs.lemmas.List.{append-nil}
 use Rattle.std.specs.List.{AllByRecursion, list_all}
-use Rattle.domain_base.specs.declared.place.CellAt.{CellAt}
-use Rattle.domain_base.specs.declared.place.Home.{Home}
-use Rattle.domain_base.specs.declared.place.Tag.{Tag}
-use Rattle.log_ring.specs.Homes.{IsMember, member_of}
-use Rattle.page_store.specs.Pages.{Pages}
-use Rattle.record_table.specs.Fields.{number_at}
-use Rattle.record_table.specs.Records.{Allowed, kind_of}
-use Rattle.record_table.specs.declared.record.Record.{Record}
-use Rattle.bmt_mcells.specs.Cell.{Cell, IsFileset, record_of}
-use Rattle.bmt_mcells.specs.CellPage.{home_of}
-use Rattle.bmt_mcells.specs.Chain.{AreLinked, Follow, PlacedCell, StandsAt, may_follow, records_of}
-use Rattle.bmt_mcells.specs.declared.head.CellKind.{CellKind}
-use Rattle.bmt_mcells.specs.declared.head.CellKind.TheVariants as kinds
-use Rattle.bmt_mcells.proofs.Walk.{one_kind}
-use Rattle.extent_maps.specs.declared.run.PagePlace.TheVariants.{Absent, At}
-use Rattle.extent_records.specs.Rows.{IsPlaced, NoPageTwice, runs_in, runs_of, times}
-use Rattle.extent_records.specs.Writing.{IsMapRecord, most_rows, places_in}
-use Rattle.extent_records.proofs.PutLemmas.{times_append}
-use Rattle.bitfile_cells.specs.Files.{AreFile, HasMap, IsMapCell, map_records}
-use Rattle.bitfile_cells.proofs.MapRecords.{runs_by_map}
-use Rattle.bitfile_core.specs.Files.{HasFirstKinds, IsOf, is_first_kind}
+use Rattle.domain_layout.specs.domain_base.declared.place.CellAt.{CellAt}
+use Rattle.domain_layout.specs.domain_base.declared.place.Home.{Home}
+use Rattle.domain_layout.specs.domain_base.declared.place.Tag.{Tag}
+use Rattle.domain_layout.specs.log_ring.Homes.{IsMember, member_of}
+use Rattle.domain_layout.specs.page_store.Pages.{Pages}
+use Rattle.domain_layout.specs.cell_records.Fields.{number_at}
+use Rattle.domain_layout.specs.cell_records.Records.{Allowed, kind_of}
+use Rattle.domain_layout.specs.cell_records.declared.record.Record.{Record}
+use Rattle.domain_layout.specs.metadata_cells.Cell.{Cell, IsFileset, record_of}
+use Rattle.domain_layout.specs.metadata_cells.CellPage.{home_of}
+use Rattle.domain_layout.specs.metadata_cells.Chain.{AreLinked, Follow, PlacedCell, StandsAt, may_follow, records_of}
+use Rattle.domain_layout.specs.metadata_cells.declared.head.CellKind.{CellKind}
+use Rattle.domain_layout.specs.metadata_cells.declared.head.CellKind.TheVariants as kinds
+use Rattle.domain_layout.proofs.OfMetadataCells.Walk.{one_kind}
+use Rattle.domain_layout.specs.extent_maps.declared.run.PagePlace.TheVariants.{Absent, At}
+use Rattle.domain_layout.specs.extent_records.Rows.{IsPlaced, NoPageTwice, runs_in, runs_of, times}
+use Rattle.domain_layout.specs.extent_records.Writing.{IsMapRecord, most_rows, places_in}
+use Rattle.domain_layout.proofs.OfExtentRecords.PutLemmas.{times_append}
+use Rattle.domain_layout.specs.file_chains.Files.{AreFile, HasMap, IsMapCell, map_records}
+use Rattle.domain_layout.proofs.OfFileChains.MapRecords.{runs_by_map}
+use Rattle.domain_layout.specs.fileset_files.Files.{HasFirstKinds, IsOf, is_first_kind}
 use Rattle.domain_layout.specs.CellRules.{Follows, IsChainHead, IsUsed, Link, agree, begins, has_first_records, has_its_kinds, has_kind, is_chain_records, is_good_first, item_of, keeps_well, of_clone, of_original, say_removed}
 use Rattle.std.specs.Option.{option_map_or}
-use Rattle.fileset_table.specs.Table.{Table}
+use Rattle.domain_layout.specs.fileset_table.Table.{Table}
 use Rattle.domain_layout.specs.Faults.{HasNoExtentFault, HasNoTablesFault}
 use Rattle.domain_layout.specs.Layout.{IsLayout, Layout}
 use Rattle.domain_layout.specs.Owners.{frame_of}
 use Rattle.domain_layout.specs.Reached.{MayBe}
 use Rattle.domain_layout.specs.TagRules.{IsFirstOf}
-use Rattle.layout_laws.proofs.Named.{follows_on, last_link, link_of, link_to, no_cell}
-use Rattle.layout_laws.proofs.OnePage.{some_same}
-use Rattle.layout_laws.proofs.Reached.{may_be_by}
+use Rattle.domain_layout.proofs.Named.{follows_on, last_link, link_of, link_to, no_cell}
+use Rattle.domain_layout.proofs.OnePage.{some_same}
+use Rattle.domain_layout.proofs.Reached.{may_be_by}
 use Rattle.filesets_reading.proofs.FirstCells.{OneRecord, all_first, chain_record, one_record}
 use Rattle.filesets_reading.proofs.MapRecords.{map_record, some_times}
 use Rattle.filesets_reading.proofs.OnTables.{on_table}

@@ -1,16 +1,16 @@
 -- The chains to which the entries of pages of tags lead.
 use Rattle.std.proofs.Common.{◌≡◌, ◌∙◌, ℕ, ◌+◌, ◌*◌, ◌/◌, ◌%◌, ◌<◌, List, Option, Some, None, IfSome, IsSome, IsSomeAnd, Ok, Err, Result, slice_get, refl, sym, ap, subst, arith}
 use Rattle.std.specs.Result.{OnOk}
-use Rattle.domain_base.specs.declared.place.CellAt.{CellAt}
-use Rattle.domain_base.specs.declared.place.Tag.{Tag}
-use Rattle.page_store.specs.Pages.{Pages}
-use Rattle.record_table.specs.Fields.{number_at}
-use Rattle.tag_dirs.specs.declared.dir.TagPlace.{TagPlace}
-use Rattle.tag_dirs.specs.declared.page.TagEntry.{TagEntry}
-use Rattle.tag_dirs.specs.Directory.{IsDirectory, IsPageOf, cell_of, home_behind}
-use Rattle.tag_dirs.proofs.Slots.{found}
-use Rattle.layout_laws.proofs.Named.{entry_by}
-use Rattle.layout_laws.proofs.OnePage.{some_same}
+use Rattle.domain_layout.specs.domain_base.declared.place.CellAt.{CellAt}
+use Rattle.domain_layout.specs.domain_base.declared.place.Tag.{Tag}
+use Rattle.domain_layout.specs.page_store.Pages.{Pages}
+use Rattle.domain_layout.specs.cell_records.Fields.{number_at}
+use Rattle.domain_layout.specs.tag_dirs.declared.dir.TagPlace.{TagPlace}
+use Rattle.domain_layout.specs.tag_dirs.declared.page.TagEntry.{TagEntry}
+use Rattle.domain_layout.specs.tag_dirs.Directory.{IsDirectory, IsPageOf, cell_of, home_behind}
+use Rattle.domain_layout.proofs.OfTagDirs.Slots.{found}
+use Rattle.domain_layout.proofs.Named.{entry_by}
+use Rattle.domain_layout.proofs.OnePage.{some_same}
 use Rattle.filesets_reading.specs.Chains.{HasLinks, HasLinksAt, HaveLinks, HaveLinksOn}
 
 -- what is so at Ok

@@ -1,17 +1,17 @@
 -- Where no rule of tables and extents is broken, and the chains of its tags were read, a fileset has its files.
 use Rattle.std.proofs.Common.{◌≡◌, ℕ, false, List, [], ◌∷◌, Option, Some, None, IfSome, IsSomeAnd, refl, sym, subst}
-use Rattle.domain_base.specs.declared.place.CellAt.{CellAt}
-use Rattle.domain_base.specs.declared.place.Tag.{Tag}
-use Rattle.page_store.specs.Bitfiles.{same_tag}
-use Rattle.page_store.specs.Pages.{Pages}
-use Rattle.bmt_mcells.specs.Chain.{LinksFrom, PlacedCell}
-use Rattle.tag_dirs.specs.declared.dir.TagPlace.{TagPlace}
-use Rattle.tag_dirs.specs.Directory.{cell_of}
-use Rattle.bitfile_cells.specs.Files.{IsFile}
-use Rattle.bitfile_core.specs.Files.{AreApart, Chains, HasFiles, LeadsToFile}
+use Rattle.domain_layout.specs.domain_base.declared.place.CellAt.{CellAt}
+use Rattle.domain_layout.specs.domain_base.declared.place.Tag.{Tag}
+use Rattle.domain_layout.specs.page_store.Bitfiles.{same_tag}
+use Rattle.domain_layout.specs.page_store.Pages.{Pages}
+use Rattle.domain_layout.specs.metadata_cells.Chain.{LinksFrom, PlacedCell}
+use Rattle.domain_layout.specs.tag_dirs.declared.dir.TagPlace.{TagPlace}
+use Rattle.domain_layout.specs.tag_dirs.Directory.{cell_of}
+use Rattle.domain_layout.specs.file_chains.Files.{IsFile}
+use Rattle.domain_layout.specs.fileset_files.Files.{AreApart, Chains, HasFiles, LeadsToFile}
 use Rattle.domain_layout.specs.Owners.{frame_of}
 use Rattle.domain_layout.specs.TagRules.{IsFirstOf}
-use Rattle.layout_laws.proofs.Named.{first_there}
+use Rattle.domain_layout.proofs.Named.{first_there}
 use Rattle.filesets_reading.specs.Chains.{HaveLinks, IsUnbroken, MayHaveFiles}
 use Rattle.filesets_reading.proofs.ChainsApart.{files_apart}
 use Rattle.filesets_reading.proofs.ChainsThere.{FileThere, file_there}

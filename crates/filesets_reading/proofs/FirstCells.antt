@@ -3,13 +3,13 @@
 use Rattle.std.proofs.Common.{◌≡◌, ◌∙◌, ◌⊎◌, inl, inr, ℕ, suc, ◌*◌, ◌^◌, ◌≤◌, Bool, true, false, cond, not, nat_eq, nat_le, ◌||◌, List, [], ◌∷◌, Some, None, is_some, Contains, refl, sym, ap, subst, arith, ⊎_elim}
 use Rattle.std.proofs.lemmas.Bool.{and_parts, cases_Bool, eq-eqb, eqb-true, or_cases}
 use Rattle.std.specs.List.{AllByRecursion, list_all}
-use Rattle.record_table.specs.Records.{kind_of}
-use Rattle.record_table.specs.declared.record.Record.{Record}
-use Rattle.record_table.specs.declared.record.Record.TheVariants as written
-use Rattle.bmt_mcells.specs.Cell.{AreRising, id_of, place_of, record_of}
-use Rattle.extent_records.specs.Writing.{most_rows}
-use Rattle.bitfile_cells.specs.Files.{has_rows, map_records}
-use Rattle.bitfile_core.specs.Files.{is_first_kind}
+use Rattle.domain_layout.specs.cell_records.Records.{kind_of}
+use Rattle.domain_layout.specs.cell_records.declared.record.Record.{Record}
+use Rattle.domain_layout.specs.cell_records.declared.record.Record.TheVariants as written
+use Rattle.domain_layout.specs.metadata_cells.Cell.{AreRising, id_of, place_of, record_of}
+use Rattle.domain_layout.specs.extent_records.Writing.{most_rows}
+use Rattle.domain_layout.specs.file_chains.Files.{has_rows, map_records}
+use Rattle.domain_layout.specs.fileset_files.Files.{is_first_kind}
 use Rattle.domain_layout.specs.CellRules.{agree, has_kind, is_chain_records}
 
 -- ---- kinds of records

@@ -3,16 +3,16 @@ use Rattle.std.proofs.Common.{◌≡◌, ◌⊎◌, inl, inr, ℕ, ◌<◌, ◌�
 use Rattle.std.proofs.lemmas.Bool.{cases_lt}
 use Rattle.std.proofs.lemmas.Option.{slice_get_within}
 use Rattle.std.specs.Option.{option_map_or}
-use Rattle.domain_base.specs.Version.{number_of}
-use Rattle.domain_base.specs.declared.place.Home.{Home}
-use Rattle.domain_base.specs.declared.version.Version.{Version}
-use Rattle.page_store.specs.Pages.{Pages}
-use Rattle.disk_label.specs.declared.anchor.Anchor.{Anchor}
-use Rattle.log_ring.specs.Homes.{IsMember, member_of}
-use Rattle.tag_dirs.specs.declared.dir.TagPlace.{TagPlace}
-use Rattle.fileset_table.specs.Page.{IsTablePage}
-use Rattle.fileset_table.specs.Table.{Table}
-use Rattle.fileset_table.specs.declared.slot.SlotItem.{SlotItem}
+use Rattle.domain_layout.specs.domain_base.Version.{number_of}
+use Rattle.domain_layout.specs.domain_base.declared.place.Home.{Home}
+use Rattle.domain_layout.specs.domain_base.declared.version.Version.{Version}
+use Rattle.domain_layout.specs.page_store.Pages.{Pages}
+use Rattle.domain_layout.specs.disk_label.declared.anchor.Anchor.{Anchor}
+use Rattle.domain_layout.specs.log_ring.Homes.{IsMember, member_of}
+use Rattle.domain_layout.specs.tag_dirs.declared.dir.TagPlace.{TagPlace}
+use Rattle.domain_layout.specs.fileset_table.Page.{IsTablePage}
+use Rattle.domain_layout.specs.fileset_table.Table.{Table}
+use Rattle.domain_layout.specs.fileset_table.declared.slot.SlotItem.{SlotItem}
 use Rattle.domain_layout.specs.Faults.{HasNoTablesFault, SaysTable}
 use Rattle.domain_layout.specs.Layout.{AreTagPlaces, IsCellTable, Layout, first_tag_of}
 use Rattle.domain_layout.specs.Reached.{Frame, first_cells}

@@ -2,22 +2,22 @@
 use Rattle.std.proofs.Common.{◌≡◌, ◌∙◌, inl, inr, ℕ, zero, suc, ◌+◌, ◌-◌, ◌^◌, ◌<◌, ◌≤◌, Bool, true, false, cond, nat_eq, List, [], ◌∷◌, ◌++◌, refl, sym, ap, subst, arith, ⊎_elim}
 use Rattle.std.proofs.lemmas.Bool.{cases_Bool, cases_lt, eqb-true}
 use Rattle.std.specs.List.{AllByRecursion, flat_map}
-use Rattle.domain_base.specs.declared.place.Home.{Home}
-use Rattle.log_ring.specs.Homes.{IsMember, member_of}
-use Rattle.record_table.specs.Records.{Allowed, AreExtents, AreHoles, NoExtent, NoHole, kind_of}
-use Rattle.record_table.specs.declared.record.ExtentField.{ExtentField}
-use Rattle.record_table.specs.declared.record.HoleField.{HoleField}
-use Rattle.record_table.specs.declared.record.Record.{Record}
-use Rattle.record_table.specs.declared.record.Record.TheVariants as written
-use Rattle.extent_maps.specs.Runs.{FitsVolume, behind, covers, end_of, place_of, placed}
-use Rattle.extent_maps.specs.declared.run.PagePlace.TheVariants.{Absent, At, Hole}
-use Rattle.extent_maps.specs.declared.run.Run.{Run}
-use Rattle.extent_maps.specs.declared.run.RunPlace.{RunPlace}
-use Rattle.extent_maps.specs.declared.run.RunPlace.TheVariants as place
-use Rattle.extent_maps.proofs.EditLemmas.{covers_from}
-use Rattle.extent_maps.proofs.RunLemmas.{covers_not_before, covers_not_behind}
-use Rattle.extent_records.specs.Rows.{IsPlaced, NoPageTwice, OnVolume, holes_at, run_of, runs_at, runs_in, times}
-use Rattle.extent_records.specs.Writing.{IsMapRecord, most_rows, places_in}
+use Rattle.domain_layout.specs.domain_base.declared.place.Home.{Home}
+use Rattle.domain_layout.specs.log_ring.Homes.{IsMember, member_of}
+use Rattle.domain_layout.specs.cell_records.Records.{Allowed, AreExtents, AreHoles, NoExtent, NoHole, kind_of}
+use Rattle.domain_layout.specs.cell_records.declared.record.ExtentField.{ExtentField}
+use Rattle.domain_layout.specs.cell_records.declared.record.HoleField.{HoleField}
+use Rattle.domain_layout.specs.cell_records.declared.record.Record.{Record}
+use Rattle.domain_layout.specs.cell_records.declared.record.Record.TheVariants as written
+use Rattle.domain_layout.specs.extent_maps.Runs.{FitsVolume, behind, covers, end_of, place_of, placed}
+use Rattle.domain_layout.specs.extent_maps.declared.run.PagePlace.TheVariants.{Absent, At, Hole}
+use Rattle.domain_layout.specs.extent_maps.declared.run.Run.{Run}
+use Rattle.domain_layout.specs.extent_maps.declared.run.RunPlace.{RunPlace}
+use Rattle.domain_layout.specs.extent_maps.declared.run.RunPlace.TheVariants as place
+use Rattle.domain_layout.proofs.OfExtentMaps.EditLemmas.{covers_from}
+use Rattle.domain_layout.proofs.OfExtentMaps.RunLemmas.{covers_not_before, covers_not_behind}
+use Rattle.domain_layout.specs.extent_records.Rows.{IsPlaced, NoPageTwice, OnVolume, holes_at, run_of, runs_at, runs_in, times}
+use Rattle.domain_layout.specs.extent_records.Writing.{IsMapRecord, most_rows, places_in}
 use Rattle.domain_layout.specs.Reached.{Frame, MayBe}
 
 -- ---- runs that rise

@@ -1,19 +1,19 @@
 -- A cell that has a place stands on a page of its volume's table.
 use Rattle.std.proofs.Common.{◌≡◌, ◌∙◌, ℕ, zero, suc, ◌+◌, Bool, true, false, cond, nat_eq, List, [], ◌∷◌, ◌++◌, length, Some, None, Contains, IsSomeAnd, slice_get, slice_index, refl, sym, ap, subst, arith}
 use Rattle.std.specs.Prelude.{slice_index_or}
-use Rattle.domain_base.specs.declared.place.CellAt.{CellAt}
-use Rattle.domain_base.specs.declared.place.Home.{Home}
-use Rattle.page_store.specs.Pages.{Pages}
-use Rattle.bmt_mcells.specs.Cell.{Cell}
-use Rattle.bmt_mcells.specs.CellPage.{home_of, next_of}
-use Rattle.bmt_mcells.specs.Chain.{StandsAt}
+use Rattle.domain_layout.specs.domain_base.declared.place.CellAt.{CellAt}
+use Rattle.domain_layout.specs.domain_base.declared.place.Home.{Home}
+use Rattle.domain_layout.specs.page_store.Pages.{Pages}
+use Rattle.domain_layout.specs.metadata_cells.Cell.{Cell}
+use Rattle.domain_layout.specs.metadata_cells.CellPage.{home_of, next_of}
+use Rattle.domain_layout.specs.metadata_cells.Chain.{StandsAt}
 use Rattle.domain_layout.specs.CellRules.{IsPlace}
 use Rattle.domain_layout.specs.Layout.{IsLayout, IsPageAt, Layout}
 use Rattle.domain_layout.specs.Owners.{IsOnTable, frame_of}
 use Rattle.domain_layout.specs.Reached.{Reaches, begins, cells_way, goes_on}
-use Rattle.layout_laws.proofs.OnePage.{some_same}
+use Rattle.domain_layout.proofs.OnePage.{some_same}
 use Rattle.filesets_reading.proofs.Ways.{pushed, within_of}
-use Rattle.log_ring.specs.Homes.{IsMember}
+use Rattle.domain_layout.specs.log_ring.Homes.{IsMember}
 
 pub contains_at : (xs : List ℕ) (k x : ℕ) → slice_get xs k ≡ Some x → Contains xs x
 contains_at [] k x is = absurd (let e : None ≡ Some x = is in absurd (cc))

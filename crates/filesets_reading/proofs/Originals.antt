@@ -3,20 +3,20 @@ use Rattle.std.proofs.Common.{◌≡◌, ◌∙◌, ℕ, zero, suc, ◌+◌, ◌
 use Rattle.std.proofs.lemmas.Bool.{cases_lt, le-ltb, lt-ltb}
 use Rattle.std.proofs.lemmas.Option.{slice_get_past}
 use Rattle.std.specs.Option.{option_and_then, option_map, option_map_or}
-use Rattle.domain_base.specs.declared.place.Home.{Home}
-use Rattle.record_table.specs.declared.record.Record.{Record}
-use Rattle.record_table.specs.declared.record.Record.TheVariants as written
-use Rattle.bmt_mcells.specs.Chain.{PlacedCell}
-use Rattle.extent_maps.specs.Runs.{AreRuns, Places, behind, end_of, home_at, place_of, placed}
-use Rattle.extent_maps.specs.declared.run.PagePlace.TheVariants.{Absent}
-use Rattle.extent_maps.specs.declared.run.Run.{Run}
-use Rattle.extent_maps.proofs.RunLemmas.{covers_not_behind}
-use Rattle.extent_records.specs.Writing.{places_before}
-use Rattle.bitfile_cells.specs.Files.{places_of}
-use Rattle.bitfile_core.specs.Files.{attributes_in, attributes_of, first_record, is_removed, keep_in, keep_of, of_live}
-use Rattle.bitfile_core.specs.declared.attributes.Attributes.{Attributes}
+use Rattle.domain_layout.specs.domain_base.declared.place.Home.{Home}
+use Rattle.domain_layout.specs.cell_records.declared.record.Record.{Record}
+use Rattle.domain_layout.specs.cell_records.declared.record.Record.TheVariants as written
+use Rattle.domain_layout.specs.metadata_cells.Chain.{PlacedCell}
+use Rattle.domain_layout.specs.extent_maps.Runs.{AreRuns, Places, behind, end_of, home_at, place_of, placed}
+use Rattle.domain_layout.specs.extent_maps.declared.run.PagePlace.TheVariants.{Absent}
+use Rattle.domain_layout.specs.extent_maps.declared.run.Run.{Run}
+use Rattle.domain_layout.proofs.OfExtentMaps.RunLemmas.{covers_not_behind}
+use Rattle.domain_layout.specs.extent_records.Writing.{places_before}
+use Rattle.domain_layout.specs.file_chains.Files.{places_of}
+use Rattle.domain_layout.specs.fileset_files.Files.{attributes_in, attributes_of, first_record, is_removed, keep_in, keep_of, of_live}
+use Rattle.domain_layout.specs.fileset_files.declared.attributes.Attributes.{Attributes}
 use Rattle.domain_layout.specs.Seen.{SeenFile, kept_by, seen_in}
-use Rattle.layout_laws.proofs.OnePage.{some_same}
+use Rattle.domain_layout.proofs.OnePage.{some_same}
 use Rattle.filesets_reading.specs.Seen.{IsSeenThere, ListsHomes, home_in}
 use Rattle.filesets_reading.specs.declared.seen.SeenPages.{SeenPages}
 use Rattle.filesets_reading.proofs.Ways.{get_front, get_seam, pushed}

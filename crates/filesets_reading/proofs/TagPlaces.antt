@@ -3,22 +3,22 @@ use Rattle.std.proofs.Common.{◌≡◌, ◌∙◌, inl, inr, ℕ, suc, ◌+◌,
 use Rattle.std.proofs.lemmas.Bool.{cases_lt, cases_order, eqb-true}
 use Rattle.std.specs.Option.{option_map}
 use Rattle.std.specs.Prelude.{map}
-use Rattle.domain_base.specs.declared.place.CellAt.{CellAt}
-use Rattle.domain_base.specs.declared.place.Home.{Home}
-use Rattle.page_store.specs.Pages.{Pages, AreWhole}
-use Rattle.record_table.specs.Fields.{number_at}
-use Rattle.bmt_mcells.specs.Cell.{IsAddress}
-use Rattle.tag_dirs.specs.declared.dir.TagPlace.{TagPlace}
-use Rattle.tag_dirs.specs.declared.page.TagEntry.{TagEntry}
-use Rattle.tag_dirs.specs.Directory.{IsDirectoryAt, IsPageOf, home_behind}
-use Rattle.tag_dirs.specs.TagPage.{IsAllowed, IsTagPage, cell_in, entry_of, index_of, next_of, slot_of}
+use Rattle.domain_layout.specs.domain_base.declared.place.CellAt.{CellAt}
+use Rattle.domain_layout.specs.domain_base.declared.place.Home.{Home}
+use Rattle.domain_layout.specs.page_store.Pages.{Pages, AreWhole}
+use Rattle.domain_layout.specs.cell_records.Fields.{number_at}
+use Rattle.domain_layout.specs.metadata_cells.Cell.{IsAddress}
+use Rattle.domain_layout.specs.tag_dirs.declared.dir.TagPlace.{TagPlace}
+use Rattle.domain_layout.specs.tag_dirs.declared.page.TagEntry.{TagEntry}
+use Rattle.domain_layout.specs.tag_dirs.Directory.{IsDirectoryAt, IsPageOf, home_behind}
+use Rattle.domain_layout.specs.tag_dirs.TagPage.{IsAllowed, IsTagPage, cell_in, entry_of, index_of, next_of, slot_of}
 use Rattle.domain_layout.specs.Reached.{Frame, IsRead, IsUnread, on_volume, tags_way}
 use Rattle.domain_layout.specs.TagRules.{HasTags, IsTagsFault, IsTagsPage}
-use Rattle.fileset_table.proofs.Unique.{table_unique}
-use Rattle.fileset_table.specs.Page.{IsTablePage}
-use Rattle.layout_laws.proofs.OnePage.{one_of, some_same}
-use Rattle.layout_laws.proofs.OwnedOnce.{on_a_volume}
-use Rattle.layout_laws.proofs.Reached.{same_number}
+use Rattle.domain_layout.proofs.OfFilesetTable.Unique.{table_unique}
+use Rattle.domain_layout.specs.fileset_table.Page.{IsTablePage}
+use Rattle.domain_layout.proofs.OnePage.{one_of, some_same}
+use Rattle.domain_layout.proofs.OwnedOnce.{on_a_volume}
+use Rattle.domain_layout.proofs.Reached.{same_number}
 use Rattle.filesets_reading.specs.Good.{AreGood, HasTagsAt}
 use Rattle.filesets_reading.proofs.CellTables.{no_tables}
 use Rattle.filesets_reading.proofs.Ways.{IsWayTo, IsWholeWay, comes_read, get_map, get_pushed, map_pushed, way_begins, way_ends, way_on}

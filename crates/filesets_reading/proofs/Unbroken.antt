@@ -1,26 +1,26 @@
 -- Where no rule of tables is broken, the chain from the first cell of a file, or of quotas, is whole.
 use Rattle.std.proofs.Common.{◌≡◌, ◌∙◌, ◌⊎◌, inl, inr, ℕ, true, false, List, [], ◌∷◌, ◌++◌, Some, Contains, IsSomeAnd, refl, sym, ap, subst, arith, ⊎_elim}
 use Rattle.std.proofs.lemmas.Bool.{cases_Bool}
-use Rattle.domain_base.specs.declared.place.CellAt.{CellAt}
-use Rattle.domain_base.specs.declared.place.Tag.{Tag}
-use Rattle.page_store.specs.Pages.{Pages}
-use Rattle.record_table.specs.Fields.{number_at}
-use Rattle.bmt_mcells.specs.Cell.{Cell, IsFreeCell, kind_number}
-use Rattle.bmt_mcells.specs.CellPage.{cell_at, cell_of, home_of}
-use Rattle.bmt_mcells.specs.Chain.{HasHeadAt, IsBroken, LeadsAstray, Path, PlacedCell, StandsAt, astray, bad_cell, begins, goes_on, may_follow, no_cell as nothing, places}
-use Rattle.bmt_mcells.specs.declared.head.CellKind.{CellKind}
-use Rattle.bmt_mcells.specs.declared.head.CellKind.TheVariants as kinds
-use Rattle.bmt_mcells.proofs.CellKinds.{used_not_zeros}
-use Rattle.bmt_mcells.proofs.Walk.{one_kind}
+use Rattle.domain_layout.specs.domain_base.declared.place.CellAt.{CellAt}
+use Rattle.domain_layout.specs.domain_base.declared.place.Tag.{Tag}
+use Rattle.domain_layout.specs.page_store.Pages.{Pages}
+use Rattle.domain_layout.specs.cell_records.Fields.{number_at}
+use Rattle.domain_layout.specs.metadata_cells.Cell.{Cell, IsFreeCell, kind_number}
+use Rattle.domain_layout.specs.metadata_cells.CellPage.{cell_at, cell_of, home_of}
+use Rattle.domain_layout.specs.metadata_cells.Chain.{HasHeadAt, IsBroken, LeadsAstray, Path, PlacedCell, StandsAt, astray, bad_cell, begins, goes_on, may_follow, no_cell as nothing, places}
+use Rattle.domain_layout.specs.metadata_cells.declared.head.CellKind.{CellKind}
+use Rattle.domain_layout.specs.metadata_cells.declared.head.CellKind.TheVariants as kinds
+use Rattle.domain_layout.proofs.OfMetadataCells.CellKinds.{used_not_zeros}
+use Rattle.domain_layout.proofs.OfMetadataCells.Walk.{one_kind}
 use Rattle.domain_layout.specs.CellRules as rule
 use Rattle.domain_layout.specs.CellRules.{Follows, IsCellOf, IsChainHead, IsLink, IsPlace, LeadsTo, Link}
 use Rattle.domain_layout.specs.Faults.{HasNoTablesFault}
 use Rattle.domain_layout.specs.Layout.{IsLayout, Layout}
 use Rattle.domain_layout.specs.Owners.{frame_of}
 use Rattle.domain_layout.specs.TagRules.{IsFirstOf}
-use Rattle.layout_laws.proofs.Named.{follows_on, link_of, link_to, no_cell}
-use Rattle.layout_laws.proofs.OnePage.{some_same}
-use Rattle.layout_laws.proofs.OwnedOnce.{no_cells}
+use Rattle.domain_layout.proofs.Named.{follows_on, link_of, link_to, no_cell}
+use Rattle.domain_layout.proofs.OnePage.{some_same}
+use Rattle.domain_layout.proofs.OwnedOnce.{no_cells}
 use Rattle.filesets_reading.proofs.CellTables.{there_at}
 use Rattle.filesets_reading.proofs.Ways.{map_pushed}
 

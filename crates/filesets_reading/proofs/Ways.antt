@@ -3,11 +3,11 @@ use Rattle.std.proofs.Common.{◌≡◌, ◌∙◌, ◌⊎◌, inl, inr, ℕ, ze
 use Rattle.std.proofs.lemmas.List.{append-nil}
 use Rattle.std.specs.Option.{option_map}
 use Rattle.std.specs.Prelude.{map}
-use Rattle.domain_base.specs.declared.place.Home.{Home}
-use Rattle.page_store.specs.Pages.{Pages}
+use Rattle.domain_layout.specs.domain_base.declared.place.Home.{Home}
+use Rattle.domain_layout.specs.page_store.Pages.{Pages}
 use Rattle.domain_layout.specs.Reached.{Frame, IsRead, IsUnread, Reaches, Way, begins, goes_on}
-use Rattle.layout_laws.proofs.OnePage.{some_same}
-use Rattle.layout_laws.proofs.Reached.{is_read, read_after}
+use Rattle.domain_layout.proofs.OnePage.{some_same}
+use Rattle.domain_layout.proofs.Reached.{is_read, read_after}
 
 -- ---- lists
 

@@ -1,10 +1,10 @@
 -- The files of all filesets of a domain.
 use Rattle.std.specs.Prelude.{◌≡◌, ℕ, List, Some, slice_get}
-use Rattle.domain_base.specs.declared.place.Home.{Home}
-use Rattle.page_store.specs.Pages.{Pages}
-use Rattle.tag_dirs.specs.declared.dir.TagPlace.{TagPlace}
-use Rattle.bitfile_core.specs.Files.{HasFiles}
-use Rattle.fileset_table.specs.declared.slot.SlotItem.{SlotItem}
+use Rattle.domain_layout.specs.domain_base.declared.place.Home.{Home}
+use Rattle.domain_layout.specs.page_store.Pages.{Pages}
+use Rattle.domain_layout.specs.tag_dirs.declared.dir.TagPlace.{TagPlace}
+use Rattle.domain_layout.specs.fileset_files.Files.{HasFiles}
+use Rattle.domain_layout.specs.fileset_table.declared.slot.SlotItem.{SlotItem}
 use Rattle.domain_layout.specs.Layout.{first_tag_of}
 use Rattle.filesets_reading.specs.declared.tables.DomainTables.{DomainTables}
 

@@ -1,11 +1,11 @@
 -- Images of volumes whose pages have faults.
 use Rattle.std.specs.Prelude.{◌≡◌, ℕ, List, []}
-use Rattle.domain_base.specs.Version.{number_of}
-use Rattle.domain_base.specs.declared.version.Version.{Version}
-use Rattle.volume_disk.specs.Image.{Image}
-use Rattle.disk_label.specs.declared.anchor.Anchor.{Anchor}
-use Rattle.log_ring.specs.Groups.{Group, HasLog, redone}
-use Rattle.log_recovery.specs.Outcome.{IsFirstFault}
+use Rattle.domain_layout.specs.domain_base.Version.{number_of}
+use Rattle.domain_layout.specs.domain_base.declared.version.Version.{Version}
+use Rattle.domain_layout.specs.volume_disk.Image.{Image}
+use Rattle.domain_layout.specs.disk_label.declared.anchor.Anchor.{Anchor}
+use Rattle.domain_layout.specs.log_ring.Groups.{Group, HasLog, redone}
+use Rattle.domain_layout.specs.log_recovery.Outcome.{IsFirstFault}
 use Rattle.domain_layout.specs.Faults.{AreFaults, FaultRow}
 use Rattle.filesets_reading.specs.Good.{frame_at}
 

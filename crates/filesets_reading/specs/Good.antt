@@ -1,14 +1,14 @@
 -- Pages of a domain in which no rule of tables is broken.
 use Rattle.std.specs.Prelude.{◌≡◌, ◌⊎◌, ◌<◌, ℕ, IsSome}
-use Rattle.domain_base.specs.Version.{number_of}
-use Rattle.domain_base.specs.declared.place.CellAt.{CellAt}
-use Rattle.domain_base.specs.declared.place.Home.{Home}
-use Rattle.domain_base.specs.declared.version.Version.{Version}
-use Rattle.page_store.specs.Pages.{Pages}
-use Rattle.disk_label.specs.declared.anchor.Anchor.{Anchor}
-use Rattle.bmt_mcells.specs.Cell.{Cell}
-use Rattle.bmt_mcells.specs.Chain.{StandsAt}
-use Rattle.fileset_table.specs.Table.{Table}
+use Rattle.domain_layout.specs.domain_base.Version.{number_of}
+use Rattle.domain_layout.specs.domain_base.declared.place.CellAt.{CellAt}
+use Rattle.domain_layout.specs.domain_base.declared.place.Home.{Home}
+use Rattle.domain_layout.specs.domain_base.declared.version.Version.{Version}
+use Rattle.domain_layout.specs.page_store.Pages.{Pages}
+use Rattle.domain_layout.specs.disk_label.declared.anchor.Anchor.{Anchor}
+use Rattle.domain_layout.specs.metadata_cells.Cell.{Cell}
+use Rattle.domain_layout.specs.metadata_cells.Chain.{StandsAt}
+use Rattle.domain_layout.specs.fileset_table.Table.{Table}
 use Rattle.domain_layout.specs.Faults.{HasNoTablesFault, SaysTable}
 use Rattle.domain_layout.specs.Reached.{Frame}
 use Rattle.domain_layout.specs.TagRules.{HasTags}

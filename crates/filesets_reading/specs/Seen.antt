@@ -1,9 +1,9 @@
 -- A file or directory that was read.
 use Rattle.std.specs.Prelude.{◌≡◌, ◌≤◌, ℕ, List, length, Option, Some, None, IsSomeAnd, slice_get}
 use Rattle.std.specs.Option.{option_and_then}
-use Rattle.domain_base.specs.Limits.{file_pages}
-use Rattle.domain_base.specs.declared.place.Home.{Home}
-use Rattle.extent_maps.specs.Runs.{Places, home_at}
+use Rattle.domain_layout.specs.domain_base.Limits.{file_pages}
+use Rattle.domain_layout.specs.domain_base.declared.place.Home.{Home}
+use Rattle.domain_layout.specs.extent_maps.Runs.{Places, home_at}
 use Rattle.domain_layout.specs.Seen.{SeenFile}
 use Rattle.filesets_reading.specs.declared.seen.SeenPages.{SeenPages}
 

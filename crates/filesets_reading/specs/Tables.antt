@@ -1,10 +1,10 @@
 -- The tables that were read of a domain.
 use Rattle.std.specs.Prelude.{◌≡◌, ◌^◌, ◌<◌, ◌≤◌, ℕ, List, Some, IsSomeAnd, length, slice_get}
-use Rattle.page_store.specs.Pages.{Pages}
-use Rattle.log_ring.specs.Homes.{IsMember, member_of}
-use Rattle.tag_dirs.specs.declared.dir.TagPlace.{TagPlace}
-use Rattle.fileset_table.specs.Table.{Table}
-use Rattle.fileset_table.specs.declared.slot.SlotItem.{SlotItem}
+use Rattle.domain_layout.specs.page_store.Pages.{Pages}
+use Rattle.domain_layout.specs.log_ring.Homes.{IsMember, member_of}
+use Rattle.domain_layout.specs.tag_dirs.declared.dir.TagPlace.{TagPlace}
+use Rattle.domain_layout.specs.fileset_table.Table.{Table}
+use Rattle.domain_layout.specs.fileset_table.declared.slot.SlotItem.{SlotItem}
 use Rattle.domain_layout.specs.Layout.{AreTagPlaces, IsCellTable, IsLayout, Layout, first_tag_of}
 use Rattle.domain_layout.specs.Owners.{frame_of}
 use Rattle.domain_layout.specs.Reached.{Frame, first_cells}

@@ -1,20 +1,19 @@
 //! The table of cells of a volume.
 ghost use Rattle.std.specs.Prelude.{◌≡◌, ◌^◌, ◌≤◌, true, IfOk, IsSomeAnd, OnOk};
-ghost use Rattle.disk_label.specs.FirstPages.{first_pages};
-ghost use Rattle.bmt_mcells.specs.CellPage.{is_cell_page, next_of};
-ghost use Rattle.log_ring.specs.Homes.{IsMember, member_of as member_there};
+ghost use Rattle.domain_layout.specs.disk_label.FirstPages.{first_pages};
+ghost use Rattle.domain_layout.specs.metadata_cells.CellPage.{is_cell_page, next_of};
+ghost use Rattle.domain_layout.specs.log_ring.Homes.{IsMember, member_of as member_there};
 ghost use Rattle.domain_layout.specs.Layout.{IsCellTable};
 ghost use Rattle.domain_layout.specs.Reached.{first_cells};
 ghost use Rattle.filesets_reading.specs.Good.{AreDecided, AreGood, IsDecided, frame_at};
 
-use bmt_mcells::{read_page_head, read_used};
-use disk_label::{Anchor, FirstPages};
-use domain_base::{CellAt, Home, OutOfMemory, Version, VolIx};
-use log_ring::member_of;
-use page_store::MetaPages;
+use domain_layout::{
+    Anchor, CellAt, FirstPages, Home, MetaPages, OutOfMemory, Version, VolIx, member_of,
+    read_page_head, read_used,
+};
 use std::alloc::Global;
 
-/// The first page of cells of a volume with so many pages, which four bytes say.
+/// The first page of cells of a volume with `pages` pages, a number of four bytes.
 fn first_page(version: Version, pages: u32) -> u32
     ensures page { result ≡ (first_pages version pages).cells }
     ensures small { pages ≤ 2 ^ 32 }
@@ -30,7 +29,7 @@ fn look_at_cell<M: MetaPages>(alloc: Global, pages: &M, at: CellAt) -> Result<()
     Ok(())
 }
 
-/// Looks at each cell of a page, and answers the page that is next in its table, or 0.
+/// Looks at each cell of a page, and returns the page that is next in its table, or 0.
 fn look_at_page<M: MetaPages>(alloc: Global, pages: &M, home: Home) -> Result<u32, OutOfMemory>
     requires { IsSomeAnd (M.pages pages.now home) (λ page. is_cell_page page ≡ true) }
     ensures decided { OnOk result (AreDecided (M.pages pages.now) home) }

@@ -1,18 +1,17 @@
 //! The chains of a fileset's files.
 ghost use Rattle.std.specs.Prelude.{◌≡◌, ◌+◌, ◌*◌, ◌/◌, ◌<◌, IsSomeAnd, OnOk, slice_get, ℕ, Some};
-ghost use Rattle.domain_base.specs.declared.place.CellAt.{CellAt as CellOf};
-ghost use Rattle.domain_base.specs.declared.place.Tag.{Tag as TagOf};
-ghost use Rattle.bmt_mcells.specs.Chain.{IsBroken};
-ghost use Rattle.bitfile_core.specs.Files.{HasFiles};
-ghost use Rattle.tag_dirs.specs.Directory.{IsDirectory, cell_of};
+ghost use Rattle.domain_layout.specs.domain_base.declared.place.CellAt.{CellAt as CellOf};
+ghost use Rattle.domain_layout.specs.domain_base.declared.place.Tag.{Tag as TagOf};
+ghost use Rattle.domain_layout.specs.metadata_cells.Chain.{IsBroken};
+ghost use Rattle.domain_layout.specs.fileset_files.Files.{HasFiles};
+ghost use Rattle.domain_layout.specs.tag_dirs.Directory.{IsDirectory, cell_of};
 ghost use Rattle.filesets_reading.specs.Chains.{HasLinks, HasLinksAt, HaveLinks, HaveLinksOn, IsPlaceOf, IsUnbroken, MayHaveFiles};
 
-use bmt_mcells::{ChainFault, read_chain};
-use domain_base::{CellAt, FilesetNo, OutOfMemory, Tag};
-use page_store::MetaPages;
-use record_table::u16_at;
+use domain_layout::{
+    CellAt, ChainFault, FilesetNo, MetaPages, OutOfMemory, Tag, TagDir, TagPlace, read_chain,
+    u16_at,
+};
 use std::alloc::Global;
-use tag_dirs::{TagDir, TagPlace};
 
 /// Reads the chain that begins at a cell, so that it is known to be there.
 pub fn look_at_chain<M: MetaPages>(alloc: Global, pages: &M, at: CellAt) -> Result<(), OutOfMemory>
@@ -73,8 +72,8 @@ fn look_at_tags<M: MetaPages>(
     Ok(())
 }
 
-/// Reads the chain of each file of a fileset: so where no rule of tables and extents is broken, it
-/// has its files.
+/// Reads the chain of each file of a fileset: so if no rule of tables and extents is broken, it has
+/// its files.
 pub fn look_at_files<M: MetaPages>(
     alloc: Global,
     pages: &M,

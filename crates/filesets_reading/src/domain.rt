@@ -7,9 +7,7 @@ ghost use Rattle.filesets_reading.specs.Tables.{AreTablesOf};
 
 use crate::chains::look_at_files;
 use crate::tables::{DomainTables, first_tag, read_tables};
-use disk_label::Anchor;
-use domain_base::{FilesetNo, OutOfMemory, Version};
-use page_store::MetaPages;
+use domain_layout::{Anchor, FilesetNo, MetaPages, OutOfMemory, Version};
 use std::alloc::Global;
 
 /// Reads the chains of the files of what is in a slot.
@@ -31,7 +29,7 @@ fn look_at_slot<M: MetaPages>(
     }
 }
 
-/// The tables of a domain with this anchor, where no rule of tables and extents is broken: its pages
+/// The tables of a domain with this anchor. If no rule of tables and extents is broken, its pages
 /// are laid out as a domain's are, and each fileset has its files.
 pub fn read_domain<M: MetaPages>(
     alloc: Global,

@@ -1,29 +1,26 @@
 //! A file or directory as an original has it.
 ghost use Rattle.std.specs.Prelude.{◌≡◌, ◌≤◌, ℕ, IfOk, IfSome, length};
 ghost use Rattle.std.specs.Option.{option_and_then};
-ghost use Rattle.domain_base.specs.Limits.{file_pages};
-ghost use Rattle.extent_maps.specs.Runs.{AreRuns, place_of};
-ghost use Rattle.extent_maps.specs.declared.run.PagePlace.TheVariants.{Absent};
-ghost use Rattle.extent_records.specs.Writing.{places_before};
-ghost use Rattle.bitfile_core.specs.Files.{AreFiles, Chains, HasFiles};
+ghost use Rattle.domain_layout.specs.domain_base.Limits.{file_pages};
+ghost use Rattle.domain_layout.specs.extent_maps.Runs.{AreRuns, place_of};
+ghost use Rattle.domain_layout.specs.extent_maps.declared.run.PagePlace.TheVariants.{Absent};
+ghost use Rattle.domain_layout.specs.extent_records.Writing.{places_before};
+ghost use Rattle.domain_layout.specs.fileset_files.Files.{AreFiles, Chains, HasFiles};
 ghost use Rattle.domain_layout.specs.Seen.{seen_in};
 ghost use Rattle.filesets_reading.specs.Seen.{HasFewHomes, IsSeenThere, ListsHomes};
 
-use bitfile_core::{Attributes, Bitfiles};
-use domain_base::{Home, OutOfMemory, Tag};
-use extent_maps::{ExtentMap, Run};
-use page_store::MetaPages;
+use domain_layout::{Attributes, Bitfiles, ExtentMap, Home, MetaPages, OutOfMemory, Run, Tag};
 use std::alloc::Global;
 
-/// What a file or directory is, and the home of each page from page 0 on, None where it does not
-/// have that page; behind the last it has none.
+/// What a file or directory is, and the home of each page from page 0 on, None if it does not have
+/// that page. After the last one it has no page.
 #[derive(Drop)]
 pub struct SeenPages {
     pub is: Attributes,
     pub homes: Vec<Option<Home>>,
 }
 
-/// The page behind all runs.
+/// The page after all runs.
 pub fn end_of(runs: &[Run]) -> u32
     requires { AreRuns runs.now }
     ensures behind { (page : ℕ) → result ≤ page → place_of runs.now page ≡ Absent }
@@ -35,7 +32,7 @@ pub fn end_of(runs: &[Run]) -> u32
     }
 }
 
-/// The homes of the pages in front of one.
+/// The homes of the pages before page `from`.
 fn homes_before(alloc: Global, map: &ExtentMap, from: u32) -> Result<Vec<Option<Home>>, OutOfMemory>
     ensures homes { IfOk result (λ homes. ListsHomes (places_before from (place_of map.now))
         homes.items) }
@@ -49,8 +46,8 @@ fn homes_before(alloc: Global, map: &ExtentMap, from: u32) -> Result<Vec<Option<
     Ok(homes)
 }
 
-/// The file or directory that a tag names in an original, with the pages that it keeps. None
-/// exactly where it names none, or one that is to be removed.
+/// The file or directory that a tag names in an original, with the pages that it keeps. None if and
+/// only if it names nothing, or something that is to be removed.
 pub fn read_original<M: MetaPages>(
     alloc: Global,
     pages: &M,

@@ -7,16 +7,14 @@ ghost use Rattle.filesets_reading.specs.Tables.{AreTablesOf, AreTagsOf, HasCellT
 
 use crate::cells::read_cell_table;
 use crate::tags::read_tags;
-use disk_label::Anchor;
-use domain_base::{FilesetNo, Home, OutOfMemory, Version, VolIx};
-use fileset_table::{FilesetTable, SlotItem, TableFault};
-use log_ring::is_member;
-use page_store::MetaPages;
+use domain_layout::{
+    Anchor, FilesetNo, FilesetTable, Home, MetaPages, OutOfMemory, SlotItem, TableFault, TagDir,
+    Version, VolIx, is_member,
+};
 use std::alloc::Global;
-use tag_dirs::TagDir;
 
 /// The tables of a domain: that of its filesets, and the tag directory of what is in each slot,
-/// without a page where it has none.
+/// without a page if it has none.
 #[derive(Drop)]
 pub struct DomainTables {
     pub filesets: FilesetTable,
@@ -134,7 +132,7 @@ fn read_all_tags<M: MetaPages>(
     Ok(tags)
 }
 
-/// The tables of a domain with this anchor: so where no rule of tables is broken, its pages are laid
+/// The tables of a domain with this anchor. So if no rule of tables is broken, its pages are laid
 /// out as a domain's are.
 pub fn read_tables<M: MetaPages>(
     alloc: Global,

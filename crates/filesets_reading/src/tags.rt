@@ -1,16 +1,14 @@
 //! The pages of the tag directory of a fileset.
 ghost use Rattle.std.specs.Prelude.{◌≡◌, IfOk};
-ghost use Rattle.tag_dirs.specs.Directory.{IsDirectoryAt};
-ghost use Rattle.tag_dirs.specs.TagPage.{next_of};
+ghost use Rattle.domain_layout.specs.tag_dirs.Directory.{IsDirectoryAt};
+ghost use Rattle.domain_layout.specs.tag_dirs.TagPage.{next_of};
 ghost use Rattle.domain_layout.specs.Reached.{on_volume};
 ghost use Rattle.filesets_reading.specs.Good.{AreGood, HasTagsAt, frame_at};
 
-use disk_label::Anchor;
-use domain_base::{Home, OutOfMemory, Page, Version, VolIx};
-use page_store::MetaPages;
-use record_table::u32_at;
+use domain_layout::{
+    Anchor, Home, MetaPages, OutOfMemory, Page, TagDir, TagPlace, Version, VolIx, u32_at,
+};
 use std::alloc::Global;
-use tag_dirs::{TagDir, TagPlace};
 
 /// The home of the page that is next to one of tags or of an index, if it names one.
 fn next_home(page: &Page) -> Option<Home>

@@ -7,7 +7,7 @@ use Rattle.std.proofs.lemmas.Map.Keys.{IsDistinct-push, IsDistinct-head, IsDisti
 use Rattle.std.specs.Option.{option_to_list}
 use Rattle.std.specs.Cmp.{IsEquivalence}
 use Rattle.std.specs.List.{AllByRecursion, IsDistinct}
-use Rattle.bmt_mcells.specs.CellPage.{is_free_in}
+use Rattle.metadata_cells.specs.CellPage.{is_free_in}
 use Rattle.free_cells.specs.declared.volume.FreeCell.{FreeCell}
 use Rattle.free_cells.specs.VolumeTable.{same_cell, is_among}
 

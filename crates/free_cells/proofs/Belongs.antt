@@ -6,14 +6,14 @@ use Rattle.std.proofs.Math.Seq.{get_or-append_seam}
 use Rattle.std.proofs.lemmas.List.Elements.{Contains-append_left, Contains-get_or, Contains-push}
 use Rattle.std.specs.List.{Contains}
 use Rattle.std.specs.Option.{option_and_then, option_map}
-use Rattle.domain_base.specs.Page.{zero_bytes}
-use Rattle.domain_base.specs.declared.place.CellAt.{CellAt}
-use Rattle.domain_base.specs.declared.place.Home.{Home}
-use Rattle.page_store.specs.Pages.{Pages, same_home}
-use Rattle.bmt_mcells.specs.CellPage.{IsCellPage, IsEmptyPage, IsUsedAt, KeepsHeaders, KeepsWellFormed, cell_at, cell_of, header, home_of, index_of, is_cell_page, is_free_in, next_of}
-use Rattle.bmt_mcells.specs.Chain.{LeavesOthers, is_at}
-use Rattle.bmt_mcells.proofs.CellKinds.{free_kind, used_not_zeros, zeros_kind}
-use Rattle.bmt_mcells.proofs.Changed.{homes_same}
+use Rattle.metadata_cells.specs.domain_base.Page.{zero_bytes}
+use Rattle.metadata_cells.specs.domain_base.declared.place.CellAt.{CellAt}
+use Rattle.metadata_cells.specs.domain_base.declared.place.Home.{Home}
+use Rattle.metadata_cells.specs.page_store.Pages.{Pages, same_home}
+use Rattle.metadata_cells.specs.CellPage.{IsCellPage, IsEmptyPage, IsUsedAt, KeepsHeaders, KeepsWellFormed, cell_at, cell_of, header, home_of, index_of, is_cell_page, is_free_in, next_of}
+use Rattle.metadata_cells.specs.Chain.{LeavesOthers, is_at}
+use Rattle.metadata_cells.proofs.CellKinds.{free_kind, used_not_zeros, zeros_kind}
+use Rattle.metadata_cells.proofs.Changed.{homes_same}
 use Rattle.free_cells.specs.VolumeTable.{AreOn}
 use Rattle.free_cells.specs.Cells.{Cells, Holds, TakesCell, is_closed, is_free, is_on, kept_of, table_of, volume_of, with_page_last}
 use Rattle.free_cells.specs.Belong.{Belong, IsNextPage, IsPageOf, LeadsTo, home_at, last_home}

@@ -1,8 +1,8 @@
 -- All volumes are kept, or taken back.
 use Rattle.std.proofs.Common.{◌≡◌, ◌∙◌, ℕ, zero, suc, ◌<◌, ◌≤◌, [], ◌∷◌, length, get_or, map, refl, sym, ap, arith, inl}
 use Rattle.std.proofs.lemmas.List.{length-map, get_or-map, ext_get_or}
-use Rattle.domain_base.specs.declared.place.CellAt.{CellAt}
-use Rattle.page_store.specs.Pages.{Pages}
+use Rattle.metadata_cells.specs.domain_base.declared.place.CellAt.{CellAt}
+use Rattle.metadata_cells.specs.page_store.Pages.{Pages}
 use Rattle.free_cells.specs.VolumeTable.{KeptTable, VolumeTable, as_kept, is_among, no_table, with_kept}
 use Rattle.free_cells.specs.Belong.{Belong}
 use Rattle.free_cells.specs.Cells.{Cells, Holds, all_kept, is_closed, is_free, kept_of, table_of, taken_back, volume_of}

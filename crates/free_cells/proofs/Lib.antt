@@ -5,3 +5,11 @@ pub mod OnTable
 pub mod PutThere
 pub mod Sound
 pub mod Volumes
+pub mod OneBit
+pub mod Many
+pub mod MarkVolume
+pub mod MarkVolumes
+pub mod OfCellRecords
+pub mod OfFreeSpace
+pub mod OfMetadataCells
+pub mod OfSortedSets

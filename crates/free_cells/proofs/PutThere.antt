@@ -1,11 +1,11 @@
 -- A page that was put into pages.
 use Rattle.std.proofs.Common.{◌≡◌, ◌∙◌, ℕ, Bool, true, false, cond, ◌&&◌, nat_lt, Option, Some, None, IfSome, List, refl, sym, ap, subst}
 use Rattle.std.specs.Option.{option_and_then}
-use Rattle.domain_base.specs.declared.place.Home.{Home}
-use Rattle.page_store.specs.Pages.{Pages, same_home, with_page}
-use Rattle.bmt_mcells.specs.CellPage.{IsCellPage, KeepsWellFormed, cell_at, cell_of, home_of, is_cell_page}
-use Rattle.bmt_mcells.specs.Chain.{LeavesOthers}
-use Rattle.bmt_mcells.proofs.Changed.{homes_same, same_itself}
+use Rattle.metadata_cells.specs.domain_base.declared.place.Home.{Home}
+use Rattle.metadata_cells.specs.page_store.Pages.{Pages, same_home, with_page}
+use Rattle.metadata_cells.specs.CellPage.{IsCellPage, KeepsWellFormed, cell_at, cell_of, home_of, is_cell_page}
+use Rattle.metadata_cells.specs.Chain.{LeavesOthers}
+use Rattle.metadata_cells.proofs.Changed.{homes_same, same_itself}
 use Rattle.free_cells.specs.Cells.{is_on}
 
 abbrev cell_in : ℕ → List ℕ → Option (List ℕ)

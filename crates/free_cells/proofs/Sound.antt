@@ -3,7 +3,7 @@ use Rattle.std.proofs.Common.{◌≡◌, ◌∙◌, ⊎_elim, ℕ, ◌+◌, ◌*
 use Rattle.std.proofs.lemmas.Bool.{and_parts, eqb-true, or_cases, true≢false}
 use Rattle.std.proofs.lemmas.List.{append-nil, length_push, take_all, take_more, length-take-le}
 use Rattle.std.specs.List.{IsDistinct}
-use Rattle.bmt_mcells.specs.CellPage.{is_free_in}
+use Rattle.metadata_cells.specs.CellPage.{is_free_in}
 use Rattle.free_cells.specs.declared.volume.FreeCell.{FreeCell}
 use Rattle.free_cells.specs.VolumeTable.{IsOn, IsSound, VolumeIs, VolumeTable, free_now, is_among, is_free_there, same_cell}
 use Rattle.free_cells.proofs.Among.{AreApart, front_of_apart, cells_flip, among_both, among_push, apart_push, both_apart, less_apart, less_cells, none_apart, rest_apart}

@@ -3,9 +3,9 @@ use Rattle.std.proofs.Common.{◌≡◌, ◌∙◌, ℕ, zero, suc, ◌+◌, ◌
 use Rattle.std.proofs.lemmas.Bool.{eqb-true, eq-eqb, cases_Bool, both_ways}
 use Rattle.std.proofs.lemmas.List.{get_or_read, get_or-set_same, get_or-set_other}
 use Rattle.std.specs.List.{Contains}
-use Rattle.domain_base.specs.declared.place.CellAt.{CellAt}
-use Rattle.domain_base.specs.declared.place.Home.{Home}
-use Rattle.bmt_mcells.specs.CellPage.{is_free_in}
+use Rattle.metadata_cells.specs.domain_base.declared.place.CellAt.{CellAt}
+use Rattle.metadata_cells.specs.domain_base.declared.place.Home.{Home}
+use Rattle.metadata_cells.specs.CellPage.{is_free_in}
 use Rattle.free_cells.specs.declared.volume.FreeCell.{FreeCell}
 use Rattle.free_cells.specs.VolumeTable.{AreOn, VolumeIs, VolumeTable, is_among, is_free_there, no_table}
 use Rattle.free_cells.specs.Cells.{Cells, Holds, is_closed, is_free, is_on, kept_of, table_of, volume_of, with_page_last}

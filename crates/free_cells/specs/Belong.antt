@@ -1,10 +1,10 @@
 -- Free cells and pages that belong together.
 use Rattle.std.specs.Prelude.{◌≡◌, ℕ, ◌+◌, ◌-◌, ◌<◌, true, List, length, slice_index, Contains, Some, IsSomeAnd}
-use Rattle.domain_base.specs.Page.{zero_bytes}
-use Rattle.domain_base.specs.declared.place.CellAt.{CellAt}
-use Rattle.domain_base.specs.declared.place.Home.{Home}
-use Rattle.page_store.specs.Pages.{Pages}
-use Rattle.bmt_mcells.specs.CellPage.{IsCellPage, cell_at, index_of, next_of}
+use Rattle.metadata_cells.specs.domain_base.Page.{zero_bytes}
+use Rattle.metadata_cells.specs.domain_base.declared.place.CellAt.{CellAt}
+use Rattle.metadata_cells.specs.domain_base.declared.place.Home.{Home}
+use Rattle.metadata_cells.specs.page_store.Pages.{Pages}
+use Rattle.metadata_cells.specs.CellPage.{IsCellPage, cell_at, index_of, next_of}
 use Rattle.free_cells.specs.Cells.{Cells, table_of, is_free}
 
 -- a well-formed page at a place of the table: the place is its index, and its next page the one

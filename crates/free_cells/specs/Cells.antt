@@ -1,10 +1,10 @@
 -- The free cells of a domain's volumes.
 use Rattle.std.specs.Prelude.{◌≡◌, ℕ, Bool, not, ◌&&◌, ◌||◌, ◌==◌, nat_lt, List, [], ◌∷◌, ◌++◌, slice_index_or, if◌then◌else◌, map}
-use Rattle.domain_base.specs.declared.place.CellAt.{CellAt}
-use Rattle.domain_base.specs.declared.place.Home.{Home}
-use Rattle.page_store.specs.Pages.{same_home}
-use Rattle.bmt_mcells.specs.CellPage.{home_of, is_free_in}
-use Rattle.bmt_mcells.specs.Chain.{is_at}
+use Rattle.metadata_cells.specs.domain_base.declared.place.CellAt.{CellAt}
+use Rattle.metadata_cells.specs.domain_base.declared.place.Home.{Home}
+use Rattle.metadata_cells.specs.page_store.Pages.{same_home}
+use Rattle.metadata_cells.specs.CellPage.{home_of, is_free_in}
+use Rattle.metadata_cells.specs.Chain.{is_at}
 use Rattle.free_cells.specs.VolumeTable.{KeptTable, VolumeTable, as_kept, no_table, is_among, with_kept}
 
 -- each volume's table, that of volume k at place k - 1

@@ -2,7 +2,7 @@
 use Rattle.std.specs.Prelude.{◌≡◌, ℕ, ◌+◌, ◌*◌, ◌<◌, ◌≤◌, Bool, true, false, ◌&&◌, ◌==◌, nat_lt, List, [], ◌++◌, length, take, Contains, refl}
 use Rattle.std.specs.List.{IsDistinct, list_any}
 use Rattle.std.specs.Coded.{Coded, code_by, coded×, coded_ℕ, coded_bool, coded_list}
-use Rattle.bmt_mcells.specs.CellPage.{is_free_in}
+use Rattle.metadata_cells.specs.CellPage.{is_free_in}
 use Rattle.free_cells.specs.declared.volume.FreeCell.{FreeCell}
 
 -- the pages of a volume's table in their order, and which of its cells are free

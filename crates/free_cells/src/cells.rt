@@ -1,28 +1,27 @@
 //! The free cells of a domain's volumes.
 ghost use Rattle.std.specs.Prelude.{◌≡◌, ◌≢◌, ◌+◌, ◌-◌, ◌<◌, ◌≤◌, true, false, not, ◌==◌, ◌&&◌, if◌then◌else◌, List, [], Contains, length, IfOk, IfSome, IfNone, OnOk, OnErr, IsSomeAnd, Some};
-ghost use Rattle.domain_base.specs.declared.place.CellAt.{CellAt};
-ghost use Rattle.domain_base.specs.declared.place.Home.{Home};
-ghost use Rattle.page_store.specs.Pages.{Pages, same_home};
-ghost use Rattle.bmt_mcells.specs.CellPage.{HasPlace, IsEmptyPage, IsUsedAt, KeepsHeaders, KeepsWellFormed, cell_at, home_of};
-ghost use Rattle.bmt_mcells.specs.Chain.{LeavesOthers, is_at};
-ghost use Rattle.domain_base.specs.Page.{zero_bytes};
+ghost use Rattle.metadata_cells.specs.domain_base.declared.place.CellAt.{CellAt};
+ghost use Rattle.metadata_cells.specs.domain_base.declared.place.Home.{Home};
+ghost use Rattle.metadata_cells.specs.page_store.Pages.{Pages, same_home};
+ghost use Rattle.metadata_cells.specs.CellPage.{HasPlace, IsEmptyPage, IsUsedAt, KeepsHeaders, KeepsWellFormed, cell_at, home_of};
+ghost use Rattle.metadata_cells.specs.Chain.{LeavesOthers, is_at};
+ghost use Rattle.metadata_cells.specs.domain_base.Page.{zero_bytes};
 ghost use Rattle.free_cells.specs.VolumeTable.{AreOn, nothing_kept};
 ghost use Rattle.free_cells.specs.Cells.{FreesCell, Holds, JoinsEmptyPage, JoinsPage, TakesCell, all_kept, can_take, is_closed, is_free, is_on, kept_of, table_of, taken_back, volume_of};
 ghost use Rattle.free_cells.specs.Belong.{Belong, IsNextPage, LeadsTo, last_home as last_of};
 
 use crate::linking::link_page;
 use crate::volume::{FreeCell, VolumeCells};
-use bmt_mcells::{clear_cell, empty_page};
-use domain_base::limits::MAX_VOLUMES;
-use domain_base::{CellAt, Home, OutOfMemory, Page, VolIx};
-use page_store::MetaPages;
+use metadata_cells::limits::MAX_VOLUMES;
+use metadata_cells::{CellAt, Home, MetaPages, OutOfMemory, Page, VolIx, clear_cell, empty_page};
 use std::alloc::Global;
 use std::marker::Model;
 
 /// The free cells of a domain's volumes, and the pages that they stand on. Of each volume contracts
 /// see the pages of its table in their order, which of their cells are free, and whether the volume
 /// is closed, so that no cell of it is handed out; and the pages and free cells as they were kept
-/// last. Room for the cells of a page is taken twice, so that a change and taking it back need none.
+/// last. Room for the cells of a page is taken twice, so that a change and taking it back need
+/// none.
 #[derive(Debug, Drop)]
 pub struct FreeCells {
     volumes: Vec<VolumeCells>,
@@ -43,7 +42,7 @@ impl Model for FreeCells {
 }
 
 impl FreeCells {
-    /// No free cell: of each volume no page was read, and none is closed.
+    /// No free cells: no volume has a page that was read, and none is closed.
     pub fn new(alloc: Global) -> Result<Self, OutOfMemory>
         ensures value { IfOk result (Holds (λ _. []) (λ _. false) (λ _. false)
             (λ _. nothing_kept)) }
@@ -56,9 +55,9 @@ impl FreeCells {
         Ok(FreeCells { volumes })
     }
 
-    /// Reads the page of cells that stands there, the next one of its volume's table: its cells of
-    /// kind 0 join the free ones. Pages are read in the order of the table. It takes the room for
-    /// all 28 cells of the page to be free. At an Err nothing has changed.
+    /// Reads the page of cells that stands there, the next one of its volume's table. Its cells of
+    /// kind 0 join the free ones. Pages are read in the order of the table. Takes room for all 28
+    /// cells of the page to be free. After an error nothing has changed.
     pub fn read_page<M: MetaPages>(
         &mut self,
         alloc: Global,
@@ -80,10 +79,10 @@ impl FreeCells {
         }
     }
 
-    /// Adds a page of 28 free cells, with no next page, behind the last page of its volume's table,
-    /// whose next page it becomes. All 28 cells join the free ones. Every other cell stays, and
-    /// every page but these two. It takes the room for the page, and for its cells to be free. At an
-    /// Err nothing has changed, but that there may be more room.
+    /// Adds a page of 28 free cells after the last page of its volume's table, which then leads to
+    /// it. The new page has no next page. All 28 cells join the free ones. Every other cell stays,
+    /// and every page but these two. Takes room for the page, and for its cells to be free. After
+    /// an error nothing has changed, except that there may be more room.
     pub fn add_page<M: MetaPages>(
         &mut self,
         alloc: Global,
@@ -116,8 +115,8 @@ impl FreeCells {
         Ok(())
     }
 
-    /// Takes a free cell of a volume that is not closed, of the preferred one if it has any. None
-    /// exactly where no such volume has one. It takes no memory and no pages.
+    /// Takes a free cell of a volume that is not closed, of the preferred volume if it has one.
+    /// Returns None if and only if no such volume has one. Takes no memory and no pages.
     pub fn new_cell(&mut self, prefer: VolIx) -> Option<CellAt>
         ensures none { IfNone result ((at : CellAt) → can_take self.old at ≡ false) }
         ensures unchanged { IfNone result (self.new ≡ self.old) }
@@ -137,8 +136,8 @@ impl FreeCells {
     }
 
     /// Clears a cell in use, on a page of its volume's table, and takes it back among the free
-    /// ones: it is 292 zeros then. Every other cell stays, and the index and next page of each
-    /// page. It takes no memory.
+    /// ones. It then has 292 zeros. Every other cell stays, and so do the index and next page of
+    /// each page. Takes no memory.
     pub fn free_cell<M: MetaPages>(&mut self, pages: &mut M, at: CellAt)
         requires belong { Belong self.old (M.pages pages.old) }
         requires used { IsUsedAt (M.pages pages.old) at }
@@ -186,7 +185,7 @@ impl FreeCells {
     }
 
     /// Forgets the volume: its table and its free cells, and what was kept of them. It is open
-    /// then.
+    /// after this.
     pub fn drop_volume(&mut self, vol: VolIx)
         ensures value { Holds (λ v. if v == vol then [] else table_of self.old v)
             (λ v. if v == vol then false else is_closed self.old v)
@@ -197,8 +196,8 @@ impl FreeCells {
         self.volumes[vol.index()].clear();
     }
 
-    /// Keeps the tables and the free cells as they are, in the time of what has changed since they
-    /// were kept before. It takes no memory.
+    /// Keeps the tables and the free cells as they are, in time proportional to what has changed
+    /// since they were last kept. Takes no memory.
     pub fn keep(&mut self)
         ensures value { self.new ≡ all_kept self.old }
         ensures same { Holds (table_of self.old) (is_closed self.old) (is_free self.old)
@@ -211,8 +210,8 @@ impl FreeCells {
         }
     }
 
-    /// Lets the tables and the free cells be as they were kept. Closed volumes are closed still. It
-    /// takes no memory, and the time of the pages that were added.
+    /// Takes the tables and the free cells back to what was kept. Closed volumes are still closed.
+    /// Takes no memory, and time in proportion to the pages that were added.
     pub fn take_back(&mut self)
         ensures value { self.new ≡ taken_back self.old }
         ensures settled { taken_back self.new ≡ self.new }
@@ -224,7 +223,8 @@ impl FreeCells {
         }
     }
 
-    /// Takes a free cell of this volume. None exactly where it has none or is closed.
+    /// Takes a free cell of this volume. Returns None if and only if the volume has none or is
+    /// closed.
     fn take_on(&mut self, vol: VolIx) -> Option<CellAt>
         ensures none { IfNone result ((at : CellAt) → at.vol ≡ vol → can_take self.old at ≡ false) }
         ensures unchanged { IfNone result (self.new ≡ self.old) }
@@ -270,7 +270,7 @@ impl FreeCells {
         });
     }
 
-    /// Puts a page behind the others of its volume's table, and its free cells among the free ones.
+    /// Adds a page after the others of its volume's table, and its free cells to the free ones.
     fn join_page(&mut self, alloc: Global, home: &Home, page: &Page) -> Result<(), OutOfMemory>
         requires fresh { ¬ Contains (table_of self.old home.now.vol) home.now.page }
         requires others { AreOn (volume_of self.old home.now.vol) }
@@ -300,8 +300,8 @@ impl FreeCells {
         Home { vol, page }
     }
 
-    /// Makes a page of free cells, and puts it behind the others of its volume's table; takes the
-    /// room for it among the pages.
+    /// Makes a page of free cells, adds it after the others of its volume's table, and takes room
+    /// for it among the pages.
     fn prepare_page<M: MetaPages>(
         &mut self,
         alloc: Global,

@@ -1,18 +1,16 @@
 //! A new page in the run of a volume's pages of cells.
 ghost use Rattle.std.specs.Prelude.{◌≡◌, ◌+◌, ◌<◌, ◌≤◌, false, Some, IsSomeAnd};
 ghost use Rattle.std.specs.Option.{option_map};
-ghost use Rattle.domain_base.specs.declared.place.Home.{Home};
-ghost use Rattle.page_store.specs.Pages.{same_home};
-ghost use Rattle.bmt_mcells.specs.CellPage.{IsCellPage, KeepsWellFormed, index_of, next_of};
-ghost use Rattle.bmt_mcells.specs.Chain.{LeavesOthers};
+ghost use Rattle.metadata_cells.specs.domain_base.declared.place.Home.{Home};
+ghost use Rattle.metadata_cells.specs.page_store.Pages.{same_home};
+ghost use Rattle.metadata_cells.specs.CellPage.{IsCellPage, KeepsWellFormed, index_of, next_of};
+ghost use Rattle.metadata_cells.specs.Chain.{LeavesOthers};
 ghost use Rattle.free_cells.specs.Cells.{is_on};
 
-use bmt_mcells::set_next;
-use domain_base::{Home, Page};
-use page_store::MetaPages;
+use metadata_cells::{Home, MetaPages, Page, set_next};
 
 /// Puts a page of cells at a home, and makes it the next page of the one that was last. All other
-/// pages stay, and all cells of these two but those of the new page.
+/// pages stay, and all cells of these two except those of the new page.
 pub fn link_page<M: MetaPages>(pages: &mut M, last: &Home, home: &Home, page: Page)
     requires last { IsSomeAnd (M.pages pages.old last.now) IsCellPage }
     requires good { IsCellPage page }

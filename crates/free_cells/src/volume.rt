@@ -4,9 +4,8 @@ ghost use Rattle.std.specs.List.{IsDistinct};
 ghost use Rattle.free_cells.specs.declared.volume.FreeCell.{FreeCell};
 ghost use Rattle.free_cells.specs.VolumeTable.{AreOn, IsOn, VolumeIs, as_kept, no_table, same_cell, is_among, is_free_there, with_kept};
 
-use bmt_mcells::is_free_cell;
-use domain_base::limits::PAGE_CELLS;
-use domain_base::{OutOfMemory, Page};
+use metadata_cells::limits::PAGE_CELLS;
+use metadata_cells::{OutOfMemory, Page, is_free_cell};
 use std::alloc::Global;
 use std::marker::Model;
 
@@ -18,8 +17,8 @@ pub struct FreeCell {
 }
 
 /// The pages of a volume's table in their order, and their free cells. Contracts see these, whether
-/// the volume is closed, and the pages and the free cells as they were kept last. The first
-/// `kept_pages` pages of the table are those. A free cell is one of the first `live` of the kept
+/// the volume is closed, and the pages and the free cells as they were last kept. The pages as kept
+/// are the first `kept_pages` of the table. A free cell is one of the first `live` of the kept
 /// ones, or it came later.
 #[derive(Debug, Drop)]
 pub struct VolumeCells {
@@ -54,7 +53,7 @@ impl Model for VolumeCells {
         (vec_capacity v.kept) (vec_capacity v.fresh) };
 }
 
-/// Puts the free cells of the page with this number behind the others, of which none is on it.
+/// Adds the free cells of the page with this number after the others. None of the others is on it.
 fn push_free(number: u32, page: &Page, free: &mut Vec<FreeCell>)
     requires apart { IsDistinct same_cell free.old.items }
     requires fresh { (f : FreeCell) → f.page ≡ number → is_among free.old.items f ≡ false }
@@ -72,7 +71,7 @@ fn push_free(number: u32, page: &Page, free: &mut Vec<FreeCell>)
     }
 }
 
-/// Moves all cells behind those of the other list, which has room for them.
+/// Moves all cells to the end of the other list, which has room for them.
 fn move_cells(from: &mut Vec<FreeCell>, to: &mut Vec<FreeCell>)
     requires room { length to.old.items + length from.old.items ≤ vec_capacity to.old }
     ensures moved { to.new.items ≡ to.old.items ++ from.old.items }
@@ -87,7 +86,7 @@ fn move_cells(from: &mut Vec<FreeCell>, to: &mut Vec<FreeCell>)
 }
 
 impl VolumeCells {
-    /// A volume whose table has no page so far.
+    /// A volume whose table has no page yet.
     pub fn new(alloc: Global) -> Self
         ensures { result ≡ no_table }
     {
@@ -101,7 +100,7 @@ impl VolumeCells {
         }
     }
 
-    /// Takes a free cell. None exactly where the volume is closed or has none.
+    /// Takes a free cell. Returns None if and only if the volume is closed or has none.
     pub fn take(&mut self) -> Option<FreeCell>
         ensures none { IfNone result ((f : FreeCell) → self.old.is_closed ≡ false
             → is_among self.old.free f ≡ false) }
@@ -121,8 +120,8 @@ impl VolumeCells {
         Some(self.kept[self.live])
     }
 
-    /// Puts a cell of the table among the free ones. Since each of these is another cell of the
-    /// table, there is room for it.
+    /// Puts a cell of the table among the free ones. All of these are different cells of the table,
+    /// so there is room for it.
     pub fn give_back(&mut self, cell: FreeCell)
         requires used { is_among self.old.free cell ≡ false }
         requires place { IsOn self.old.table cell }
@@ -133,8 +132,8 @@ impl VolumeCells {
         self.fresh.push_reserved(cell);
     }
 
-    /// Puts a page behind the others of the table, and its free cells among the free ones. It takes
-    /// the room for all cells of the page to be free. At an Err nothing has changed.
+    /// Adds a page after the others of the table, and its free cells to the free ones. Takes room
+    /// for all cells of the page to be free. After an error nothing has changed.
     pub fn add_page(&mut self, alloc: Global, number: u32, page: &Page) -> Result<(), OutOfMemory>
         requires fresh { (f : FreeCell) → f.page ≡ number → is_among self.old.free f ≡ false }
         requires others { AreOn self.old }
@@ -152,8 +151,8 @@ impl VolumeCells {
         Ok(())
     }
 
-    /// Keeps the table and its free cells as they are, in the time of what has changed since they
-    /// were kept before.
+    /// Keeps the table and its free cells as they are, in time proportional to what has changed
+    /// since they were last kept.
     pub fn keep(&mut self)
         ensures { self.new ≡ with_kept self.old }
     {
@@ -163,7 +162,7 @@ impl VolumeCells {
         self.kept_pages = self.table.len();
     }
 
-    /// Lets the table and its free cells be as they were kept.
+    /// Takes the table and its free cells back to what was kept.
     pub fn take_back(&mut self)
         ensures { self.new ≡ as_kept self.old }
     {

@@ -7,7 +7,7 @@ use Rattle.std.specs.Cmp.{IsEquivalence, nat_cmp_total}
 use Rattle.std.specs.List.{filter, AllByRecursion, IsDistinct}
 use Rattle.std.specs.Ordering.{nat_cmp}
 use Rattle.std.specs.FinSet.{FinSet, empty, contains, len, remove, len-remove, len-empty, contains-empty}
-use Rattle.storage_bitmap.proofs.Used.{contains-removed, some_used, same_pages}
+use Rattle.free_space.proofs.Used.{contains-removed, some_used, same_pages}
 use Rattle.free_space.specs.declared.waiting.Waiting.{Waiting}
 use Rattle.free_space.specs.VolumeSpace.{is_among}
 use Rattle.free_space.specs.Sound.{same_page}

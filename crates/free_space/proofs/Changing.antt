@@ -11,7 +11,7 @@ use Rattle.std.specs.List.{slice_get}
 use Rattle.std.specs.Option.{option_eq, option_to_list}
 use Rattle.std.specs.Ordering.{nat_cmp}
 use Rattle.std.specs.FinSet.{FinSet, contains, insert, remove, len, len-insert, from_list, union, difference, contains-union, contains-difference, contains-from_list_nat}
-use Rattle.storage_bitmap.proofs.Used.{contains-inserted, contains-removed, same_pages}
+use Rattle.free_space.proofs.Used.{contains-inserted, contains-removed, same_pages}
 use Rattle.free_space.specs.Sound.{is_one, without, used_before, AreChanges}
 use Rattle.free_space.proofs.Apart.{len_le}
 

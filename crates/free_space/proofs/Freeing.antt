@@ -5,8 +5,8 @@ use Rattle.std.proofs.lemmas.List.{take_more}
 use Rattle.std.proofs.lemmas.List.Folds.{list_any-append}
 use Rattle.std.specs.Ordering.{nat_cmp}
 use Rattle.std.specs.FinSet.{FinSet, contains, remove, contains-retain, nat_cmp-IsAntisymmetric}
-use Rattle.storage_bitmap.specs.VolumePages.{VolumePages}
-use Rattle.storage_bitmap.proofs.Used.{contains-removed, same_pages, with_used}
+use Rattle.free_space.specs.VolumePages.{VolumePages}
+use Rattle.free_space.proofs.Used.{contains-removed, same_pages, with_used}
 use Rattle.free_space.specs.declared.waiting.Waiting.{Waiting}
 use Rattle.free_space.specs.VolumeSpace.{is_among, without_waiting}
 use Rattle.free_space.specs.Sound.{IsSound}

@@ -5,7 +5,7 @@ use Rattle.free_space.specs.declared.waiting.Waiting.{Waiting}
 use Rattle.free_space.specs.declared.waiting.PageUse.{PageUse}
 use Rattle.free_space.specs.VolumeSpace.{VolumeSpace, added, with_page, with_run, without_page, with_waiting, with_none_waiting, with_open, with_released, keeping, as_kept}
 use Rattle.free_space.specs.Spaces.{Spaces, volume_of, with_volume, change_volume, change_volumes, missed, kept_spaces}
-use Rattle.storage_bitmap.specs.VolumePages.{VolumePages}
+use Rattle.free_space.specs.VolumePages.{VolumePages}
 
 abbrev with_volumes : Spaces → List (Option VolumeSpace) → Spaces
 with_volumes s volumes = record s { volumes = volumes }

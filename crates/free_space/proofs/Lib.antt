@@ -1,3 +1,9 @@
+pub mod Blank
+pub mod Longest
+pub mod Runs
+pub mod Used
+pub mod Walks
+pub mod Words
 pub mod Apart
 pub mod Changing
 pub mod Due
@@ -8,3 +14,4 @@ pub mod Mapping
 pub mod Places
 pub mod Releasing
 pub mod StaysSound
+pub mod WrongBits

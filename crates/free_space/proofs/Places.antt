@@ -4,7 +4,7 @@ use Rattle.std.proofs.lemmas.Bool.{cases_lt, eq-eqb, or_left}
 use Rattle.std.proofs.lemmas.List.{get_or-set_same, get_or-set_other, get_or_past, set_past}
 use Rattle.std.specs.Option.{option_map}
 use Rattle.std.specs.FinSet.{contains}
-use Rattle.storage_bitmap.proofs.Used.{contains-inserted}
+use Rattle.free_space.proofs.Used.{contains-inserted}
 use Rattle.free_space.specs.VolumeSpace.{VolumeSpace, IsFreePage, with_page, is_waiting}
 use Rattle.free_space.specs.Spaces.{Spaces, volume_of, change_volume, IsFree, CanTake, IsHeld}
 

@@ -2,8 +2,8 @@
 use Rattle.std.proofs.Common.{◌≡◌, ℕ, ◌+◌, ◌<◌, true, false, List, [], length, take, get_or, sym, ◌∙◌, ap}
 use Rattle.std.proofs.lemmas.List.{take_more}
 use Rattle.std.specs.FinSet.{remove}
-use Rattle.storage_bitmap.specs.VolumePages.{VolumePages}
-use Rattle.storage_bitmap.proofs.Used.{with_used}
+use Rattle.free_space.specs.VolumePages.{VolumePages}
+use Rattle.free_space.proofs.Used.{with_used}
 use Rattle.free_space.specs.declared.waiting.Waiting.{Waiting}
 use Rattle.free_space.specs.declared.waiting.PageUse.{PageUse}
 use Rattle.free_space.specs.VolumeSpace.{is_due, without_due}

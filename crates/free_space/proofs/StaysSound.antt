@@ -7,8 +7,8 @@ use Rattle.std.specs.List.{AllByRecursion, IsDistinct}
 use Rattle.std.specs.Ordering.{nat_cmp}
 use Rattle.std.specs.FinSet.{FinSet, contains, insert, remove, len, len-insert}
 use Rattle.std.specs.Option.{IfNone, IfSome}
-use Rattle.storage_bitmap.specs.VolumePages.{IsFreeRun, IsFirstRun}
-use Rattle.storage_bitmap.proofs.Used.{contains-inserted, contains-removed}
+use Rattle.free_space.specs.VolumePages.{IsFreeRun, IsFirstRun}
+use Rattle.free_space.proofs.Used.{contains-inserted, contains-removed}
 use Rattle.free_space.specs.declared.waiting.Waiting.{Waiting}
 use Rattle.free_space.specs.declared.waiting.PageUse.{PageUse}
 use Rattle.free_space.specs.declared.waiting.PageUse.TheVariants.{Data}

@@ -4,7 +4,7 @@ use Rattle.std.specs.Coded.{Coded, code_by, coded×, coded_ℕ, coded_list, code
 use Rattle.std.specs.Option.{option_map}
 use Rattle.std.specs.List.{IsDistinct}
 use Rattle.std.specs.FinSet.{len, contains, from_list, difference}
-use Rattle.storage_bitmap.specs.VolumePages.{IsLongestRun}
+use Rattle.free_space.specs.VolumePages.{IsLongestRun}
 use Rattle.free_space.specs.declared.waiting.Waiting.{Waiting}
 use Rattle.free_space.specs.VolumeSpace.{VolumeSpace, volume_space_code, IsFreePage, AreFreePages, volume_pages, is_waiting, as_kept}
 

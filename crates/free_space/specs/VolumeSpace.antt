@@ -4,7 +4,7 @@ use Rattle.std.specs.List.{list_any}
 use Rattle.std.specs.Ordering.{nat_cmp}
 use Rattle.std.specs.FinSet.{FinSet, code, contains, insert, remove, retain}
 use Rattle.std.specs.Coded.{Coded, code_by, coded×, coded_ℕ, coded_bool, coded_list}
-use Rattle.storage_bitmap.specs.VolumePages.{VolumePages}
+use Rattle.free_space.specs.VolumePages.{VolumePages}
 use Rattle.free_space.specs.declared.waiting.Waiting.{Waiting}
 use Rattle.free_space.specs.declared.waiting.PageUse.{PageUse}
 use Rattle.free_space.specs.declared.waiting.PageUse.TheVariants.{Data, Metadata}

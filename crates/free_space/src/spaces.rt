@@ -6,15 +6,14 @@ ghost use Rattle.free_space.specs.Sound.{AreSound, WasSoundVolume};
 ghost use Rattle.free_space.specs.Spaces.{no_spaces, volume_of, with_volume, change_volume, change_volumes, kept_spaces, AreTakenOn, AreFreedOn, AreGivenBackOn, IsFree, CanTake, CanTakeRun, IsHeld, missed, free_pages, waiting_pages, held_pages, IsLongestOn};
 
 use crate::volume::Volume;
-use crate::{PageUse, Waiting};
-use domain_base::limits::MAX_VOLUMES;
-use domain_base::{Home, OutOfMemory, VolIx};
+use crate::{Bitmap, PageUse, Waiting};
+use sorted_sets::limits::MAX_VOLUMES;
+use sorted_sets::{Home, OutOfMemory, VolIx};
 use std::alloc::Global;
 use std::marker::Model;
-use storage_bitmap::Bitmap;
 
 /// The free space of a domain's volumes. For each volume that is there contracts see its pages,
-/// whether it is open, its used pages, and those of them that wait; and beside all volumes how
+/// whether it is open, its used pages, and which of them wait; and, for all volumes together, how
 /// often no page was found.
 #[derive(Debug, Drop)]
 pub struct FreeSpace {
@@ -50,10 +49,10 @@ impl FreeSpace {
         Ok(FreeSpace { volumes, misses: 0 })
     }
 
-    /// Adds a volume with this bitmap of at most 1,048,576 pages, open and with no page that waits,
-    /// and keeps it so. It takes the room for each of its pages to wait, and to be taken or freed
-    /// before that is kept, 24 bytes for a page, so that no later call takes memory. Where memory
-    /// is short the bitmap comes back, and nothing changes.
+    /// Adds a volume with this bitmap of at most 1,048,576 pages, open and without waiting pages,
+    /// and keeps it that way. Takes room for each of its pages to wait, and to be taken or freed
+    /// before that is kept: 24 bytes for each page, so that no later call takes memory. If memory
+    /// runs out the bitmap is handed back and nothing changes.
     pub fn add_volume(
         &mut self,
         alloc: Global,
@@ -70,7 +69,7 @@ impl FreeSpace {
         Ok(())
     }
 
-    /// Takes this page, and says whether it was free.
+    /// Takes this page, and returns whether it was free.
     pub fn reserve(&mut self, home: Home) -> bool
         ensures answer { MatchBool result (IsFree self.old home.vol home.page) (¬ IsFree self.old
             home.vol home.page) }
@@ -83,8 +82,8 @@ impl FreeSpace {
         }
     }
 
-    /// Takes a free page of an open volume, of the preferred one if it has any. None exactly where
-    /// no open volume has one, and that is a miss.
+    /// Takes a free page of an open volume, of the preferred volume if it has one. Returns None,
+    /// and counts a miss, if and only if no open volume has one.
     pub fn allocate(&mut self, prefer: VolIx) -> Option<Home>
         ensures none { IfNone result ((vol p : ℕ) → ¬ CanTake self.old vol p) }
         ensures missed { IfNone result (self.new ≡ missed self.old) }
@@ -123,7 +122,8 @@ impl FreeSpace {
         None
     }
 
-    /// Takes a free page of this volume. None exactly where it has none, is closed or is not there.
+    /// Takes a free page of this volume. Returns None if and only if the volume has none, is closed
+    /// or is not there.
     pub fn allocate_on(&mut self, vol: VolIx) -> Option<Home>
         ensures none { IfNone result ((p : ℕ) → ¬ CanTake self.old vol p) }
         ensures unchanged { IfNone result (self.new ≡ self.old) }
@@ -138,8 +138,8 @@ impl FreeSpace {
         Some(Home { vol, page })
     }
 
-    /// Takes `count` free pages in a row of this volume, and gives the first. None exactly where it
-    /// has no such run, is closed or is not there. A run of no page takes none.
+    /// Takes `count` free pages in a row of this volume, and returns the first. Returns None if and
+    /// only if the volume has no such run, is closed or is not there. A run of no pages takes none.
     pub fn allocate_run(&mut self, vol: VolIx, count: u32) -> Option<Home>
         ensures none { IfNone result ((p : ℕ) → ¬ CanTakeRun self.old vol p count) }
         ensures unchanged { IfNone result (self.new ≡ self.old) }
@@ -180,8 +180,8 @@ impl FreeSpace {
         }
     }
 
-    /// How often `allocate` has found no page. The count stays at its last value. Beside it stands
-    /// what is always so of the volumes, for callers who need it.
+    /// How often `allocate` has found no page. The count stays at its last value. The contract also
+    /// says what always holds of the volumes, for callers who need it.
     pub fn misses(&self) -> u64
         ensures value { result ≡ self.now.misses }
         ensures sound { AreSound self.now }
@@ -189,16 +189,16 @@ impl FreeSpace {
         self.misses
     }
 
-    /// This group, and so each before it, is durable: the data pages that wait for it are free,
-    /// and that is kept, as all that has changed before.
+    /// This group is durable, and so is each group before it. The data pages that wait for them are
+    /// free, and that is kept, as is all that has changed before.
     pub fn made_durable(&mut self, group: u64)
         ensures { self.new ≡ change_volumes (with_released Data group) self.old }
     {
         self.release(PageUse::Data, group);
     }
 
-    /// The start of the log has passed this group, and so each before it: the metadata pages that
-    /// wait for it are free, and that is kept, as all that has changed before.
+    /// The start of the log has passed this group, and so each group before it. The metadata pages
+    /// that wait for them are free, and that is kept, as is all that has changed before.
     pub fn log_passed(&mut self, group: u64)
         ensures { self.new ≡ change_volumes (with_released Metadata group) self.old }
     {
@@ -215,8 +215,8 @@ impl FreeSpace {
         }
     }
 
-    /// All pages that wait are free, whatever group they wait for, and that is kept, as all that has
-    /// changed before: so it is where no log has a group that names one of them.
+    /// All pages that wait are free, whatever group they wait for, and that is kept, as is all that
+    /// has changed before. This is right when no log has a group that names one of them.
     pub fn free_waiting(&mut self)
         ensures { self.new ≡ change_volumes with_none_waiting self.old }
     {
@@ -238,10 +238,10 @@ impl FreeSpace {
         }
     }
 
-    /// Brings back what was used and what waited on each volume when that was last kept: since
-    /// then, or since the volume was added, or its waiting pages were freed. It takes no memory,
-    /// and no longer than the changes since then are many. Misses stay counted, and a volume that
-    /// was closed or activated since stays so.
+    /// Brings back what was used and what waited on each volume when it was last kept, when the
+    /// volume was added, or when its waiting pages were freed, whichever came last. Takes no
+    /// memory, and time in proportion to the changes since then. Misses stay counted, and a volume
+    /// that was closed or activated since then stays closed or active.
     pub fn take_back(&mut self)
         ensures { self.new ≡ kept_spaces self.old }
     {
@@ -252,8 +252,8 @@ impl FreeSpace {
         }
     }
 
-    /// The pages of the volume that are used and were not when that was last kept, each once; none
-    /// where the volume is not there.
+    /// The pages of the volume that are used and were not when it was last kept, each once. There
+    /// are none if the volume is not there.
     pub fn taken(&self, vol: VolIx) -> &[u32]
         ensures { AreTakenOn (volume_of self.now vol) result.now }
     {
@@ -263,8 +263,8 @@ impl FreeSpace {
         }
     }
 
-    /// The pages of the volume that are free and were used when that was last kept, each once; none
-    /// where the volume is not there. Such a page was freed at once, without waiting.
+    /// The pages of the volume that are free and were used when it was last kept, each once. There
+    /// are none if the volume is not there. Such a page was freed at once, without waiting.
     pub fn freed(&self, vol: VolIx) -> &[u32]
         ensures { AreFreedOn (volume_of self.now vol) result.now }
     {
@@ -274,9 +274,9 @@ impl FreeSpace {
         }
     }
 
-    /// The pages that have come to wait on the volume since that was last kept; none where it is
-    /// not there. A page may be taken and given back in one. Beside it stands what was so of the
-    /// volume then, for callers who need it.
+    /// The pages that have come to wait on the volume since it was last kept. There are none if it
+    /// is not there. A page may be taken and given back between two keeps. The contract also says
+    /// what held of the volume then, for callers who need it.
     pub fn given_back(&self, vol: VolIx) -> &[Waiting]
         ensures since { AreGivenBackOn (volume_of self.now vol) result.now }
         ensures sound { IfSome (volume_of self.now vol) WasSoundVolume }
@@ -309,7 +309,7 @@ impl FreeSpace {
         count
     }
 
-    /// How many used pages of the volume do not wait; 0 where it is not there.
+    /// How many used pages of the volume do not wait, or 0 if it is not there.
     pub fn used_on(&self, vol: VolIx) -> u32
         ensures { result ≡ held_pages (volume_of self.now vol) }
     {
@@ -319,7 +319,7 @@ impl FreeSpace {
         }
     }
 
-    /// The length of the longest run of free pages of the volume; 0 where it is not there.
+    /// The length of the longest run of free pages of the volume, or 0 if it is not there.
     pub fn longest_run(&self, vol: VolIx) -> u32
         ensures { IsLongestOn (volume_of self.now vol) result }
     {

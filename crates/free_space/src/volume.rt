@@ -2,20 +2,20 @@
 ghost use Rattle.std.specs.Prelude.{◌≡◌, ℕ, ◌+◌, ◌-◌, ◌^◌, ◌<◌, ◌≤◌, true, false, nat_eq, [], ◌∷◌, ◌++◌, if◌then◌else◌, length, vec_capacity, Some, IfOk, IfErr, IfSome, IfNone, MatchBool};
 ghost use Rattle.std.specs.List.{IsDistinct};
 ghost use Rattle.std.specs.FinSet.{contains, len, from_list, union, difference};
-ghost use Rattle.storage_bitmap.specs.VolumePages.{IsLongestRun};
+ghost use Rattle.free_space.specs.VolumePages.{IsLongestRun};
 ghost use Rattle.free_space.specs.VolumeSpace.{added, volume_pages, IsFreePage, AreFreePages, is_waiting, with_page, with_run, without_page, with_open, with_waiting, without_due, without_waiting, still_waiting, keeping, as_kept, with_none_waiting, with_released, is_among};
 ghost use Rattle.free_space.specs.Sound.{IsSoundVolume, WasSoundVolume, is_one, without};
 ghost use Rattle.free_space.specs.Spaces.{AreTakenOn, AreFreedOn, AreGivenBackOn};
 
-use crate::{PageUse, Waiting};
-use domain_base::OutOfMemory;
+use crate::{Bitmap, PageUse, Waiting};
+use sorted_sets::OutOfMemory;
 use std::alloc::Global;
 use std::marker::Model;
-use storage_bitmap::Bitmap;
 
-/// One volume's free space. Its bitmap counts pages that wait as used. What was used when it was
-/// last kept is told by the pages that were taken since and are used, and those that were used and
-/// are free now; which pages waited then, by their number, since more come behind them.
+/// One volume's free space. Its bitmap counts waiting pages as used. What was used when it was last
+/// kept is told by the pages that were taken since then and are used, and those that were used then
+/// and are free now. Which pages waited then is told by their number, since later ones are added
+/// after them.
 #[derive(Debug, Drop)]
 pub struct Volume {
     map: Bitmap,
@@ -99,8 +99,7 @@ fn set_each(map: &mut Bitmap, pages: &[u32])
     }
 }
 
-/// Strikes the page off the list, where it is looked for at the end first, and says whether it was
-/// there.
+/// Strikes the page off the list, searching from the end, and says whether it was there.
 fn strike(pages: &mut Vec<u32>, page: u32) -> bool
     requires { IsDistinct nat_eq pages.old.items }
     ensures found { result ≡ is_one pages.old.items page }
@@ -118,8 +117,8 @@ fn strike(pages: &mut Vec<u32>, page: u32) -> bool
     found
 }
 
-/// Notes a page that changed: where it is on the list of those that changed the other way it is as
-/// it was, and else it has changed this way.
+/// Notes a page that changed. If it is on the list of those that changed the other way, it is as it
+/// was. Otherwise it has changed this way.
 fn note(other_way: &mut Vec<u32>, this_way: &mut Vec<u32>, page: u32)
     requires once { IsDistinct nat_eq other_way.old.items }
     requires room { length this_way.old.items < vec_capacity this_way.old }
@@ -134,7 +133,7 @@ fn note(other_way: &mut Vec<u32>, this_way: &mut Vec<u32>, page: u32)
     }
 }
 
-/// The room for each of so many pages to wait, to be taken and to become free.
+/// Room for each of `pages` pages to wait, to be taken and to become free.
 fn rooms(alloc: Global, pages: usize) -> Result<(Vec<Waiting>, Vec<u32>, Vec<u32>), OutOfMemory>
     ensures empty { IfOk result (λ r. (r.0.items ≡ []) × (r.1.items ≡ []) × (r.2.items ≡ [])) }
     ensures room { IfOk result (λ r. (pages ≤ vec_capacity r.0) × (pages ≤ vec_capacity r.1)
@@ -147,9 +146,9 @@ fn rooms(alloc: Global, pages: usize) -> Result<(Vec<Waiting>, Vec<u32>, Vec<u32
 }
 
 impl Volume {
-    /// A volume with this bitmap, open and with no page that waits. It has the room for each page
-    /// to wait, and for each to be taken or freed before that is kept: 24 bytes for a page. Where
-    /// memory is short the bitmap comes back.
+    /// A volume with this bitmap, open and without waiting pages. It has room for each page to
+    /// wait, and for each to be taken or freed before that is kept: 24 bytes for each page. If
+    /// memory runs out the bitmap is handed back.
     pub fn new(alloc: Global, map: Bitmap) -> Result<Self, (Bitmap, OutOfMemory)>
         requires { map.pages ≤ 2 ^ 20 }
         ensures ok { IfOk result (λ v. v ≡ added map) }
@@ -172,8 +171,8 @@ impl Volume {
         })
     }
 
-    /// A run of free pages, after the last one that was taken if there is one. None where the
-    /// volume is closed or has no such run. Where fewer pages are free none is looked for.
+    /// A run of free pages, after the last one that was taken if there is one. Returns None if the
+    /// volume is closed or has no such run. If fewer pages are free, it does not search.
     fn find(&self, count: u32) -> Option<u32>
         ensures none { IfNone result ((p : ℕ) → self.now.is_open ≡ true
             → ¬ AreFreePages self.now p count) }
@@ -203,7 +202,7 @@ impl Volume {
         note(&mut self.freed, &mut self.taken, page);
     }
 
-    /// Takes a free page. None where the volume is closed or has none.
+    /// Takes a free page. Returns None if the volume is closed or has none.
     pub fn allocate(&mut self) -> Option<u32>
         ensures none { IfNone result ((p : ℕ) → self.old.is_open ≡ true → ¬ IsFreePage self.old p) }
         ensures unchanged { IfNone result (self.new ≡ self.old) }
@@ -217,8 +216,8 @@ impl Volume {
         Some(page)
     }
 
-    /// Takes `count` free pages in a row, and gives the first. None where the volume is closed or
-    /// has no such run.
+    /// Takes `count` free pages in a row, and gives the first. Returns None if the volume is closed
+    /// or has no such run.
     pub fn allocate_run(&mut self, count: u32) -> Option<u32>
         ensures none { IfNone result ((p : ℕ) → self.old.is_open ≡ true
             → ¬ AreFreePages self.old p count) }
@@ -236,7 +235,7 @@ impl Volume {
         Some(first)
     }
 
-    /// Takes this page, and says whether it was free.
+    /// Takes this page, and returns whether it was free.
     pub fn reserve(&mut self, page: u32) -> bool
         ensures answer { MatchBool result (IsFreePage self.old page) (¬ IsFreePage self.old page) }
         ensures taken { MatchBool result (self.new ≡ with_page page self.old) (self.new
@@ -250,7 +249,7 @@ impl Volume {
         free
     }
 
-    /// Lets the page wait for that group.
+    /// Makes the page wait for that group.
     pub fn give_back(&mut self, page: u32, kind: PageUse, group: u64)
         requires used { contains self.old.used page ≡ true }
         requires settled { is_waiting self.old page ≡ false }
@@ -285,7 +284,7 @@ impl Volume {
         self.kept_waiting = self.waiting.len();
     }
 
-    /// Brings back what was used and what waited when that was last kept.
+    /// Brings back what was used and what waited when the volume was last kept.
     pub fn take_back(&mut self)
         ensures value { self.new ≡ as_kept self.old }
         ensures sound { IsSoundVolume self.new }
@@ -297,22 +296,22 @@ impl Volume {
         self.waiting.truncate(self.kept_waiting);
     }
 
-    /// The pages that are used and were not when that was last kept, each once.
+    /// The pages that are used and were not when the volume was last kept, each once.
     pub fn taken(&self) -> &[u32]
         ensures { AreTakenOn (Some self.now) result.now }
     {
         self.taken.as_slice()
     }
 
-    /// The pages that are free and were used when that was last kept, each once.
+    /// The pages that are free and were used when the volume was last kept, each once.
     pub fn freed(&self) -> &[u32]
         ensures { AreFreedOn (Some self.now) result.now }
     {
         self.freed.as_slice()
     }
 
-    /// The pages that have come to wait since that was last kept. Beside it stands what was so of the
-    /// volume then, for callers who need it.
+    /// The pages that have come to wait since the volume was last kept. The contract also says what
+    /// held of the volume then, for callers who need it.
     pub fn given_back(&self) -> &[Waiting]
         ensures since { AreGivenBackOn (Some self.now) result.now }
         ensures sound { WasSoundVolume self.now }

@@ -1,7 +1,7 @@
 //! Pages that wait.
 ghost use Rattle.std.specs.Prelude.{◌≡◌};
 
-/// What a page was used for, which tells how long it waits after it was freed: a page of file data
+/// What a page was used for. This tells how long it waits after it was freed: a page of file data
 /// until the group that freed it is durable, a page of metadata until the log's start has passed
 /// it.
 #[derive(Clone, Copy, Debug, PartialEq, Eq)]
@@ -21,7 +21,7 @@ pub struct Waiting {
 impl Waiting {
     ghost use Rattle.free_space.specs.VolumeSpace.{same_use, is_due};
 
-    /// Whether it is of that use and waits for that group or one before it.
+    /// Whether it has that use and waits for that group or an earlier one.
     pub(crate) fn is_due(&self, kind: PageUse, group: u64) -> bool
         ensures { result ≡ is_due kind group self.now }
     {

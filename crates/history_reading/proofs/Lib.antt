@@ -2,3 +2,4 @@ pub mod LineLemmas
 mod ReplyForms
 mod ReplyRead
 mod Steps
+mod OneCommand

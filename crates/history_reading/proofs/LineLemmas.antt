@@ -3,27 +3,27 @@ use Rattle.std.proofs.Common.{◌≡◌, ◌≢◌, ℕ, ◌-◌, Bool, true, fa
 use Rattle.std.specs.List.{after_first, before_first, list_all, slice_split}
 use Rattle.std.proofs.lemmas.List.{append_assoc, take_at}
 use Rattle.std.proofs.lemmas.Option.{option_and_then_some}
-use Rattle.fileset_model.specs.declared.command.Actor.{Actor}
-use Rattle.fileset_model.specs.declared.command.Actor.TheVariants.{Client, Mover}
-use Rattle.fileset_model.specs.declared.command.Command.{Command}
-use Rattle.fileset_model.specs.declared.entry.Entry.{Entry}
+use Rattle.script_text.specs.fileset_values.declared.command.Actor.{Actor}
+use Rattle.script_text.specs.fileset_values.declared.command.Actor.TheVariants.{Client, Mover}
+use Rattle.script_text.specs.fileset_values.declared.command.Command.{Command}
+use Rattle.script_text.specs.fileset_values.declared.entry.Entry.{Entry}
 use Rattle.history_reading.specs.Entries.{IsActor, IsEntry, answer_kind, unstamped}
 use Rattle.history_reading.specs.Reading.{actor_of, entry_of, is_arrow, reply_of, said_command, said_entry}
 use Rattle.history_reading.proofs.ReplyForms.{reply_is}
 use Rattle.history_reading.proofs.ReplyRead.{reply_parts, reply_read}
-use Rattle.history_text.specs.History.{line_of, reply_text}
-use Rattle.command_text.specs.Commands.{Words, verb_of}
-use Rattle.command_text.specs.Texts.{actor_text, command_text}
-use Rattle.command_text.specs.WellFormed.{IsWellFormed, Says}
-use Rattle.command_text.proofs.CommandForms.{command_is, other_read}
-use Rattle.command_text.proofs.CommandLemmas.{printed_says}
-use Rattle.word_forms.specs.declared.fault.WordFault.{WordFault}
-use Rattle.word_forms.specs.declared.fault.WordFault.TheVariants.{Malformed, OutOfMemory}
-use Rattle.word_forms.specs.Forms.{number_within}
-use Rattle.word_forms.specs.Read.{Fails}
-use Rattle.word_forms.proofs.Cuts.{after_at, before_at, cut_two, lacks, uncut}
-use Rattle.word_forms.proofs.NumbersRead.{number_lacks, within_read}
-use Rattle.word_forms.proofs.ReadForms.{map_some, some_same, within_is}
+use Rattle.script_text.specs.History.{line_of, reply_text}
+use Rattle.script_text.specs.command_text.Commands.{Words, verb_of}
+use Rattle.script_text.specs.command_text.Texts.{actor_text, command_text}
+use Rattle.script_text.specs.command_text.WellFormed.{IsWellFormed, Says}
+use Rattle.script_text.proofs.OfCommandText.CommandForms.{command_is, other_read}
+use Rattle.script_text.proofs.OfCommandText.CommandLemmas.{printed_says}
+use Rattle.script_text.specs.word_forms.declared.fault.WordFault.{WordFault}
+use Rattle.script_text.specs.word_forms.declared.fault.WordFault.TheVariants.{Malformed, OutOfMemory}
+use Rattle.script_text.specs.word_forms.Forms.{number_within}
+use Rattle.script_text.specs.word_forms.Read.{Fails}
+use Rattle.script_text.proofs.OfWordForms.Cuts.{after_at, before_at, cut_two, lacks, uncut}
+use Rattle.script_text.proofs.OfWordForms.NumbersRead.{number_lacks, within_read}
+use Rattle.script_text.proofs.OfWordForms.ReadForms.{map_some, some_same, within_is}
 
 -- ** What a line was read as
 

@@ -5,22 +5,22 @@ use Rattle.std.specs.Str.{bytes_eq}
 use Rattle.std.proofs.lemmas.Bool.Decides.{nat_tests}
 use Rattle.std.proofs.lemmas.List.Elements.{All-cons, All-nil}
 use Rattle.std.proofs.lemmas.Option.{option_and_then_some}
-use Rattle.fileset_model.specs.declared.reply.ExtentItem.{ExtentItem}
-use Rattle.fileset_model.specs.declared.reply.FilesetItem.{FilesetItem}
-use Rattle.fileset_model.specs.declared.reply.NameItem.{NameItem}
-use Rattle.fileset_model.specs.declared.reply.Refusal.{Refusal}
-use Rattle.fileset_model.specs.declared.reply.Refusal.TheVariants as refusal
-use Rattle.fileset_model.specs.declared.reply.Reply.{Reply}
-use Rattle.fileset_model.specs.declared.reply.Reply.TheVariants as reply
-use Rattle.fileset_model.specs.declared.reply.VolumeItem.{VolumeItem}
+use Rattle.script_text.specs.fileset_values.declared.reply.ExtentItem.{ExtentItem}
+use Rattle.script_text.specs.fileset_values.declared.reply.FilesetItem.{FilesetItem}
+use Rattle.script_text.specs.fileset_values.declared.reply.NameItem.{NameItem}
+use Rattle.script_text.specs.fileset_values.declared.reply.Refusal.{Refusal}
+use Rattle.script_text.specs.fileset_values.declared.reply.Refusal.TheVariants as refusal
+use Rattle.script_text.specs.fileset_values.declared.reply.Reply.{Reply}
+use Rattle.script_text.specs.fileset_values.declared.reply.Reply.TheVariants as reply
+use Rattle.script_text.specs.fileset_values.declared.reply.VolumeItem.{VolumeItem}
 use Rattle.history_reading.specs.declared.kind.AnswerKind.{AnswerKind}
 use Rattle.history_reading.specs.declared.kind.AnswerKind.TheVariants as kind
 use Rattle.history_reading.specs.Entries.{IsExtentItem, IsFilesetItem, IsNameItem, IsReadable, IsRefusal, IsReply, IsVolumeItem}
 use Rattle.history_reading.specs.Reading.{answer_of, extent_item_of, field_of, fileset_item_of, filled, name_item_of, no_room, no_space, original_of, quota_blocks, quota_files, quota_of, read_of, refusal_at, refusal_of, reply_of, stat_of, volume_item_of, volume_of}
-use Rattle.command_text.specs.Commands.{Words, no_word, one_word}
-use Rattle.word_forms.specs.Forms.{bytes_of, each, fileset_of, name_of, number_below}
-use Rattle.word_forms.specs.WellFormed.{IsFileset, IsLarge, IsSmall}
-use Rattle.word_forms.proofs.ReadForms.{below_is, content_is, fileset_is, map_some, name_is, some_same}
+use Rattle.script_text.specs.command_text.Commands.{Words, no_word, one_word}
+use Rattle.script_text.specs.word_forms.Forms.{bytes_of, each, fileset_of, name_of, number_below}
+use Rattle.script_text.specs.word_forms.WellFormed.{IsFileset, IsLarge, IsSmall}
+use Rattle.script_text.proofs.OfWordForms.ReadForms.{below_is, content_is, fileset_is, map_some, name_is, some_same}
 
 each_all : {A B : Type 0} (f : A → Option B) (P : B → Type 0) → ((x : A) (y : B) → f x ≡ Some y → P y)
     → (xs : List A) (ys : List B) → each f xs ≡ Some ys → All P ys

@@ -7,30 +7,30 @@ use Rattle.std.proofs.lemmas.List.{append_assoc, append-nil}
 use Rattle.std.proofs.lemmas.List.Elements.{All-head, All-tail}
 use Rattle.std.proofs.lemmas.List.Folds.{list_all-append}
 use Rattle.std.proofs.lemmas.Slice.Eq.{bytes_eq-Decides}
-use Rattle.fileset_model.specs.declared.reply.ExtentItem.{ExtentItem}
-use Rattle.fileset_model.specs.declared.reply.FilesetItem.{FilesetItem}
-use Rattle.fileset_model.specs.declared.reply.NameItem.{NameItem}
-use Rattle.fileset_model.specs.declared.reply.Refusal.{Refusal}
-use Rattle.fileset_model.specs.declared.reply.Refusal.TheVariants as refusal
-use Rattle.fileset_model.specs.declared.reply.Reply.{Reply}
-use Rattle.fileset_model.specs.declared.reply.Reply.TheVariants as reply
-use Rattle.fileset_model.specs.declared.reply.VolumeItem.{VolumeItem}
+use Rattle.script_text.specs.fileset_values.declared.reply.ExtentItem.{ExtentItem}
+use Rattle.script_text.specs.fileset_values.declared.reply.FilesetItem.{FilesetItem}
+use Rattle.script_text.specs.fileset_values.declared.reply.NameItem.{NameItem}
+use Rattle.script_text.specs.fileset_values.declared.reply.Refusal.{Refusal}
+use Rattle.script_text.specs.fileset_values.declared.reply.Refusal.TheVariants as refusal
+use Rattle.script_text.specs.fileset_values.declared.reply.Reply.{Reply}
+use Rattle.script_text.specs.fileset_values.declared.reply.Reply.TheVariants as reply
+use Rattle.script_text.specs.fileset_values.declared.reply.VolumeItem.{VolumeItem}
 use Rattle.history_reading.specs.declared.kind.AnswerKind.{AnswerKind}
 use Rattle.history_reading.specs.declared.kind.AnswerKind.TheVariants as kind
 use Rattle.history_reading.specs.Entries.{IsExtentItem, IsFilesetItem, IsNameItem, IsReadable, IsRefusal, IsReply, IsVolumeItem}
 use Rattle.history_reading.specs.Reading.{answer_of, extent_item_of, field_of, fileset_item_of, filled, name_item_of, no_room, no_space, original_of, quota_blocks, quota_files, quota_of, read_of, refusal_at, refusal_of, reply_of, stat_of, volume_item_of, volume_of}
-use Rattle.history_text.specs.History.{extent_item_text, field_text, fileset_item_text, flag_text, logged_text, name_item_text, refusal_fields, refusal_name, refusal_number, refusal_text, reply_text, reply_words, volume_item_text}
-use Rattle.command_text.specs.Commands.{Words}
-use Rattle.word_forms.specs.Forms.{bytes_of, each, has_length, number_below, run_of, runs_of_word}
-use Rattle.word_forms.specs.Runs.{bytes_text}
-use Rattle.word_forms.specs.Texts.{behind_spaces, name_text}
-use Rattle.word_forms.specs.WellFormed.{is_written_name}
-use Rattle.word_forms.proofs.ContentRead.{content_lacks, content_read}
-use Rattle.word_forms.proofs.Cuts.{after, all_before, before, both, no, cut_joined, cut_parts, lacks, lacks-list_any, list_any-mid}
-use Rattle.word_forms.proofs.Joined.{join_with_byte-cons}
-use Rattle.word_forms.proofs.NamesRead.{name_lacks, name_read}
-use Rattle.word_forms.proofs.NumbersRead.{large_read, number_lacks, number_lacks_past, number_read, small_read}
-use Rattle.word_forms.proofs.PlacesRead.{fileset_lacks, fileset_read, mark_lacks}
+use Rattle.script_text.specs.History.{extent_item_text, field_text, fileset_item_text, flag_text, logged_text, name_item_text, refusal_fields, refusal_name, refusal_number, refusal_text, reply_text, reply_words, volume_item_text}
+use Rattle.script_text.specs.command_text.Commands.{Words}
+use Rattle.script_text.specs.word_forms.Forms.{bytes_of, each, has_length, number_below, run_of, runs_of_word}
+use Rattle.script_text.specs.word_forms.Runs.{bytes_text}
+use Rattle.script_text.specs.word_forms.Texts.{behind_spaces, name_text}
+use Rattle.script_text.specs.word_forms.WellFormed.{is_written_name}
+use Rattle.script_text.proofs.OfWordForms.ContentRead.{content_lacks, content_read}
+use Rattle.script_text.proofs.OfWordForms.Cuts.{after, all_before, before, both, no, cut_joined, cut_parts, lacks, lacks-list_any, list_any-mid}
+use Rattle.script_text.proofs.OfWordForms.Joined.{join_with_byte-cons}
+use Rattle.script_text.proofs.OfWordForms.NamesRead.{name_lacks, name_read}
+use Rattle.script_text.proofs.OfWordForms.NumbersRead.{large_read, number_lacks, number_lacks_past, number_read, small_read}
+use Rattle.script_text.proofs.OfWordForms.PlacesRead.{fileset_lacks, fileset_read, mark_lacks}
 
 each_read : {A : Type 0} (f : List ℕ → Option A) (text : A → List ℕ) (P : A → Type 0) → ((x : A) → P x → f (text x) ≡ Some x)
     → (xs : List A) → All P xs → each f (map text xs) ≡ Some xs

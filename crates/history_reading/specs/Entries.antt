@@ -1,23 +1,23 @@
 -- The entries whose lines are read back.
 use Rattle.std.specs.Prelude.{◌≡◌, ◌≢◌, ℕ, ◌≤◌, true, All, MatchOption, List, length}
-use Rattle.fileset_model.specs.declared.command.Actor.{Actor}
-use Rattle.fileset_model.specs.declared.command.Actor.TheVariants.{Client, Mover}
-use Rattle.fileset_model.specs.declared.command.Command.{Command}
-use Rattle.fileset_model.specs.declared.command.Command.TheVariants as command
-use Rattle.fileset_model.specs.declared.entry.Entry.{Entry}
-use Rattle.fileset_model.specs.declared.reply.ExtentItem.{ExtentItem}
-use Rattle.fileset_model.specs.declared.reply.FilesetItem.{FilesetItem}
-use Rattle.fileset_model.specs.declared.reply.NameItem.{NameItem}
-use Rattle.fileset_model.specs.declared.reply.Refusal.{Refusal}
-use Rattle.fileset_model.specs.declared.reply.Refusal.TheVariants as refusal
-use Rattle.fileset_model.specs.declared.reply.Reply.{Reply}
-use Rattle.fileset_model.specs.declared.reply.Reply.TheVariants as reply
-use Rattle.fileset_model.specs.declared.reply.VolumeItem.{VolumeItem}
+use Rattle.script_text.specs.fileset_values.declared.command.Actor.{Actor}
+use Rattle.script_text.specs.fileset_values.declared.command.Actor.TheVariants.{Client, Mover}
+use Rattle.script_text.specs.fileset_values.declared.command.Command.{Command}
+use Rattle.script_text.specs.fileset_values.declared.command.Command.TheVariants as command
+use Rattle.script_text.specs.fileset_values.declared.entry.Entry.{Entry}
+use Rattle.script_text.specs.fileset_values.declared.reply.ExtentItem.{ExtentItem}
+use Rattle.script_text.specs.fileset_values.declared.reply.FilesetItem.{FilesetItem}
+use Rattle.script_text.specs.fileset_values.declared.reply.NameItem.{NameItem}
+use Rattle.script_text.specs.fileset_values.declared.reply.Refusal.{Refusal}
+use Rattle.script_text.specs.fileset_values.declared.reply.Refusal.TheVariants as refusal
+use Rattle.script_text.specs.fileset_values.declared.reply.Reply.{Reply}
+use Rattle.script_text.specs.fileset_values.declared.reply.Reply.TheVariants as reply
+use Rattle.script_text.specs.fileset_values.declared.reply.VolumeItem.{VolumeItem}
 use Rattle.history_reading.specs.declared.kind.AnswerKind.{AnswerKind}
 use Rattle.history_reading.specs.declared.kind.AnswerKind.TheVariants as kind
-use Rattle.history_text.specs.History.{line_of}
-use Rattle.command_text.specs.WellFormed.{IsWellFormed}
-use Rattle.word_forms.specs.WellFormed.{AreBytes, IsFileset, IsLarge, IsSmall, is_written_name}
+use Rattle.script_text.specs.History.{line_of}
+use Rattle.script_text.specs.command_text.WellFormed.{IsWellFormed}
+use Rattle.script_text.specs.word_forms.WellFormed.{AreBytes, IsFileset, IsLarge, IsSmall, is_written_name}
 use Rattle.script_text.specs.declared.fault.FaultKind.TheVariants.{WordForm}
 use Rattle.script_text.specs.declared.script.ScriptFault.{ScriptFault}
 use Rattle.script_text.specs.declared.script.ScriptFault.TheVariants as fault

@@ -3,24 +3,24 @@
 use Rattle.std.specs.Prelude.{ℕ, ◌-◌, ◌^◌, Bool, ◌==◌, if◌then◌else◌, Option, Some, None, option_map, find, List, [], ◌∷◌, length, take, codes}
 use Rattle.std.specs.List.{after_first, before_first, list_any, slice_split}
 use Rattle.std.specs.Str.{bytes_eq}
-use Rattle.fileset_model.specs.declared.command.Actor.{Actor}
-use Rattle.fileset_model.specs.declared.command.Actor.TheVariants.{Client, Mover}
-use Rattle.fileset_model.specs.declared.command.Command.{Command}
-use Rattle.fileset_model.specs.declared.entry.Entry.{Entry}
-use Rattle.fileset_model.specs.declared.reply.ExtentItem.{ExtentItem}
-use Rattle.fileset_model.specs.declared.reply.FilesetItem.{FilesetItem}
-use Rattle.fileset_model.specs.declared.reply.NameItem.{NameItem}
-use Rattle.fileset_model.specs.declared.reply.Refusal.{Refusal}
-use Rattle.fileset_model.specs.declared.reply.Refusal.TheVariants as refusal
-use Rattle.fileset_model.specs.declared.reply.Reply.{Reply}
-use Rattle.fileset_model.specs.declared.reply.Reply.TheVariants as reply
-use Rattle.fileset_model.specs.declared.reply.VolumeItem.{VolumeItem}
+use Rattle.script_text.specs.fileset_values.declared.command.Actor.{Actor}
+use Rattle.script_text.specs.fileset_values.declared.command.Actor.TheVariants.{Client, Mover}
+use Rattle.script_text.specs.fileset_values.declared.command.Command.{Command}
+use Rattle.script_text.specs.fileset_values.declared.entry.Entry.{Entry}
+use Rattle.script_text.specs.fileset_values.declared.reply.ExtentItem.{ExtentItem}
+use Rattle.script_text.specs.fileset_values.declared.reply.FilesetItem.{FilesetItem}
+use Rattle.script_text.specs.fileset_values.declared.reply.NameItem.{NameItem}
+use Rattle.script_text.specs.fileset_values.declared.reply.Refusal.{Refusal}
+use Rattle.script_text.specs.fileset_values.declared.reply.Refusal.TheVariants as refusal
+use Rattle.script_text.specs.fileset_values.declared.reply.Reply.{Reply}
+use Rattle.script_text.specs.fileset_values.declared.reply.Reply.TheVariants as reply
+use Rattle.script_text.specs.fileset_values.declared.reply.VolumeItem.{VolumeItem}
 use Rattle.history_reading.specs.declared.kind.AnswerKind.{AnswerKind}
 use Rattle.history_reading.specs.declared.kind.AnswerKind.TheVariants as kind
 use Rattle.history_reading.specs.Entries.{answer_kind}
-use Rattle.history_text.specs.History.{refusal_number}
-use Rattle.command_text.specs.Commands.{Words, command_of, no_word, one_word, verb_of}
-use Rattle.word_forms.specs.Forms.{◌>>=◌, bytes_of, each, fileset_of, name_of, number_below, number_within}
+use Rattle.script_text.specs.History.{refusal_number}
+use Rattle.script_text.specs.command_text.Commands.{Words, command_of, no_word, one_word, verb_of}
+use Rattle.script_text.specs.word_forms.Forms.{◌>>=◌, bytes_of, each, fileset_of, name_of, number_below, number_within}
 
 -- ** Rows of listings
 

@@ -2,16 +2,16 @@
 ghost use Rattle.std.specs.Prelude.{◌≡◌, codes, map};
 ghost use Rattle.std.specs.Str.{bytes_eq};
 ghost use Rattle.history_reading.specs.Reading.{answer_of, quota_of, read_of, reply_of, stat_of};
-ghost use Rattle.word_forms.specs.Read.{Gives};
+ghost use Rattle.script_text.specs.word_forms.Read.{Gives};
 
 use crate::items::{extent_item, fileset_item, name_item, volume_item};
 use crate::kind::AnswerKind;
 use crate::refusals::refusal;
-use fileset_model::{Bytes, Listing, Reply};
+use script_text::from_word_forms::bytes;
+use script_text::{Bytes, Listing, Reply, WordFault, number, small_number};
 use std::alloc::Global;
-use word_forms::{WordFault, bytes, number, small_number};
 
-/// The answer that has nothing to tell.
+/// The answer that tells nothing.
 fn done(words: &[&[u8]]) -> Result<Reply, WordFault>
     ensures { Gives result (answer_of AnswerKind.Done (map (λ word. word.now) words.now)) }
 {
@@ -136,7 +136,7 @@ fn quota(words: &[&[u8]]) -> Option<Reply>
     })
 }
 
-/// The answer of this kind that the words behind `ok` say.
+/// The answer of this kind that the words after `ok` say.
 fn answer(alloc: Global, kind: AnswerKind, words: &[&[u8]]) -> Result<Reply, WordFault>
     ensures { Gives result (answer_of kind (map (λ word. word.now) words.now)) }
 {

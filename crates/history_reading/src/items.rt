@@ -1,13 +1,16 @@
 //! The rows of listings, each a word.
 ghost use Rattle.std.specs.Prelude.{◌≡◌, map};
 ghost use Rattle.history_reading.specs.Reading.{extent_item_of, fileset_item_of, name_item_of, original_of, volume_item_of, volume_of};
-ghost use Rattle.word_forms.specs.Read.{Gives};
+ghost use Rattle.script_text.specs.word_forms.Read.{Gives};
 
-use fileset_model::{ExtentItem, FilesetItem, FilesetName, NameItem, VolumeItem};
+use script_text::from_word_forms::name;
+use script_text::{
+    ExtentItem, FilesetItem, FilesetName, NameItem, VolumeItem, WordFault, fileset, halves,
+    has_byte, parts, small_number,
+};
 use std::alloc::Global;
-use word_forms::{WordFault, fileset, halves, has_byte, name, parts, small_number};
 
-/// A name, before a `/` where it is a directory's.
+/// A name, followed by a `/` if it is a directory's.
 #[tactic(auto, unfolding(crate::specs::Reading::name_item_of))]
 pub fn name_item(alloc: Global, word: &[u8]) -> Result<NameItem, WordFault>
     ensures { Gives result (name_item_of word.now) }
@@ -19,7 +22,7 @@ pub fn name_item(alloc: Global, word: &[u8]) -> Result<NameItem, WordFault>
     })
 }
 
-/// The original of a clone, behind a `<`.
+/// The original of a clone, after a `<`.
 #[tactic(auto, unfolding(crate::specs::Reading::original_of))]
 fn original(alloc: Global, word: &[u8]) -> Result<Option<FilesetName>, WordFault>
     ensures { Gives result (original_of word.now) }
@@ -31,7 +34,7 @@ fn original(alloc: Global, word: &[u8]) -> Result<Option<FilesetName>, WordFault
     Ok(Some(name))
 }
 
-/// A fileset, before its original where it is a clone.
+/// A fileset, followed by its original if it is a clone.
 #[tactic(auto, unfolding(crate::specs::Reading::fileset_item_of))]
 pub fn fileset_item(alloc: Global, word: &[u8]) -> Result<FilesetItem, WordFault>
     ensures { Gives result (fileset_item_of word.now) }
@@ -67,8 +70,8 @@ pub fn volume_item(alloc: Global, word: &[u8]) -> Result<VolumeItem, WordFault>
     volume(words.as_slice()).ok_or(WordFault::Malformed)
 }
 
-/// A page and how many there are behind a `+`, and behind an `@` the volume and, behind a `:`, its
-/// page.
+/// A page, after a `+` the number of pages, after an `@` the volume, and after a `:` the page of
+/// that volume.
 #[tactic(auto, unfolding(crate::specs::Reading::extent_item_of))]
 pub fn extent_item(word: &[u8]) -> Option<ExtentItem>
     ensures { result ≡ extent_item_of word.now }

@@ -1,9 +1,9 @@
 ghost use Rattle.std.specs.Prelude.{◌≡◌};
 ghost use Rattle.history_reading.specs.Entries.{answer_kind};
 
-use fileset_model::Command;
+use script_text::from_fileset_values::Command;
 
-/// What a command answers that is not refused.
+/// The kind of reply that a command gives if it is not refused.
 #[derive(Clone, Copy, Debug, PartialEq, Eq)]
 pub enum AnswerKind {
     /// Nothing but that it is done.
@@ -25,7 +25,7 @@ pub enum AnswerKind {
     Extents,
 }
 
-/// What this command answers where it is not refused.
+/// The kind of reply that this command gives if it is not refused.
 pub fn answer_kind(command: &Command) -> AnswerKind
     ensures { result ≡ answer_kind command.now }
 {

@@ -1,25 +1,25 @@
 //! Lines, read back.
 ghost use Rattle.std.specs.Prelude.{◌≡◌, ◌≢◌, ◌↔◌, ◌-◌, ◌≤◌, not, Err, IfOk, IfErr, IsTrue, length, map, take};
 ghost use Rattle.std.specs.List.{after_first, before_first, prefix_len};
-ghost use Rattle.fileset_model.specs.declared.entry.Entry.{Entry as EntryOf};
+ghost use Rattle.script_text.specs.fileset_values.declared.entry.Entry.{Entry as EntryOf};
 ghost use Rattle.history_reading.specs.Entries.{IsEntry, IsNoLine};
 ghost use Rattle.history_reading.specs.Reading.{actor_of, entry_of, is_arrow, said_command, said_entry};
-ghost use Rattle.history_text.specs.History.{line_of};
-ghost use Rattle.word_forms.specs.Read.{Gives};
+ghost use Rattle.script_text.specs.History.{line_of};
+ghost use Rattle.script_text.specs.word_forms.Read.{Gives};
 
 use crate::answers::reply;
 use crate::kind::answer_kind;
-use command_text::{command, known_verb};
-use fileset_model::{Actor, Command, Entry};
-use history_text::history_line;
-use script_text::{FaultKind, ScriptFault};
+use script_text::from_fileset_values::Command;
+use script_text::{
+    Actor, Entry, FaultKind, ScriptFault, WordFault, command, history_line, known_verb,
+    number_within, parts,
+};
 use std::alloc::Global;
-use word_forms::{WordFault, number_within, parts};
 
 /// Words of a line.
 type Words<'a, 'b> = &'a [&'b [u8]];
 
-/// A client by its number behind a byte, or the mover by an `m`.
+/// A client by its number after a byte, or the mover by an `m`.
 #[tactic(auto, unfolding(crate::specs::Reading::actor_of))]
 fn actor(word: &[u8]) -> Option<Actor>
     ensures { result ≡ actor_of word.now }
@@ -34,7 +34,7 @@ fn actor(word: &[u8]) -> Option<Actor>
     Some(Actor::Client(number as u8))
 }
 
-/// The command that a first word and the words behind it say.
+/// The command that a first word and the words after it say.
 #[tactic(auto, unfolding(crate::specs::Reading::said_command))]
 fn said_command(alloc: Global, first: &[u8], words: &[&[u8]]) -> Result<Command, WordFault>
     ensures { Gives result (said_command first.now (map (λ word. word.now) words.now)) }
@@ -43,7 +43,7 @@ fn said_command(alloc: Global, first: &[u8], words: &[&[u8]]) -> Result<Command,
     command(alloc, verb, words)
 }
 
-/// The entry that the words before `->` and those behind it say.
+/// The entry that the words before `->` and those after it say.
 #[tactic(auto, unfolding(crate::specs::Reading::said_entry))]
 fn said_entry(alloc: Global, words: &[&[u8]], after: &[&[u8]]) -> Result<Entry, WordFault>
     ensures { Gives result
@@ -83,7 +83,7 @@ fn arrow_at(words: &[&[u8]]) -> usize
     words.len()
 }
 
-/// The words before the first `->`, and those behind it.
+/// The words before the first `->`, and those after it.
 fn split_at_arrow<'a, 'b>(words: Words<'a, 'b>) -> (Words<'a, 'b>, Words<'a, 'b>)
     ensures front { map (λ word. word.now) result.0.now
         ≡ before_first is_arrow (map (λ word. word.now) words.now) }
@@ -124,7 +124,7 @@ fn is_same(written: &[u8], line: &[u8]) -> bool
     written == line
 }
 
-/// The entry, where this is its line.
+/// The entry, if this is its line.
 fn confirmed(alloc: Global, entry: Entry, line: &[u8]) -> Result<Entry, WordFault>
     ensures ok { IfOk result (λ same. (same ≡ entry) × (line_of entry ≡ line.now)) }
     ensures malformed { result ≡ Err WordFault.Malformed → line_of entry ≢ line.now }
@@ -149,8 +149,8 @@ fn entry_with(alloc: Global, line: &[u8]) -> Result<Entry, WordFault>
 }
 
 /// Reads the line that a history has for an entry, with its newline: who gave the command, the
-/// command, ` -> ` and the reply. It has to be spelled exactly as a history writes it. The stamp is
-/// not written: the entry has stamp 0.
+/// command, ` -> ` and the reply. It must be spelled exactly as a history writes it. The stamp is
+/// not written, so the entry has stamp 0.
 pub fn read_line(alloc: Global, line: &[u8]) -> Result<Entry, ScriptFault>
     ensures read { IfOk result
         (λ entry. IsEntry entry × (entry.stamp ≡ 0) × (line_of entry ≡ line.now)) }

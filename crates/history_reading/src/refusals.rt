@@ -1,13 +1,11 @@
 //! Refusals, read back.
 ghost use Rattle.std.specs.Prelude.{◌≡◌, ◌^◌, map};
-ghost use Rattle.command_text.specs.Commands.{no_word, one_word};
+ghost use Rattle.script_text.specs.command_text.Commands.{no_word, one_word};
 ghost use Rattle.history_reading.specs.Reading.{field_of, filled, no_room, no_space, quota_blocks, quota_files, refusal_at, refusal_of};
 
-use fileset_model::Refusal;
-use history_text::refusal_number;
-use word_forms::{halves, number, small_number};
+use script_text::{Refusal, halves, number, refusal_number, small_number};
 
-/// One of each, its numbers zero.
+/// One of each refusal, with zeros for its numbers.
 const ALL: [Refusal; 29] = [
     Refusal::NoFileset,
     Refusal::FilesetExists,
@@ -44,7 +42,7 @@ const ALL: [Refusal; 29] = [
     Refusal::Striped,
 ];
 
-/// The refusal that has the number, its own numbers zero.
+/// The refusal that has the number, with zeros for its own numbers.
 fn refusal_at(number: u64) -> Option<Refusal>
     ensures { result ≡ refusal_at number }
 {
@@ -56,7 +54,7 @@ fn refusal_at(number: u64) -> Option<Refusal>
     None
 }
 
-/// The number that a field has behind its `=`.
+/// The number that a field has after its `=`.
 #[tactic(auto, unfolding(crate::specs::Reading::field_of))]
 fn field(word: &[u8]) -> Option<u64>
     ensures { result ≡ field_of (2 ^ 64) word.now }
@@ -64,7 +62,7 @@ fn field(word: &[u8]) -> Option<u64>
     number(halves(word, b'=').1)
 }
 
-/// The same of a volume.
+/// The number of a volume that a field has after its `=`.
 #[tactic(auto, unfolding(crate::specs::Reading::field_of))]
 fn volume_field(word: &[u8]) -> Option<u32>
     ensures { result ≡ field_of (2 ^ 32) word.now }
@@ -125,7 +123,7 @@ fn no_room(fields: &[&[u8]]) -> Option<Refusal>
     })
 }
 
-/// The number that an only field has.
+/// The number in the only field.
 fn one_field(fields: &[&[u8]]) -> Option<u64>
     ensures { result ≡ one_word (field_of (2 ^ 64)) (map (λ word. word.now) fields.now) }
 {
@@ -135,7 +133,7 @@ fn one_field(fields: &[&[u8]]) -> Option<u64>
     field(only)
 }
 
-/// The volume that an only field has.
+/// The volume in the only field.
 fn one_volume(fields: &[&[u8]]) -> Option<u32>
     ensures { result ≡ one_word (field_of (2 ^ 32)) (map (λ word. word.now) fields.now) }
 {
@@ -166,7 +164,7 @@ fn unsettled(fields: &[&[u8]]) -> Option<Refusal>
     Some(Refusal::Unsettled { moved })
 }
 
-/// The refusal, where it has no fields.
+/// The refusal, if it has no fields.
 fn alone(refusal: Refusal, fields: &[&[u8]]) -> Option<Refusal>
     ensures { result ≡ no_word refusal (map (λ word. word.now) fields.now) }
 {
@@ -193,7 +191,7 @@ fn filled(refusal: Refusal, fields: &[&[u8]]) -> Option<Refusal>
     }
 }
 
-/// The refusal that these words say: `E` and its number, and behind them its name and its fields.
+/// The refusal that these words say: `E` and its number, then its name and its fields.
 #[tactic(auto, unfolding(crate::specs::Reading::refusal_of))]
 pub fn refusal(first: &[u8], words: &[&[u8]]) -> Option<Refusal>
     ensures { result ≡ refusal_of first.now (map (λ word. word.now) words.now) }

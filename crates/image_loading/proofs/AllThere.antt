@@ -1,36 +1,36 @@
 -- Where the pages of tables, indexes and directories are there, each page is at which the rules look.
 use Rattle.std.proofs.Common.{◌≡◌, ◌∙◌, inl, inr, ℕ, ◌<◌, true, false, List, Option, Some, None, IsSome, IsSomeAnd, refl, sym, ap, subst, arith, ⊎_elim}
-use Rattle.domain_base.specs.declared.place.CellAt.{CellAt}
-use Rattle.domain_base.specs.declared.place.Home.{Home}
-use Rattle.page_store.specs.Pages.{Pages}
-use Rattle.bmt_mcells.specs.Chain.{PlacedCell}
-use Rattle.fileset_table.specs.Page.{IsTablePage}
-use Rattle.fileset_table.specs.Table.{Table}
-use Rattle.filesets_reading.specs.Tables.{AreTablesOf}
-use Rattle.filesets_reading.specs.declared.tables.DomainTables.{DomainTables}
-use Rattle.layout_laws.specs.Alike.{AgreeOnCells}
-use Rattle.layout_laws.proofs.CellsAlike.{turned_cells, used_alike}
-use Rattle.layout_laws.proofs.OnePage.{one_of}
-use Rattle.domain_layout.specs.DirectoryRules.{Has, HasIndexAt}
-use Rattle.domain_layout.specs.Faults.{HasNoTablesFault, IsTableFault, SaysTable}
-use Rattle.domain_layout.specs.Layout.{IsLayout, Layout}
-use Rattle.domain_layout.specs.Owners.{frame_of}
-use Rattle.domain_layout.specs.Reached.{Frame, IsWithin, cells_way, index_way, tags_way}
-use Rattle.domain_layout.specs.TagRules.{HasTags}
-use Rattle.domain_loading.specs.Tables.{HasTables}
-use Rattle.metadata_loading.specs.Looks.{IsLookedAt, IsOfBitmap, IsOfDirectory, IsOfFiles, IsOfIndex, IsOfTables}
-use Rattle.metadata_loading.proofs.Files.{has_alike}
-use Rattle.metadata_loading.proofs.Owned.{AreTables, layout_alike}
-use Rattle.metadata_loading.proofs.TablesAgree.{AgreeOnTables, no_tables_alike, says_alike, table_fault_alike, turned_tables}
-use Rattle.home_sets.specs.Members.{IsIn}
-use Rattle.home_sets.specs.declared.set.HomeSet.{HomeSet}
-use Rattle.index_loading.specs.Indexes.{HasIndexes}
-use Rattle.member_laws.specs.Within.{IsInside}
-use Rattle.metadata_loading.specs.Loading.{HasCells, HasTagPages, HasWhereRulesLook}
-use Rattle.metadata_loading.proofs.Walking.{page_stays, way_stays}
-use Rattle.table_faults.specs.Read.{IsTableRead}
-use Rattle.table_faults.specs.declared.reading.TableRead.{TableRead}
-use Rattle.table_faults.specs.declared.reading.TableRead.TheVariants.{There, Unnamed, Wrong}
+use Rattle.slot_files.specs.domain_base.declared.place.CellAt.{CellAt}
+use Rattle.slot_files.specs.domain_base.declared.place.Home.{Home}
+use Rattle.slot_files.specs.page_store.Pages.{Pages}
+use Rattle.slot_files.specs.metadata_cells.Chain.{PlacedCell}
+use Rattle.slot_files.specs.fileset_table.Page.{IsTablePage}
+use Rattle.slot_files.specs.fileset_table.Table.{Table}
+use Rattle.slot_files.specs.filesets_reading.Tables.{AreTablesOf}
+use Rattle.slot_files.specs.filesets_reading.declared.tables.DomainTables.{DomainTables}
+use Rattle.slot_files.specs.domain_layout.Alike.{AgreeOnCells}
+use Rattle.slot_files.proofs.OfDomainLayout.CellsAlike.{turned_cells, used_alike}
+use Rattle.slot_files.proofs.OfDomainLayout.OnePage.{one_of}
+use Rattle.slot_files.specs.domain_layout.DirectoryRules.{Has, HasIndexAt}
+use Rattle.slot_files.specs.domain_layout.Faults.{HasNoTablesFault, IsTableFault, SaysTable}
+use Rattle.slot_files.specs.domain_layout.Layout.{IsLayout, Layout}
+use Rattle.slot_files.specs.domain_layout.Owners.{frame_of}
+use Rattle.slot_files.specs.domain_layout.Reached.{Frame, IsWithin, cells_way, index_way, tags_way}
+use Rattle.slot_files.specs.domain_layout.TagRules.{HasTags}
+use Rattle.image_loading.specs.Tables.{HasTables}
+use Rattle.slot_files.specs.domain_layout.Looks.{IsLookedAt, IsOfBitmap, IsOfDirectory, IsOfFiles, IsOfIndex, IsOfTables}
+use Rattle.slot_files.proofs.OfDomainLayout.Files.{has_alike}
+use Rattle.slot_files.proofs.OfDomainLayout.Owned.{AreTables, layout_alike}
+use Rattle.slot_files.proofs.OfDomainLayout.TablesAgree.{AgreeOnTables, no_tables_alike, says_alike, table_fault_alike, turned_tables}
+use Rattle.slot_files.specs.sorted_sets.Members.{IsIn}
+use Rattle.slot_files.specs.sorted_sets.declared.home_set.HomeSet.{HomeSet}
+use Rattle.image_loading.specs.Indexes.{HasIndexes}
+use Rattle.slot_files.specs.fileset_shapes.Within.{IsInside}
+use Rattle.image_loading.specs.Loading.{HasCells, HasTagPages, HasWhereRulesLook}
+use Rattle.image_loading.proofs.Walking.{page_stays, way_stays}
+use Rattle.slot_files.specs.cell_faults.Read.{IsTableRead}
+use Rattle.slot_files.specs.cell_faults.declared.reading.TableRead.{TableRead}
+use Rattle.slot_files.specs.cell_faults.declared.reading.TableRead.TheVariants.{There, Unnamed, Wrong}
 use Rattle.image_loading.specs.Loaded.{BringsFiles, HoldsDirectories, IsLaidOut}
 use Rattle.image_loading.proofs.NoneBroken.{one_table}
 

@@ -1,5 +1,9 @@
+pub mod Brought
+pub mod Image
+pub mod PagesRead
+pub mod Walking
+pub mod TablesThere
+pub mod Named
 pub mod Listed
 pub mod NoneBroken
 pub mod AllThere
-pub use Rattle.index_loading.proofs.FilesFound
-pub use Rattle.index_loading.proofs.OneMaps

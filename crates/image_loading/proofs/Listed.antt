@@ -3,13 +3,13 @@ use Rattle.std.proofs.Common.{◌≡◌, ◌∙◌, ℕ, ◌+◌, ◌<◌, ◌�
 use Rattle.std.specs.Option.{option_and_then}
 use Rattle.std.proofs.lemmas.Bool.{cases_lt}
 use Rattle.std.proofs.lemmas.Option.{slice_get_read, slice_get_within}
-use Rattle.domain_base.specs.declared.place.Home.{Home}
-use Rattle.layout_laws.proofs.OnePage.{some_same}
-use Rattle.filesets_reading.specs.Seen.{home_in}
-use Rattle.home_sets.specs.Members.{IsIn, entries}
-use Rattle.home_sets.specs.declared.set.HomeSet.{HomeSet}
-use Rattle.home_sets.proofs.Placed.{placed}
-use Rattle.numbered_values.specs.Homes.{number_of}
+use Rattle.slot_files.specs.domain_base.declared.place.Home.{Home}
+use Rattle.slot_files.proofs.OfDomainLayout.OnePage.{some_same}
+use Rattle.slot_files.specs.filesets_reading.Seen.{home_in}
+use Rattle.slot_files.specs.sorted_sets.Members.{IsIn, entries}
+use Rattle.slot_files.specs.sorted_sets.declared.home_set.HomeSet.{HomeSet}
+use Rattle.slot_files.proofs.OfSortedSets.Placed.{placed}
+use Rattle.slot_files.specs.sorted_sets.Homes.{number_of}
 
 -- it holds of those in front of a place
 abbrev pub HoldBelow : {X : Type 0} → ℕ → List X → (X → Type 0) → Type 0

@@ -1,22 +1,22 @@
 -- Whether a rule of tables is broken, by the homes at which one is.
 use Rattle.std.proofs.Common.{◌≡◌, ◌∙◌, ◌↔◌, inl, inr, ℕ, Bool, true, false, not, ◌&&◌, List, [], ◌∷◌, length, nat_eq, Some, None, IsTrue, IsSomeAnd, refl, sym, ap, subst, arith, if◌then◌else◌, ⊎_elim}
 use Rattle.std.proofs.lemmas.Bool.{eq-eqb, ne_eqb}
-use Rattle.domain_base.specs.declared.place.Home.{Home}
-use Rattle.page_store.specs.Pages.{Pages}
-use Rattle.fileset_table.specs.Page.{IsTablePage}
-use Rattle.fileset_table.specs.Table.{Table}
-use Rattle.fileset_table.proofs.Unique.{table_unique}
-use Rattle.layout_laws.proofs.OnePage.{one_of, some_same}
-use Rattle.domain_layout.specs.CellRules.{IsCellsFault}
-use Rattle.domain_layout.specs.Faults.{HasNoTablesFault, IsTablesFault, FaultRow, SaysTable}
-use Rattle.domain_layout.specs.Reached.{Frame}
-use Rattle.domain_layout.specs.TagRules.{IsTagsFault}
-use Rattle.numbered_values.specs.Homes.{number_of}
-use Rattle.numbered_values.specs.Rising.{value_at}
-use Rattle.home_sets.specs.Members.{IsIn, entries}
-use Rattle.home_sets.specs.Order.{AreNumbered}
-use Rattle.home_sets.specs.declared.set.HomeSet.{HomeSet}
-use Rattle.table_faults.specs.Read.{IsWholeTable}
+use Rattle.slot_files.specs.domain_base.declared.place.Home.{Home}
+use Rattle.slot_files.specs.page_store.Pages.{Pages}
+use Rattle.slot_files.specs.fileset_table.Page.{IsTablePage}
+use Rattle.slot_files.specs.fileset_table.Table.{Table}
+use Rattle.slot_files.proofs.OfFilesetTable.Unique.{table_unique}
+use Rattle.slot_files.proofs.OfDomainLayout.OnePage.{one_of, some_same}
+use Rattle.slot_files.specs.domain_layout.CellRules.{IsCellsFault}
+use Rattle.slot_files.specs.domain_layout.Faults.{HasNoTablesFault, IsTablesFault, FaultRow, SaysTable}
+use Rattle.slot_files.specs.domain_layout.Reached.{Frame}
+use Rattle.slot_files.specs.domain_layout.TagRules.{IsTagsFault}
+use Rattle.slot_files.specs.sorted_sets.Homes.{number_of}
+use Rattle.slot_files.specs.sorted_sets.Rising.{value_at}
+use Rattle.slot_files.specs.sorted_sets.Members.{IsIn, entries}
+use Rattle.slot_files.specs.sorted_sets.Order.{AreNumbered}
+use Rattle.slot_files.specs.sorted_sets.declared.home_set.HomeSet.{HomeSet}
+use Rattle.slot_files.specs.cell_faults.Read.{IsWholeTable}
 
 -- two tables that pages say are one
 pub one_table : (pages : Pages) (frame : Frame) (a b : Table) → SaysTable pages frame a → SaysTable pages frame b → a ≡ b

@@ -1,3 +1,14 @@
+pub mod Loading
+pub mod Rows
+pub mod Tables
+pub mod Indexes
 pub mod Loaded
-pub use Rattle.index_loading.specs.Files
-pub use Rattle.member_laws.specs.Within
+pub use Rattle.slot_files.specs.cell_faults
+pub use Rattle.slot_files.specs.disk_label
+pub use Rattle.slot_files.specs.domain_base
+pub use Rattle.slot_files.specs.fileset_table
+pub use Rattle.slot_files.specs.log_ring
+pub use Rattle.slot_files.specs.metadata_cells
+pub use Rattle.slot_files.specs.page_store
+pub use Rattle.slot_files.specs.page_ways
+pub use Rattle.slot_files.specs.volume_disk

@@ -1,20 +1,20 @@
 -- Pages at which the rules of files look are there.
 use Rattle.std.specs.Prelude.{◌≡◌, ℕ, List, Some, IsSome}
-use Rattle.domain_base.specs.declared.place.Home.{Home}
-use Rattle.domain_base.specs.declared.place.Kind.TheVariants.{Directory}
-use Rattle.domain_base.specs.declared.place.Tag.{Tag}
-use Rattle.page_store.specs.Pages.{Pages}
-use Rattle.bmt_mcells.specs.Chain.{PlacedCell}
-use Rattle.fileset_table.specs.Table.{Table}
-use Rattle.domain_layout.specs.DirectoryRules.{Has}
-use Rattle.domain_layout.specs.Layout.{IsLayout, Layout}
-use Rattle.domain_layout.specs.Owners.{frame_of}
-use Rattle.domain_layout.specs.Reached.{Frame, IsWithin}
-use Rattle.domain_layout.specs.Seen.{SeenFile}
-use Rattle.metadata_loading.specs.Looks.{IsOfDirectory}
-use Rattle.home_sets.specs.Members.{IsIn}
-use Rattle.home_sets.specs.declared.set.HomeSet.{HomeSet}
-use Rattle.index_loading.specs.Indexes.{HasIndexes}
+use Rattle.slot_files.specs.domain_base.declared.place.Home.{Home}
+use Rattle.slot_files.specs.domain_base.declared.place.Kind.TheVariants.{Directory}
+use Rattle.slot_files.specs.domain_base.declared.place.Tag.{Tag}
+use Rattle.slot_files.specs.page_store.Pages.{Pages}
+use Rattle.slot_files.specs.metadata_cells.Chain.{PlacedCell}
+use Rattle.slot_files.specs.fileset_table.Table.{Table}
+use Rattle.slot_files.specs.domain_layout.DirectoryRules.{Has}
+use Rattle.slot_files.specs.domain_layout.Layout.{IsLayout, Layout}
+use Rattle.slot_files.specs.domain_layout.Owners.{frame_of}
+use Rattle.slot_files.specs.domain_layout.Reached.{Frame, IsWithin}
+use Rattle.slot_files.specs.domain_layout.Seen.{SeenFile}
+use Rattle.slot_files.specs.domain_layout.Looks.{IsOfDirectory}
+use Rattle.slot_files.specs.sorted_sets.Members.{IsIn}
+use Rattle.slot_files.specs.sorted_sets.declared.home_set.HomeSet.{HomeSet}
+use Rattle.image_loading.specs.Indexes.{HasIndexes}
 
 -- what was in a set is in it still
 abbrev pub Grows : HomeSet → HomeSet → Type 0

@@ -1,35 +1,29 @@
-//! All pages at which the rules look.
+//! Bringing all pages at which the rules look.
 ghost use Rattle.std.specs.Prelude.{◌≡◌, List, OnOk};
-ghost use Rattle.domain_layout.specs.Faults.{HasNoTablesFault};
-ghost use Rattle.domain_loading.specs.Tables.{HasTables};
-ghost use Rattle.metadata_loading.specs.Looks.{AgreeWhereRulesLook};
-ghost use Rattle.filesets_reading.specs.Good.{IsNamed};
+ghost use Rattle.slot_files.specs.domain_layout.Faults.{HasNoTablesFault};
+ghost use Rattle.image_loading.specs.Tables.{HasTables};
+ghost use Rattle.slot_files.specs.domain_layout.Looks.{AgreeWhereRulesLook};
+ghost use Rattle.slot_files.specs.filesets_reading.Good.{IsNamed};
 ghost use Rattle.image_loading.specs.Loaded.{BringsFiles};
-ghost use Rattle.log_ring.specs.Groups.{Group, redone};
-ghost use Rattle.log_ring.specs.Homes.{HasMembers};
-ghost use Rattle.member_laws.specs.Within.{IsInside};
-ghost use Rattle.metadata_loading.specs.Loading.{AreImagesOf, Brings, HasCells, HasWhereRulesLook, NamesCause};
-ghost use Rattle.page_ways.specs.Frame.{frame_in};
-ghost use Rattle.table_faults.specs.Read.{IsTableRead, IsWholeTable};
-ghost use Rattle.volume_disk.specs.Disk.{Tells};
+ghost use Rattle.slot_files.specs.log_ring.Groups.{Group, redone};
+ghost use Rattle.slot_files.specs.log_ring.Homes.{HasMembers};
+ghost use Rattle.slot_files.specs.fileset_shapes.Within.{IsInside};
+ghost use Rattle.image_loading.specs.Loading.{AreImagesOf, Brings, HasCells, HasWhereRulesLook, NamesCause};
+ghost use Rattle.slot_files.specs.page_ways.Frame.{frame_in};
+ghost use Rattle.slot_files.specs.cell_faults.Read.{IsTableRead, IsWholeTable};
+ghost use Rattle.slot_files.specs.volume_disk.Disk.{Tells};
 
 use crate::broken::has_tables_fault;
 use crate::directories::directory_homes;
 use crate::homes::load_homes;
-use cell_faults::read_tables as read_cells;
-use chain_faults::read_links;
-use domain_loading::load_tables;
-use fileset_table::FilesetTable;
-use filesets_reading::read_tables;
-use index_loading::load_indexes;
-use metadata_loading::LoadFault;
-use page_store::MetaPages;
-use page_ways::DomainFrame;
+use crate::{LoadFault, load_indexes, load_tables};
+use slot_files::from_filesets_reading::read_tables;
+use slot_files::{
+    DomainFrame, FilesetTable, MetaPages, Rack, TableRead, read_links, read_tables as read_cells,
+};
 use std::alloc::Global;
-use table_faults::TableRead;
-use volume_disk::Rack;
 
-/// Brings the pages of indexes and directories, where no rule of tables is broken.
+/// Brings the pages of indexes and directories, if no rule of tables is broken.
 fn load_files<R: Rack, M: MetaPages>(
     alloc: Global,
     rack: &mut R,
@@ -55,9 +49,9 @@ fn load_files<R: Rack, M: MetaPages>(
     load_homes(alloc, rack, frame, &homes, pages)
 }
 
-/// The same by the table that the page of the fileset table says: nothing is brought where a rule
-/// of tables is broken.
-#[tactic(auto, using(metadata_loading::proofs::Brought::brings_none))]
+/// Brings the pages of indexes and directories, by the table that the page of the fileset table
+/// says. Nothing is brought if a rule of tables is broken.
+#[tactic(auto, using(crate::proofs::Brought::brings_none))]
 fn load_said<R: Rack, M: MetaPages>(
     alloc: Global,
     rack: &mut R,
@@ -83,8 +77,8 @@ fn load_said<R: Rack, M: MetaPages>(
     load_files(alloc, rack, frame, pages)
 }
 
-/// The same by what was read of the page of the fileset table.
-#[tactic(auto, using(metadata_loading::proofs::Brought::brings_none))]
+/// Brings the pages of indexes and directories, by what was read of the page of the fileset table.
+#[tactic(auto, using(crate::proofs::Brought::brings_none))]
 fn load_behind<R: Rack, M: MetaPages>(
     alloc: Global,
     rack: &mut R,
@@ -109,12 +103,12 @@ fn load_behind<R: Rack, M: MetaPages>(
     }
 }
 
-/// Brings each page at which the rules of a domain look and that is not there yet: that of the
-/// fileset table, those of bitmaps, cells and tag directories, and where these break no rule those
-/// of indexes and directories. Where the table and the bitmaps stand on pages of members, and the
-/// pages that were there are the images of groups of a log, the pages then agree wherever the rules
-/// look with the rack's contents once the log is redone, and so have the same faults. A fault names
-/// the volume of which a read failed. After an error some of the pages may have been brought.
+/// Brings each page at which the rules of a domain look and that is not there yet: the page of the
+/// fileset table, those of bitmaps, cells and tag directories, and if these break no rule, those of
+/// indexes and directories. If the table and the bitmaps stand on pages of members, and the pages
+/// that were there are the images of groups of a log, then wherever the rules look the pages agree
+/// with the rack's contents once the log is redone, and so have the same faults. A fault names the
+/// volume whose read failed. After an error some of the pages may have been brought.
 pub fn load<R: Rack, M: MetaPages>(
     alloc: Global,
     rack: &mut R,

@@ -1,19 +1,15 @@
 //! Whether a rule of tables is broken.
 ghost use Rattle.std.specs.Prelude.{◌≡◌, ◌↔◌, IfOk, IsTrue, false};
-ghost use Rattle.domain_base.specs.declared.place.Home.{Home};
-ghost use Rattle.domain_layout.specs.Faults.{HasNoTablesFault};
-ghost use Rattle.home_sets.specs.Members.{IsIn};
-ghost use Rattle.page_ways.specs.Frame.{frame_in};
-ghost use Rattle.table_faults.specs.Read.{IsWholeTable};
+ghost use Rattle.slot_files.specs.domain_base.declared.place.Home.{Home};
+ghost use Rattle.slot_files.specs.domain_layout.Faults.{HasNoTablesFault};
+ghost use Rattle.slot_files.specs.sorted_sets.Members.{IsIn};
+ghost use Rattle.slot_files.specs.page_ways.Frame.{frame_in};
+ghost use Rattle.slot_files.specs.cell_faults.Read.{IsWholeTable};
 
-use chain_faults::cells_faults;
-use domain_base::OutOfMemory;
-use fileset_table::FilesetTable;
-use home_sets::HomeSet;
-use page_store::MetaPages;
-use page_ways::DomainFrame;
+use slot_files::{
+    DomainFrame, FilesetTable, HomeSet, MetaPages, OutOfMemory, cells_faults, tags_faults,
+};
 use std::alloc::Global;
-use tag_faults::tags_faults;
 
 /// Whether no home is in a set.
 fn is_empty(set: &HomeSet) -> bool
@@ -22,7 +18,7 @@ fn is_empty(set: &HomeSet) -> bool
     set.as_slice().is_empty()
 }
 
-/// Whether a rule of cells or of tags is broken, where the page of the fileset table says this one.
+/// Whether a rule of cells or of tags is broken, if the page of the fileset table says this table.
 pub(crate) fn has_tables_fault<M: MetaPages>(
     alloc: Global,
     pages: &M,

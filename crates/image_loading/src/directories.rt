@@ -1,20 +1,17 @@
 //! The homes of the pages of directories.
 ghost use Rattle.std.specs.Prelude.{◌≡◌, ℕ, IfOk, OnOk, Some};
-ghost use Rattle.domain_base.specs.declared.place.Home.{Home as HomeOf};
-ghost use Rattle.domain_layout.specs.Faults.{HasNoTablesFault};
-ghost use Rattle.filesets_reading.specs.Seen.{home_in};
-ghost use Rattle.filesets_reading.specs.Tables.{AreTablesOf};
-ghost use Rattle.home_sets.specs.Members.{IsIn};
+ghost use Rattle.slot_files.specs.domain_base.declared.place.Home.{Home as HomeOf};
+ghost use Rattle.slot_files.specs.domain_layout.Faults.{HasNoTablesFault};
+ghost use Rattle.slot_files.specs.filesets_reading.Seen.{home_in};
+ghost use Rattle.slot_files.specs.filesets_reading.Tables.{AreTablesOf};
+ghost use Rattle.slot_files.specs.sorted_sets.Members.{IsIn};
 ghost use Rattle.image_loading.specs.Loaded.{Grows, HoldsDirectories};
-ghost use Rattle.page_ways.specs.Frame.{frame_in};
+ghost use Rattle.slot_files.specs.page_ways.Frame.{frame_in};
 
-use domain_base::{FilesetNo, Home, OutOfMemory};
-use filesets_reading::DomainTables;
-use home_sets::HomeSet;
-use page_store::MetaPages;
-use page_ways::DomainFrame;
-use row_faults::FileThere;
-use slot_files::read_slot_files;
+use slot_files::{
+    DomainFrame, DomainTables, FileThere, FilesetNo, Home, HomeSet, MetaPages, OutOfMemory,
+    read_slot_files,
+};
 use std::alloc::Global;
 
 /// Puts the home of a page into a set, if it has one.
@@ -28,7 +25,7 @@ fn insert_place(place: &Option<Home>, found: &mut HomeSet) -> Result<(), OutOfMe
     }
 }
 
-/// Puts the homes of the pages into a set that were read of a directory.
+/// Puts into a set the homes of the pages that were read of a directory.
 fn insert_pages(file: &FileThere, found: &mut HomeSet) -> Result<(), OutOfMemory>
     ensures grows { OnOk result (Grows found.old found.new) }
     ensures pages { OnOk result ((page : ℕ) (home : HomeOf)
@@ -40,8 +37,8 @@ fn insert_pages(file: &FileThere, found: &mut HomeSet) -> Result<(), OutOfMemory
     Ok(())
 }
 
-/// Puts the homes of the pages of all directories into a set that the fileset in a slot has, as far
-/// as these are a member's.
+/// Puts into a set the homes of the pages of all directories of the fileset in a slot, as far as
+/// these are a member's.
 fn insert_slot<M: MetaPages>(
     alloc: Global,
     pages: &M,

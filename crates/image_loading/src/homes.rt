@@ -1,18 +1,15 @@
-//! The pages at the homes of a set that are brought.
+//! Bringing the pages at the homes of a set.
 ghost use Rattle.std.specs.Prelude.{◌≡◌, IsSome, OnOk};
-ghost use Rattle.domain_base.specs.declared.place.Home.{Home};
-ghost use Rattle.domain_layout.specs.Reached.{IsWithin};
-ghost use Rattle.home_sets.specs.Members.{IsIn};
-ghost use Rattle.log_ring.specs.Homes.{HasMembers};
-ghost use Rattle.metadata_loading.specs.Loading.{Brings, NamesCause};
-ghost use Rattle.page_ways.specs.Frame.{frame_in};
+ghost use Rattle.slot_files.specs.domain_base.declared.place.Home.{Home};
+ghost use Rattle.slot_files.specs.domain_layout.Reached.{IsWithin};
+ghost use Rattle.slot_files.specs.sorted_sets.Members.{IsIn};
+ghost use Rattle.slot_files.specs.log_ring.Homes.{HasMembers};
+ghost use Rattle.image_loading.specs.Loading.{Brings, NamesCause};
+ghost use Rattle.slot_files.specs.page_ways.Frame.{frame_in};
 
-use home_sets::HomeSet;
-use metadata_loading::{LoadFault, fetch_within};
-use page_store::MetaPages;
-use page_ways::DomainFrame;
+use crate::{LoadFault, fetch_within};
+use slot_files::{DomainFrame, HomeSet, MetaPages, Rack};
 use std::alloc::Global;
-use volume_disk::Rack;
 
 /// Brings the pages at the homes of a set, as far as they are a member's.
 pub(crate) fn load_homes<R: Rack, M: MetaPages>(

@@ -1,9 +1,9 @@
 -- Which volumes of an anchor a rack has.
 use Rattle.std.specs.Prelude.{◌≤◌, ℕ, List, length}
-use Rattle.domain_base.specs.Limits.{max_volume_pages_4}
-use Rattle.disk_label.specs.declared.anchor.Anchor.{Anchor}
-use Rattle.log_ring.specs.Homes.{member_of}
-use Rattle.volume_disk.specs.Disk.{volume_pages}
+use Rattle.domain_attaching.specs.domain_base.Limits.{max_volume_pages_4}
+use Rattle.domain_attaching.specs.disk_label.declared.anchor.Anchor.{Anchor}
+use Rattle.domain_attaching.specs.log_ring.Homes.{member_of}
+use Rattle.domain_attaching.specs.volume_disk.Disk.{volume_pages}
 
 -- a volume is no member, or one of a rack with its pages
 abbrev pub HasMember : List ℕ → Anchor → ℕ → Type 0

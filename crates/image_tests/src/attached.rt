@@ -2,11 +2,7 @@
 use crate::image::Image;
 use crate::rack::rack_of;
 use crate::whole::Whole;
-use domain_attaching::{attach, bring_memory};
-use domain_base::{Version, VolIx};
-use domain_memory::DomainMemory;
-use domain_parts::SlotFiles;
-use fileset_model::Owner;
+use domain_attaching::{DomainMemory, Owner, SlotFiles, Version, VolIx, attach, bring_memory};
 use std::alloc::Global;
 use std::test::Fail;
 

@@ -2,8 +2,7 @@
 //! faults that it then has, by their codes and pages.
 use crate::image::Image;
 use crate::whole::Whole;
-use domain_base::Version;
-use domain_faults::{FaultRow, faults};
+use domain_attaching::{FaultRow, Version, faults};
 use std::alloc::Global;
 use std::test::Fail;
 

@@ -1,9 +1,9 @@
 //! Images that stand on a rack: of the pages alone at which the rules look, which are brought from
 //! it, the same faults are told as of all pages.
 ghost use Rattle.std.specs.Prelude.{IsTrue};
-ghost use Rattle.attached_list.specs.Good.{IsNamed};
+ghost use Rattle.domain_attaching.specs.filesets_reading.Good.{IsNamed};
 ghost use Rattle.image_tests.specs.Members.{HasMember};
-ghost use Rattle.log_ring.specs.Homes.{HasMembers};
+ghost use Rattle.domain_attaching.specs.log_ring.Homes.{HasMembers};
 
 use crate::broken::{
     BITS, Broken, CELL_PAGES, CELLS, EXTENTS, INDEX_PAGES, INDEXES, NAMED, PLACES, ROWS, TABLES,
@@ -12,16 +12,10 @@ use crate::broken::{
 use crate::image::Image;
 use crate::rack::rack_of;
 use crate::whole::Whole;
-use disk_label::Anchor;
-use domain_base::limits::{MAX_VOLUME_PAGES_4, MAX_VOLUMES};
-use domain_base::{Version, VolIx};
-use domain_faults::faults;
-use image_loading::load;
-use memory_store::MemoryPages;
-use page_ways::DomainFrame;
+use domain_attaching::limits::{MAX_VOLUME_PAGES_4, MAX_VOLUMES};
+use domain_attaching::{Anchor, DomainFrame, MemoryPages, Rack, Version, VolIx, faults, load};
 use std::alloc::Global;
 use std::test::Fail;
-use volume_disk::Rack;
 
 /// Whether a rack has a volume with the pages of a member, if it is one.
 fn has_member<R: Rack>(rack: &R, anchor: &Anchor, vol: VolIx) -> bool

@@ -1,16 +1,14 @@
 //! Domains that are brought from racks whole: they have the filesets of their images, and of each
 //! file its pages; or they are none, from the first page on at which a rule is broken.
 ghost use Rattle.std.specs.Prelude.{List, ℕ};
-ghost use Rattle.domain_bringing.specs.Brought.{IsBrought};
+ghost use Rattle.domain_attaching.specs.domain_bringing.Brought.{IsBrought};
 
 use crate::image::Image;
 use crate::meant::{FILES_TOLD, FOUR, Meant, THREE};
 use crate::rack::rack_of;
 use crate::told::tell;
 use crate::whole::Whole;
-use domain_base::Version;
-use domain_bringing::{BringFault, Brought, bring_domain};
-use filesets_filled::read_filesets;
+use domain_attaching::{BringFault, Brought, Version, bring_domain, read_filesets};
 use memory_disk::MemoryRack;
 use std::alloc::Global;
 use std::test::Fail;

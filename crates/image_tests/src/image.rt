@@ -2,11 +2,8 @@
 //! are zeros. A page of volume 1 is told by its number, one of another volume by the volume and a
 //! colon in front of it; a cell by its page, a dot and its number there.
 use crate::records::push_record;
-use disk_label::{Anchor, Member};
-use domain_base::{Home, Page, Version, VolIx};
+use domain_attaching::{Anchor, Home, Member, MemoryPages, MetaPages, Page, Version, VolIx};
 use hex::decode;
-use memory_store::MemoryPages;
-use page_store::MetaPages;
 use std::alloc::Global;
 use std::str::Split;
 use std::test::Fail;

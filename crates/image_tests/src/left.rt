@@ -2,15 +2,12 @@
 //! quota cells what is being removed names.
 use crate::image::Image;
 use crate::whole::Whole;
-use attached_list::{has_quotas_to_go, has_readers, read_list};
-use cell_faults::read_tables;
-use cell_links::CellLinks;
-use chain_faults::read_links;
-use domain_base::{CellAt, Version, VolIx};
-use page_ways::DomainFrame;
+use domain_attaching::{
+    CellAt, CellLinks, DomainFrame, TableRead, Version, VolIx, has_quotas_to_go, has_readers,
+    read_links, read_list, read_table, read_tables,
+};
 use std::alloc::Global;
 use std::test::Fail;
-use table_faults::{TableRead, read_table};
 
 /// By what the pages of an image are read.
 fn frame_of(image: &Image) -> DomainFrame {

@@ -4,8 +4,7 @@ use crate::image::Image;
 use crate::rack::rack_of;
 use crate::told::tell;
 use crate::whole::Whole;
-use domain_base::Version;
-use image_meaning::{Meaning, read_image};
+use domain_attaching::{Meaning, Version, read_image};
 use std::alloc::Global;
 use std::test::Fail;
 

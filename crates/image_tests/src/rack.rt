@@ -1,13 +1,10 @@
 //! Racks in memory on which an image stands: with the labels of its members, its anchor behind an
 //! open gate, and the gates of the log as the image has them.
 use crate::image::Image;
-use disk_label::Anchor;
-use domain_base::{Home, Version, VolIx};
+use domain_attaching::{Anchor, Home, MetaPages, Rack, Version, VolIx, write_blocks};
 use memory_disk::MemoryRack;
-use page_store::MetaPages;
 use std::alloc::Global;
 use std::test::Fail;
-use volume_disk::{Rack, write_blocks};
 
 /// The blocks of a page.
 const PAGE_BLOCKS: u32 = 16;

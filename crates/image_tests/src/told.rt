@@ -1,6 +1,6 @@
 //! Filesets as text: a line for each fileset, and below it one for each of its paths.
-use domain_base::limits::PAGE_BYTES;
-use fileset_model::{FilesetSlot, Filesets, Limits, Name, Node, Owner, PageMap, Path, Role};
+use domain_attaching::limits::PAGE_BYTES;
+use domain_attaching::{FilesetSlot, Filesets, Limits, Name, Node, Owner, PageMap, Path, Role};
 use std::alloc::Global;
 use std::test::Fail;
 

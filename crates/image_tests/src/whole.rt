@@ -1,6 +1,6 @@
 //! Images without a fault.
 use crate::broken::told_otherwise;
-use domain_base::Version;
+use domain_attaching::Version;
 use std::test::Fail;
 
 /// An image without a fault, by what is in it.

@@ -1,13 +1,10 @@
 //! A domain of version 4 on one volume of 512 pages: its cells stand on page 3, pages 4 to 131 are
 //! the log's, and its fileset table stands at page 132. Cells name indexes.
-use bmt_mcells::empty_page;
-use disk_label::{Anchor, Member};
-use domain_base::{Home, OutOfMemory, Page, Version, VolIx};
 use hex::decode;
-use home_sets::HomeSet;
-use memory_store::MemoryPages;
-use page_store::MetaPages;
-use page_ways::DomainFrame;
+use index_row_faults::{
+    Anchor, DomainFrame, Home, HomeSet, Member, MemoryPages, MetaPages, OutOfMemory, Page, Version,
+    VolIx, empty_page,
+};
 use std::alloc::Global;
 use std::test::Fail;
 

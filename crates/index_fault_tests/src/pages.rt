@@ -1,6 +1,6 @@
 //! What is asked of the pages of every index.
 use crate::fixture::{Row, frame, pages_in, pages_of};
-use index_faults::index_page_faults;
+use index_row_faults::index_page_faults;
 use std::alloc::Global;
 use std::test::Fail;
 

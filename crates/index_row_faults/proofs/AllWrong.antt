@@ -2,16 +2,16 @@
 use Rattle.std.proofs.Common.{◌≡◌, ◌∙◌, ◌⊎◌, ◌↔◌, inl, inr, ℕ, List, Contains, sym, subst, ⊎_elim}
 use Rattle.std.specs.BTreeMap.{BTreeMap}
 use Rattle.std.specs.Prelude.{Vec}
-use Rattle.domain_base.specs.declared.place.Home.{Home}
-use Rattle.domain_base.specs.declared.place.Tag.{Tag}
-use Rattle.page_store.specs.Pages.{Pages}
-use Rattle.fileset_table.specs.Table.{Table}
-use Rattle.domain_layout.specs.DirectoryRules.{IsWrongIndex, IsWrongTotal}
-use Rattle.domain_layout.specs.Reached.{Frame}
-use Rattle.row_faults.specs.Rows.{AreRowsIn}
-use Rattle.row_faults.specs.There.{AreFilesIn}
-use Rattle.row_faults.specs.declared.rows.RowThere.{RowThere}
-use Rattle.row_faults.specs.declared.there.FileThere.{FileThere}
+use Rattle.page_faults.specs.domain_base.declared.place.Home.{Home}
+use Rattle.page_faults.specs.domain_base.declared.place.Tag.{Tag}
+use Rattle.page_faults.specs.page_store.Pages.{Pages}
+use Rattle.page_faults.specs.fileset_table.Table.{Table}
+use Rattle.page_faults.specs.domain_layout.DirectoryRules.{IsWrongIndex, IsWrongTotal}
+use Rattle.page_faults.specs.domain_layout.Reached.{Frame}
+use Rattle.directory_faults.specs.Rows.{AreRowsIn}
+use Rattle.directory_faults.specs.There.{AreFilesIn}
+use Rattle.directory_faults.specs.declared.rows.RowThere.{RowThere}
+use Rattle.directory_faults.specs.declared.there.FileThere.{FileThere}
 use Rattle.index_row_faults.specs.Keys.{AreKeys, keys_in}
 use Rattle.index_row_faults.specs.There.{AreIndexesIn, WasReadIndex}
 use Rattle.index_row_faults.specs.Totals.{IsIndexRead, IsWrongBy}

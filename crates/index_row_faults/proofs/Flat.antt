@@ -3,12 +3,12 @@ use Rattle.std.proofs.Common.{◌≡◌, ◌∙◌, ◌⊎◌, ◌↔◌, inl, i
 use Rattle.std.specs.Prelude.{unwrap_or}
 use Rattle.std.specs.List.{flat_map}
 use Rattle.std.proofs.lemmas.Option.{slice_get_within}
-use Rattle.domain_base.specs.declared.place.Home.{Home}
-use Rattle.page_store.specs.Pages.{Pages}
-use Rattle.dir_index.specs.declared.entry.IndexEntry.{IndexEntry}
-use Rattle.domain_layout.specs.DirectoryRules.{AreReadPages, entries_in}
-use Rattle.domain_layout.specs.Reached.{Frame, IsRead, index_way}
-use Rattle.page_ways.specs.Walk.{AreRead}
+use Rattle.page_faults.specs.domain_base.declared.place.Home.{Home}
+use Rattle.page_faults.specs.page_store.Pages.{Pages}
+use Rattle.page_faults.specs.directory_pages.declared.entry.IndexEntry.{IndexEntry}
+use Rattle.page_faults.specs.domain_layout.DirectoryRules.{AreReadPages, entries_in}
+use Rattle.page_faults.specs.domain_layout.Reached.{Frame, IsRead, index_way}
+use Rattle.page_faults.specs.page_ways.Walk.{AreRead}
 use Rattle.index_row_faults.specs.Entries.{entries_at, entries_on, page_at, placed}
 use Rattle.index_row_faults.specs.declared.entries.EntryAt.{EntryAt}
 

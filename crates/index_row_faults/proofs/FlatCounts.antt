@@ -2,11 +2,11 @@
 use Rattle.std.proofs.Common.{◌≡◌, ◌∙◌, ◌+◌, ◌==◌, ◌&&◌, ℕ, Bool, true, false, cond, List, [], ◌∷◌, ◌++◌, length, map, refl, sym, ap, arith, suc}
 use Rattle.std.specs.List.{count_by, filter, flat_map}
 use Rattle.std.proofs.lemmas.List.Sums.{length-filter}
-use Rattle.domain_base.specs.declared.place.Home.{Home}
-use Rattle.page_store.specs.Pages.{Pages}
-use Rattle.dir_index.specs.declared.entry.IndexEntry.{IndexEntry}
-use Rattle.dir_rows.specs.Directory.{count_entries}
-use Rattle.domain_layout.specs.DirectoryRules.{entries_in}
+use Rattle.page_faults.specs.domain_base.declared.place.Home.{Home}
+use Rattle.page_faults.specs.page_store.Pages.{Pages}
+use Rattle.page_faults.specs.directory_pages.declared.entry.IndexEntry.{IndexEntry}
+use Rattle.page_faults.specs.directory_rows.Directory.{count_entries}
+use Rattle.page_faults.specs.domain_layout.DirectoryRules.{entries_in}
 use Rattle.index_row_faults.specs.Counts.{is_key}
 use Rattle.index_row_faults.specs.Entries.{entries_at, entries_on, page_at, placed}
 use Rattle.index_row_faults.specs.Totals.{key_of}

@@ -1,10 +1,10 @@
 -- Wrong indexes slot by slot.
 use Rattle.std.proofs.Common.{◌↔◌, ℕ}
-use Rattle.domain_base.specs.declared.place.Home.{Home}
-use Rattle.page_store.specs.Pages.{Pages}
-use Rattle.fileset_table.specs.Table.{Table}
-use Rattle.domain_layout.specs.DirectoryRules.{IsWrongIndexOf}
-use Rattle.domain_layout.specs.Reached.{Frame}
+use Rattle.page_faults.specs.domain_base.declared.place.Home.{Home}
+use Rattle.page_faults.specs.page_store.Pages.{Pages}
+use Rattle.page_faults.specs.fileset_table.Table.{Table}
+use Rattle.page_faults.specs.domain_layout.DirectoryRules.{IsWrongIndexOf}
+use Rattle.page_faults.specs.domain_layout.Reached.{Frame}
 use Rattle.index_row_faults.specs.Wrong.{HasWrongIndex}
 
 pub by_slot : (pages : Pages) (frame : Frame) (table : Table) (home : Home) → IsWrongIndexOf pages frame table home ↔ ((number : ℕ) × HasWrongIndex pages frame table number home)

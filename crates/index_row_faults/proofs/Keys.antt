@@ -7,7 +7,7 @@ use Rattle.std.specs.Ordering.{nat_cmp, ordering_then}
 use Rattle.std.specs.declared.cmp.Ordering.TheVariants.{Equal}
 use Rattle.std.proofs.lemmas.Bool.{and_from, and_parts, both_ways, eq-eqb, eqb-true}
 use Rattle.std.proofs.lemmas.Map.Lookups.{exact_unsigned}
-use Rattle.row_faults.proofs.Noted.{then_equal}
+use Rattle.directory_faults.proofs.Noted.{then_equal}
 use Rattle.index_row_faults.specs.Counts.{count_in, is_key, key_order}
 
 key_at : (key q : ℕ × ℕ) → is_at (key_order key) q ≡ true → (key.0 ≡ q.0) × (key.1 ≡ q.1)

@@ -2,10 +2,10 @@
 use Rattle.std.proofs.Common.{◌≡◌, ◌∙◌, ◌⊎◌, ◌↔◌, inl, inr, ℕ, ◌+◌, ◌<◌, Bool, true, false, List, Option, Some, None, slice_get, refl, sym, ap, subst, arith, ⊎_elim}
 use Rattle.std.proofs.lemmas.Bool.{and_parts, both_ways, cases_Bool, cases_lt, eqb-true, ltb-true, or_cases}
 use Rattle.std.specs.Prelude.{nat_eq, nat_lt, ◌&&◌}
-use Rattle.domain_base.specs.declared.place.Home.{Home}
-use Rattle.dir_index.specs.Entries.{is_below}
-use Rattle.dir_index.specs.declared.entry.IndexEntry.{IndexEntry}
-use Rattle.dir_index.proofs.Orders.{below_too}
+use Rattle.page_faults.specs.domain_base.declared.place.Home.{Home}
+use Rattle.page_faults.specs.directory_pages.Entries.{is_below}
+use Rattle.page_faults.specs.directory_pages.declared.entry.IndexEntry.{IndexEntry}
+use Rattle.page_faults.proofs.OfDirectoryPages.Orders.{below_too}
 use Rattle.index_row_faults.specs.Entries.{IsLateBefore, is_below_top}
 use Rattle.index_row_faults.specs.declared.entries.EntryAt.{EntryAt}
 

@@ -3,12 +3,12 @@ use Rattle.std.proofs.Common.{◌≡◌, ◌∙◌, ◌⊎◌, ◌↔◌, inl, i
 use Rattle.std.specs.BTreeMap.{BTreeMap}
 use Rattle.std.specs.List.{count_by}
 use Rattle.std.proofs.lemmas.Bool.{and_parts, eqb-true}
-use Rattle.domain_base.specs.declared.place.Home.{Home}
-use Rattle.page_store.specs.Pages.{Pages}
-use Rattle.domain_layout.specs.Reached.{Frame, index_way}
-use Rattle.page_ways.specs.Walk.{AreRead}
-use Rattle.row_faults.proofs.Counted.{counted_some}
-use Rattle.row_faults.proofs.Inserted.{at_among}
+use Rattle.page_faults.specs.domain_base.declared.place.Home.{Home}
+use Rattle.page_faults.specs.page_store.Pages.{Pages}
+use Rattle.page_faults.specs.domain_layout.Reached.{Frame, index_way}
+use Rattle.page_faults.specs.page_ways.Walk.{AreRead}
+use Rattle.directory_faults.proofs.Counted.{counted_some}
+use Rattle.directory_faults.proofs.Inserted.{at_among}
 use Rattle.index_row_faults.specs.Counts.{AreCounts, count_in, is_key}
 use Rattle.index_row_faults.specs.Entries.{IsLateBefore, entries_on}
 use Rattle.index_row_faults.specs.Totals.{AreGoodPages, HasSurplus, IsLacking, IsShort, IsSurplusAt, IsWrongBy, key_of}

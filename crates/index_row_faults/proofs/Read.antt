@@ -2,13 +2,13 @@
 use Rattle.std.proofs.Common.{◌≡◌, ◌≤◌, ◌∙◌, ◌+◌, ℕ, Bool, true, false, cond, List, [], ◌∷◌, ◌++◌, length, Option, None, refl, sym, ap, subst}
 use Rattle.std.specs.Prelude.{nat_le, unwrap_or}
 use Rattle.std.proofs.lemmas.Bool.{both_ways, le-leb}
-use Rattle.dir_index.specs.Index.{entries_from, entries_of, entry_at}
-use Rattle.dir_index.specs.declared.entry.IndexEntry.{IndexEntry}
-use Rattle.dir_index.proofs.IndexParts.{entries_long, entries_more}
-use Rattle.domain_base.specs.declared.place.Home.{Home}
-use Rattle.page_store.specs.Pages.{Pages}
-use Rattle.record_table.specs.Fields.{number_at}
-use Rattle.domain_layout.specs.DirectoryRules.{entries_in}
+use Rattle.page_faults.specs.directory_pages.Index.{entries_from, entries_of, entry_at}
+use Rattle.page_faults.specs.directory_pages.declared.entry.IndexEntry.{IndexEntry}
+use Rattle.page_faults.proofs.OfDirectoryPages.IndexParts.{entries_long, entries_more}
+use Rattle.page_faults.specs.domain_base.declared.place.Home.{Home}
+use Rattle.page_faults.specs.page_store.Pages.{Pages}
+use Rattle.page_faults.specs.cell_records.Fields.{number_at}
+use Rattle.page_faults.specs.domain_layout.DirectoryRules.{entries_in}
 use Rattle.index_row_faults.specs.Entries.{entries_at, placed}
 use Rattle.index_row_faults.specs.declared.entries.EntryAt.{EntryAt}
 

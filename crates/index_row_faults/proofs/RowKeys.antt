@@ -4,31 +4,31 @@ use Rattle.std.specs.List.{count_by, filter}
 use Rattle.std.specs.BTreeMap.{is_at}
 use Rattle.std.proofs.lemmas.Bool.{and_from, and_parts, cases_lt, eq-eqb, eqb-true}
 use Rattle.std.proofs.lemmas.List.Sums.{length-filter}
-use Rattle.domain_base.specs.contracts.place.TagOrd.TheImpl as tag_ord
-use Rattle.domain_base.specs.declared.place.Home.{Home}
-use Rattle.domain_base.specs.declared.place.Kind.TheVariants.{Directory}
-use Rattle.domain_base.specs.declared.place.Tag.{Tag}
-use Rattle.page_store.specs.Pages.{Pages}
-use Rattle.bitfile_core.specs.declared.attributes.Attributes.{Attributes}
-use Rattle.dir_index.specs.Entries.{hash_of}
-use Rattle.dir_pages.specs.RowPage.{IsDirPage, rows_of}
-use Rattle.dir_pages.specs.declared.row.Row.{Row}
-use Rattle.dir_rows.specs.Directory.{count_hash}
-use Rattle.directory_facts.proofs.Decided.{dir_page_decided, kind_decided, tag_decided}
-use Rattle.fileset_table.specs.Table.{Table}
-use Rattle.row_faults.specs.Seen.{home_in}
-use Rattle.domain_layout.specs.DirectoryRules.{CountsRows, IsDirectoryPage, IsRow, RowPlace}
-use Rattle.domain_layout.specs.Reached.{Frame, IsWithin}
-use Rattle.row_faults.specs.Rows.{AreRowsIn, place_of, rows_placed}
-use Rattle.row_faults.specs.There.{AreFilesIn}
-use Rattle.row_faults.specs.declared.rows.PageAt.{PageAt}
-use Rattle.row_faults.specs.declared.rows.RowThere.{RowThere}
-use Rattle.row_faults.specs.declared.there.FileThere.{FileThere}
-use Rattle.row_faults.proofs.Counted.{as_long, counted_some}
-use Rattle.row_faults.proofs.InOrder.{placed_at, placed_back}
-use Rattle.row_faults.proofs.Inserted.{among_at, at_among}
-use Rattle.row_faults.proofs.RowPlaces.{AreApart, count_passing, order_parts, passes_there, passing, passing_once, row_is, row_read, there_passes}
-use Rattle.row_faults.proofs.TagSets.{tag_at}
+use Rattle.page_faults.specs.domain_base.contracts.place.TagOrd.TheImpl as tag_ord
+use Rattle.page_faults.specs.domain_base.declared.place.Home.{Home}
+use Rattle.page_faults.specs.domain_base.declared.place.Kind.TheVariants.{Directory}
+use Rattle.page_faults.specs.domain_base.declared.place.Tag.{Tag}
+use Rattle.page_faults.specs.page_store.Pages.{Pages}
+use Rattle.page_faults.specs.fileset_files.declared.attributes.Attributes.{Attributes}
+use Rattle.page_faults.specs.directory_pages.Entries.{hash_of}
+use Rattle.page_faults.specs.directory_pages.RowPage.{IsDirPage, rows_of}
+use Rattle.page_faults.specs.directory_pages.declared.row.Row.{Row}
+use Rattle.page_faults.specs.directory_rows.Directory.{count_hash}
+use Rattle.filesets_filled.proofs.Decided.{dir_page_decided, kind_decided, tag_decided}
+use Rattle.page_faults.specs.fileset_table.Table.{Table}
+use Rattle.page_faults.specs.filesets_reading.Seen.{home_in}
+use Rattle.page_faults.specs.domain_layout.DirectoryRules.{CountsRows, IsDirectoryPage, IsRow, RowPlace}
+use Rattle.page_faults.specs.domain_layout.Reached.{Frame, IsWithin}
+use Rattle.directory_faults.specs.Rows.{AreRowsIn, place_of, rows_placed}
+use Rattle.directory_faults.specs.There.{AreFilesIn}
+use Rattle.directory_faults.specs.declared.rows.PageAt.{PageAt}
+use Rattle.directory_faults.specs.declared.rows.RowThere.{RowThere}
+use Rattle.directory_faults.specs.declared.there.FileThere.{FileThere}
+use Rattle.directory_faults.proofs.Counted.{as_long, counted_some}
+use Rattle.directory_faults.proofs.InOrder.{placed_at, placed_back}
+use Rattle.directory_faults.proofs.Inserted.{among_at, at_among}
+use Rattle.directory_faults.proofs.RowPlaces.{AreApart, count_passing, order_parts, passes_there, passing, passing_once, row_is, row_read, there_passes}
+use Rattle.directory_faults.proofs.TagSets.{tag_at}
 use Rattle.index_row_faults.specs.Keys.{has_key}
 
 none_some : {X : Type 0} (x : X) → None ≡ Some x → ⊥

@@ -3,10 +3,10 @@ use Rattle.std.proofs.Common.{◌≡◌, ◌∙◌, ◌+◌, ◌<◌, ◌==◌, 
 use Rattle.std.specs.BTreeMap.{is_at}
 use Rattle.std.specs.List.{count_by, filter}
 use Rattle.std.proofs.lemmas.List.Sums.{count_by_more_no, count_by_more_yes, length-filter}
-use Rattle.domain_base.specs.contracts.place.TagOrd.TheImpl as tag_ord
-use Rattle.domain_base.specs.declared.place.Tag.{Tag}
-use Rattle.dir_index.specs.Entries.{hash_of}
-use Rattle.row_faults.specs.declared.rows.RowThere.{RowThere}
+use Rattle.page_faults.specs.domain_base.contracts.place.TagOrd.TheImpl as tag_ord
+use Rattle.page_faults.specs.domain_base.declared.place.Tag.{Tag}
+use Rattle.page_faults.specs.directory_pages.Entries.{hash_of}
+use Rattle.directory_faults.specs.declared.rows.RowThere.{RowThere}
 use Rattle.index_row_faults.specs.Counts.{is_key}
 use Rattle.index_row_faults.specs.Keys.{has_key}
 

@@ -1,13 +1,13 @@
 -- Indexes that are found to be where none may be are those of the rule.
 use Rattle.std.proofs.Common.{◌≡◌, ◌∙◌, ◌⊎◌, ◌↔◌, ◌≤◌, inl, inr, ℕ, List, length, IsTrue, Contains, sym, ⊎_elim}
-use Rattle.domain_base.specs.declared.place.Home.{Home}
-use Rattle.domain_base.specs.declared.place.Kind.TheVariants.{Directory}
-use Rattle.page_store.specs.Pages.{Pages}
-use Rattle.fileset_table.specs.Table.{Table}
-use Rattle.domain_layout.specs.DirectoryRules.{HasSecondPage}
-use Rattle.domain_layout.specs.Seen.{SeenFile}
-use Rattle.directory_facts.proofs.Decided.{kind_decided}
-use Rattle.row_faults.proofs.Inserted.{AreIn, all_in, iff_trans}
+use Rattle.page_faults.specs.domain_base.declared.place.Home.{Home}
+use Rattle.page_faults.specs.domain_base.declared.place.Kind.TheVariants.{Directory}
+use Rattle.page_faults.specs.page_store.Pages.{Pages}
+use Rattle.page_faults.specs.fileset_table.Table.{Table}
+use Rattle.page_faults.specs.domain_layout.DirectoryRules.{HasSecondPage}
+use Rattle.page_faults.specs.domain_layout.Seen.{SeenFile}
+use Rattle.filesets_filled.proofs.Decided.{kind_decided}
+use Rattle.directory_faults.proofs.Inserted.{AreIn, all_in, iff_trans}
 use Rattle.index_row_faults.specs.There.{AreIndexesIn, MayBeOf}
 use Rattle.index_row_faults.specs.Undue.{HasUndueIndex, IsUndueAt}
 use Rattle.index_row_faults.specs.declared.there.IndexThere.{IndexThere}

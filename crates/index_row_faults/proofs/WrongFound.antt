@@ -5,21 +5,21 @@ use Rattle.std.specs.Prelude.{Vec, unwrap_or}
 use Rattle.std.specs.List.{AllByRecursion, count_by, flat_map}
 use Rattle.std.proofs.lemmas.Bool.{cases_lt}
 use Rattle.std.proofs.lemmas.Option.{slice_get_within}
-use Rattle.domain_base.specs.declared.place.Home.{Home}
-use Rattle.domain_base.specs.declared.place.Tag.{Tag}
-use Rattle.page_store.specs.Pages.{Pages}
-use Rattle.dir_index.specs.Entries.{is_below}
-use Rattle.dir_index.specs.declared.entry.IndexEntry.{IndexEntry}
-use Rattle.dir_rows.specs.Directory.{count_entries}
-use Rattle.fileset_table.specs.Table.{Table}
-use Rattle.domain_layout.specs.DirectoryRules.{AreAllPages, AreReadPages, CountsRows, IsGoodIndexPage, IsWrongIndexEntry, IsWrongTotal, entries_in}
-use Rattle.domain_layout.specs.Reached.{Frame, IsRead, IsUnread, index_way}
-use Rattle.page_ways.specs.Walk.{AreRead}
-use Rattle.row_faults.specs.Rows.{AreRowsIn}
-use Rattle.row_faults.specs.There.{AreFilesIn}
-use Rattle.row_faults.specs.declared.rows.RowThere.{RowThere}
-use Rattle.row_faults.specs.declared.there.FileThere.{FileThere}
-use Rattle.row_faults.proofs.Inserted.{among_at, at_among}
+use Rattle.page_faults.specs.domain_base.declared.place.Home.{Home}
+use Rattle.page_faults.specs.domain_base.declared.place.Tag.{Tag}
+use Rattle.page_faults.specs.page_store.Pages.{Pages}
+use Rattle.page_faults.specs.directory_pages.Entries.{is_below}
+use Rattle.page_faults.specs.directory_pages.declared.entry.IndexEntry.{IndexEntry}
+use Rattle.page_faults.specs.directory_rows.Directory.{count_entries}
+use Rattle.page_faults.specs.fileset_table.Table.{Table}
+use Rattle.page_faults.specs.domain_layout.DirectoryRules.{AreAllPages, AreReadPages, CountsRows, IsGoodIndexPage, IsWrongIndexEntry, IsWrongTotal, entries_in}
+use Rattle.page_faults.specs.domain_layout.Reached.{Frame, IsRead, IsUnread, index_way}
+use Rattle.page_faults.specs.page_ways.Walk.{AreRead}
+use Rattle.directory_faults.specs.Rows.{AreRowsIn}
+use Rattle.directory_faults.specs.There.{AreFilesIn}
+use Rattle.directory_faults.specs.declared.rows.RowThere.{RowThere}
+use Rattle.directory_faults.specs.declared.there.FileThere.{FileThere}
+use Rattle.directory_faults.proofs.Inserted.{among_at, at_among}
 use Rattle.index_row_faults.specs.Counts.{is_key}
 use Rattle.index_row_faults.specs.Entries.{IsLateBefore, entries_at, entries_on, page_at}
 use Rattle.index_row_faults.specs.Keys.{AreKeys, has_key, keys_in}

@@ -1,11 +1,11 @@
 -- The entries of an index, as they stand on its pages.
 use Rattle.std.specs.Prelude.{◌≡◌, ◌<◌, ℕ, Bool, true, false, List, [], Option, Some, None, map, slice_get, unwrap_or}
 use Rattle.std.specs.List.{flat_map}
-use Rattle.domain_base.specs.declared.place.Home.{Home}
-use Rattle.page_store.specs.Pages.{Pages}
-use Rattle.dir_index.specs.Entries.{is_below}
-use Rattle.dir_index.specs.declared.entry.IndexEntry.{IndexEntry}
-use Rattle.domain_layout.specs.DirectoryRules.{entries_in}
+use Rattle.page_faults.specs.domain_base.declared.place.Home.{Home}
+use Rattle.page_faults.specs.page_store.Pages.{Pages}
+use Rattle.page_faults.specs.directory_pages.Entries.{is_below}
+use Rattle.page_faults.specs.directory_pages.declared.entry.IndexEntry.{IndexEntry}
+use Rattle.page_faults.specs.domain_layout.DirectoryRules.{entries_in}
 use Rattle.index_row_faults.specs.declared.entries.EntryAt.{EntryAt}
 
 -- entries that stand on the page at a home

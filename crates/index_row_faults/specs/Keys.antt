@@ -2,10 +2,10 @@
 use Rattle.std.specs.Prelude.{◌≡◌, ◌==◌, ◌&&◌, ℕ, Bool, List, [], Vec, count_by, unwrap_or, vec_items}
 use Rattle.std.specs.BTreeMap.{BTreeMap, get, is_at}
 use Rattle.std.specs.Option.{option_map}
-use Rattle.domain_base.specs.contracts.place.TagOrd.TheImpl as tag_ord
-use Rattle.domain_base.specs.declared.place.Tag.{Tag}
-use Rattle.dir_index.specs.Entries.{hash_of}
-use Rattle.row_faults.specs.declared.rows.RowThere.{RowThere}
+use Rattle.page_faults.specs.domain_base.contracts.place.TagOrd.TheImpl as tag_ord
+use Rattle.page_faults.specs.domain_base.declared.place.Tag.{Tag}
+use Rattle.page_faults.specs.directory_pages.Entries.{hash_of}
+use Rattle.directory_faults.specs.declared.rows.RowThere.{RowThere}
 use Rattle.index_row_faults.specs.Counts.{is_key}
 
 -- what a map has for a directory

@@ -1,12 +1,12 @@
 -- Indexes that were read of a fileset.
 use Rattle.std.specs.Prelude.{◌≡◌, ◌↔◌, ℕ, List, IsTrue, Contains}
-use Rattle.domain_base.specs.declared.place.Home.{Home}
-use Rattle.domain_base.specs.declared.place.Kind.TheVariants.{Directory}
-use Rattle.domain_base.specs.declared.place.Tag.{Tag}
-use Rattle.page_store.specs.Pages.{Pages}
-use Rattle.fileset_table.specs.Table.{Table}
-use Rattle.domain_layout.specs.DirectoryRules.{HasIndex, HasSecondPage}
-use Rattle.domain_layout.specs.Seen.{SeenFile}
+use Rattle.page_faults.specs.domain_base.declared.place.Home.{Home}
+use Rattle.page_faults.specs.domain_base.declared.place.Kind.TheVariants.{Directory}
+use Rattle.page_faults.specs.domain_base.declared.place.Tag.{Tag}
+use Rattle.page_faults.specs.page_store.Pages.{Pages}
+use Rattle.page_faults.specs.fileset_table.Table.{Table}
+use Rattle.page_faults.specs.domain_layout.DirectoryRules.{HasIndex, HasSecondPage}
+use Rattle.page_faults.specs.domain_layout.Seen.{SeenFile}
 use Rattle.index_row_faults.specs.declared.there.IndexThere.{IndexThere}
 
 -- it may be there where it is of a directory of more pages than one

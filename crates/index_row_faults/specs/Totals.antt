@@ -1,11 +1,11 @@
 -- Entries of which there are more than rows, and rows without entries.
 use Rattle.std.specs.Prelude.{◌≡◌, ◌⊎◌, ◌<◌, ℕ, List, None, Option, Contains, Some, count_by, length, map}
 use Rattle.std.specs.BTreeMap.{BTreeMap}
-use Rattle.domain_base.specs.declared.place.Home.{Home}
-use Rattle.page_store.specs.Pages.{Pages}
-use Rattle.domain_layout.specs.DirectoryRules.{IsGoodIndexPage}
-use Rattle.domain_layout.specs.Reached.{Frame, index_way}
-use Rattle.page_ways.specs.Walk.{AreRead}
+use Rattle.page_faults.specs.domain_base.declared.place.Home.{Home}
+use Rattle.page_faults.specs.page_store.Pages.{Pages}
+use Rattle.page_faults.specs.domain_layout.DirectoryRules.{IsGoodIndexPage}
+use Rattle.page_faults.specs.domain_layout.Reached.{Frame, index_way}
+use Rattle.page_faults.specs.page_ways.Walk.{AreRead}
 use Rattle.index_row_faults.specs.Counts.{count_in, is_key}
 use Rattle.index_row_faults.specs.Entries.{IsLateBefore, entries_on}
 use Rattle.index_row_faults.specs.declared.entries.EntryAt.{EntryAt}

@@ -1,12 +1,12 @@
 -- Indexes whose entries are not those of the rows, or which may not be there.
 use Rattle.std.specs.Prelude.{ℕ}
-use Rattle.domain_base.specs.declared.place.Home.{Home}
-use Rattle.domain_base.specs.declared.place.Tag.{Tag}
-use Rattle.page_store.specs.Pages.{Pages}
-use Rattle.fileset_table.specs.Table.{Table}
-use Rattle.domain_layout.specs.DirectoryRules.{HasIndex, IsWrongIndex}
-use Rattle.domain_layout.specs.Reached.{Frame}
-use Rattle.domain_layout.specs.Seen.{SeenFile}
+use Rattle.page_faults.specs.domain_base.declared.place.Home.{Home}
+use Rattle.page_faults.specs.domain_base.declared.place.Tag.{Tag}
+use Rattle.page_faults.specs.page_store.Pages.{Pages}
+use Rattle.page_faults.specs.fileset_table.Table.{Table}
+use Rattle.page_faults.specs.domain_layout.DirectoryRules.{HasIndex, IsWrongIndex}
+use Rattle.page_faults.specs.domain_layout.Reached.{Frame}
+use Rattle.page_faults.specs.domain_layout.Seen.{SeenFile}
 
 -- an index of the fileset in a slot breaks a rule of the indexes of directories, at a page
 pub record HasWrongIndex (pages : Pages) (frame : Frame) (table : Table) (number : ℕ) (home : Home)

@@ -2,7 +2,7 @@
 ghost use Rattle.std.specs.Prelude.{◌≡◌, ◌+◌, ◌^◌, ◌<◌, ℕ, IfOk, OnOk, if◌then◌else◌};
 ghost use Rattle.index_row_faults.specs.Counts.{AreCounts, count_in, is_key};
 
-use domain_base::OutOfMemory;
+use page_faults::OutOfMemory;
 use std::alloc::Global;
 use std::collections::BTreeMap;
 
@@ -13,7 +13,7 @@ pub(crate) fn count_of(counts: &BTreeMap<(u32, u64), u64>, key: (u32, u64)) -> u
     counts.get(&key).copied().unwrap_or(0)
 }
 
-/// Counts a hash and a page once more.
+/// Counts one more of a hash and a page.
 fn count_key(counts: &mut BTreeMap<(u32, u64), u64>, key: (u32, u64)) -> Result<(), OutOfMemory>
     requires { count_in counts.old key.0 key.1 + 1 < 2 ^ 64 }
     ensures { OnOk result ((hash page : ℕ) → count_in counts.new hash page

@@ -1,13 +1,10 @@
 //! The entries of an index, as they stand on its pages.
 ghost use Rattle.std.specs.Prelude.{◌≡◌, ◌++◌, ◌<◌, ◌≤◌, IfOk, OnOk, length};
-ghost use Rattle.dir_index.specs.Index.{entry_at as entry_there};
-ghost use Rattle.domain_layout.specs.DirectoryRules.{entries_in};
+ghost use Rattle.page_faults.specs.directory_pages.Index.{entry_at as entry_there};
+ghost use Rattle.page_faults.specs.domain_layout.DirectoryRules.{entries_in};
 ghost use Rattle.index_row_faults.specs.Entries.{entries_at, entries_on, placed};
 
-use dir_index::IndexEntry;
-use domain_base::{Home, OutOfMemory, Page};
-use page_store::MetaPages;
-use record_table::u32_at;
+use page_faults::{Home, IndexEntry, MetaPages, OutOfMemory, Page, u32_at};
 use std::alloc::Global;
 
 /// An entry, and the page on which it stands.
@@ -17,7 +14,7 @@ pub(crate) struct EntryAt {
     pub entry: IndexEntry,
 }
 
-/// How many entries are read of a page: none where it says that it has more than a page can have.
+/// How many entries are read of a page: 0 if it says that it has more than a page can have.
 fn count_entries(page: &Page) -> usize
     ensures count { result ≡ length (entries_in page.now) }
     ensures most { result ≤ 1022 }
@@ -38,7 +35,7 @@ fn entry_at(page: &Page, number: usize) -> IndexEntry
     }
 }
 
-/// Puts the entries of a page behind others.
+/// Appends the entries of a page to others.
 fn push_entries(page: &Page, home: &Home, entries: &mut Vec<EntryAt>) -> Result<(), OutOfMemory>
     ensures { OnOk result (entries.new.items
         ≡ entries.old.items ++ placed home.now (entries_in page.now)) }
@@ -50,7 +47,7 @@ fn push_entries(page: &Page, home: &Home, entries: &mut Vec<EntryAt>) -> Result<
     Ok(())
 }
 
-/// Puts the entries of the page at a home behind others.
+/// Appends the entries of the page at a home to others.
 fn push_entries_at<M: MetaPages>(
     pages: &M,
     home: &Home,

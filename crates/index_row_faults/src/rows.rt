@@ -1,13 +1,12 @@
-//! The hashes of the names of rows, with the pages on which they stand, by directories.
+//! The hashes of the names of rows, with the pages on which they stand, by directory.
 ghost use Rattle.std.specs.Prelude.{◌≡◌, ◌++◌, [], ◌∷◌, IfOk, OnOk, cond};
 ghost use Rattle.std.specs.BTreeMap.{is_at};
-ghost use Rattle.domain_base.specs.contracts.place.TagOrd.TheImpl as tag_ord;
-ghost use Rattle.domain_base.specs.declared.place.Tag.{Tag as TagOf};
+ghost use Rattle.page_faults.specs.domain_base.contracts.place.TagOrd.TheImpl as tag_ord;
+ghost use Rattle.page_faults.specs.domain_base.declared.place.Tag.{Tag as TagOf};
 ghost use Rattle.index_row_faults.specs.Keys.{AreKeys, keys_in};
 
-use dir_index::name_hash;
-use domain_base::{OutOfMemory, Tag};
-use row_faults::RowThere;
+use directory_faults::RowThere;
+use page_faults::{OutOfMemory, Tag, name_hash};
 use std::alloc::Global;
 use std::collections::BTreeMap;
 
@@ -21,7 +20,7 @@ pub(crate) fn keys_of(keys: &BTreeMap<Tag, Vec<(u32, u64)>>, dir: Tag) -> &[(u32
     }
 }
 
-/// Puts a hash and a page behind those of a directory.
+/// Appends a hash and a page to those of a directory.
 fn push_key(
     alloc: Global,
     keys: &mut BTreeMap<Tag, Vec<(u32, u64)>>,
@@ -37,7 +36,7 @@ fn push_key(
     Ok(())
 }
 
-/// To each directory the hashes and pages of its rows.
+/// For each directory, the hashes and pages of its rows.
 pub(crate) fn read_keys(
     alloc: Global,
     rows: &[RowThere],

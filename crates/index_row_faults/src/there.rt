@@ -1,9 +1,9 @@
 //! What is read of an index for the rules of its entries.
-use domain_base::{Home, Tag};
+use page_faults::{Home, Tag};
 
 /// An index that a file or directory of an original names: its tag, the first page, how many
-/// entries the record says, and whether it may be there at all: whether it is of a directory of more
-/// pages than one.
+/// entries the record says, and whether it may be there at all: whether it belongs to a directory
+/// of more than one page.
 #[derive(Drop)]
 pub struct IndexThere {
     pub tag: Tag,

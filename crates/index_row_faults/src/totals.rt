@@ -1,14 +1,13 @@
-//! Entries of which there are more than rows, and rows without entries.
+//! Entries that stand more often than their rows, and rows without entries.
 ghost use Rattle.std.specs.Prelude.{◌≡◌, ◌⊎◌, ◌↔◌, ◌*◌, ℕ, IfOk, IsTrue, OnOk, Contains, map};
-ghost use Rattle.domain_base.specs.declared.place.Home.{Home};
-ghost use Rattle.home_sets.specs.Members.{IsIn};
+ghost use Rattle.page_faults.specs.domain_base.declared.place.Home.{Home};
+ghost use Rattle.page_faults.specs.sorted_sets.Members.{IsIn};
 ghost use Rattle.index_row_faults.specs.Totals.{IsLacking, IsSurplusAt, key_of};
 ghost use Rattle.index_row_faults.specs.declared.entries.EntryAt.{EntryAt as EntryOf};
 
 use crate::counts::count_of;
 use crate::entries::EntryAt;
-use domain_base::OutOfMemory;
-use home_sets::HomeSet;
+use page_faults::{HomeSet, OutOfMemory};
 use std::alloc::Global;
 use std::collections::BTreeMap;
 
@@ -23,7 +22,7 @@ pub(crate) fn keys_in(alloc: Global, entries: &[EntryAt]) -> Result<Vec<(u32, u6
     Ok(keys)
 }
 
-/// Puts the page of an entry into a set, if there are more of it than rows.
+/// Puts the page of an entry into a set, if the entry stands more often than its rows.
 fn insert_one(
     in_rows: &BTreeMap<(u32, u64), u64>,
     in_entries: &BTreeMap<(u32, u64), u64>,
@@ -40,7 +39,7 @@ fn insert_one(
     Ok(())
 }
 
-/// Puts the pages of entries into a set of which there are more than rows.
+/// Puts into a set the pages of entries that stand more often than their rows.
 pub(crate) fn insert_surplus(
     in_rows: &BTreeMap<(u32, u64), u64>,
     in_entries: &BTreeMap<(u32, u64), u64>,
@@ -57,7 +56,7 @@ pub(crate) fn insert_surplus(
     Ok(())
 }
 
-/// Whether some rows have fewer entries than they are.
+/// Whether some rows have fewer entries than there are rows.
 pub(crate) fn lacks_entries(
     in_rows: &BTreeMap<(u32, u64), u64>,
     in_entries: &BTreeMap<(u32, u64), u64>,

@@ -1,15 +1,14 @@
 //! Indexes of files, and of directories of one page.
 ghost use Rattle.std.specs.Prelude.{◌⊎◌, ◌↔◌, ℕ, OnOk};
-ghost use Rattle.domain_base.specs.declared.place.Home.{Home};
-ghost use Rattle.fileset_table.specs.Table.{Table};
-ghost use Rattle.page_store.specs.Pages.{Pages};
-ghost use Rattle.home_sets.specs.Members.{IsIn};
+ghost use Rattle.page_faults.specs.domain_base.declared.place.Home.{Home};
+ghost use Rattle.page_faults.specs.fileset_table.Table.{Table};
+ghost use Rattle.page_faults.specs.page_store.Pages.{Pages};
+ghost use Rattle.page_faults.specs.sorted_sets.Members.{IsIn};
 ghost use Rattle.index_row_faults.specs.There.{AreIndexesIn};
 ghost use Rattle.index_row_faults.specs.Undue.{HasUndueIndex, IsUndueAt};
 
 use crate::there::IndexThere;
-use domain_base::OutOfMemory;
-use home_sets::HomeSet;
+use page_faults::{HomeSet, OutOfMemory};
 
 /// Puts the first page of an index into a set, if it may not be there.
 fn insert_undue(index: &IndexThere, found: &mut HomeSet) -> Result<(), OutOfMemory>
@@ -22,8 +21,8 @@ fn insert_undue(index: &IndexThere, found: &mut HomeSet) -> Result<(), OutOfMemo
     Ok(())
 }
 
-/// Puts the first pages of a fileset's indexes into a set that are of a file, or of a directory of
-/// one page.
+/// Puts into a set the first pages of a fileset's indexes that belong to a file, or to a directory
+/// of one page.
 pub(crate) fn insert_undue_indexes(
     indexes: &[IndexThere],
     found: &mut HomeSet,

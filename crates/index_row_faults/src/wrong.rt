@@ -1,15 +1,15 @@
 //! Indexes whose entries are not those of the rows, or which may not be there.
 ghost use Rattle.std.specs.Prelude.{◌≡◌, ◌⊎◌, ◌↔◌, ◌*◌, ℕ, List, None, IsTrue, OnOk};
-ghost use Rattle.domain_base.specs.declared.place.Home.{Home as HomeOf};
-ghost use Rattle.fileset_table.specs.Table.{Table};
-ghost use Rattle.page_store.specs.Pages.{Pages};
-ghost use Rattle.domain_layout.specs.DirectoryRules.{IsWrongIndexOf};
-ghost use Rattle.domain_layout.specs.Reached.{Frame};
-ghost use Rattle.home_sets.specs.Members.{IsIn};
-ghost use Rattle.page_ways.specs.Frame.{frame_in};
-ghost use Rattle.row_faults.specs.Rows.{AreRowsIn};
-ghost use Rattle.row_faults.specs.There.{AreFilesIn};
-ghost use Rattle.row_faults.specs.declared.there.FileThere.{FileThere as FileOf};
+ghost use Rattle.page_faults.specs.domain_base.declared.place.Home.{Home as HomeOf};
+ghost use Rattle.page_faults.specs.fileset_table.Table.{Table};
+ghost use Rattle.page_faults.specs.page_store.Pages.{Pages};
+ghost use Rattle.page_faults.specs.domain_layout.DirectoryRules.{IsWrongIndexOf};
+ghost use Rattle.page_faults.specs.domain_layout.Reached.{Frame};
+ghost use Rattle.page_faults.specs.sorted_sets.Members.{IsIn};
+ghost use Rattle.page_faults.specs.page_ways.Frame.{frame_in};
+ghost use Rattle.directory_faults.specs.Rows.{AreRowsIn};
+ghost use Rattle.directory_faults.specs.There.{AreFilesIn};
+ghost use Rattle.directory_faults.specs.declared.there.FileThere.{FileThere as FileOf};
 ghost use Rattle.index_row_faults.specs.There.{AreIndexesIn};
 ghost use Rattle.index_row_faults.specs.Totals.{AreGoodPages, IsGoodAt, IsIndexRead, IsWrongBy};
 ghost use Rattle.index_row_faults.specs.Wrong.{HasWrongIndex};
@@ -21,12 +21,11 @@ use crate::rows::{keys_of, read_keys};
 use crate::there::IndexThere;
 use crate::totals::{insert_surplus, keys_in, lacks_entries};
 use crate::undue::insert_undue_indexes;
-use domain_base::{Home, OutOfMemory};
-use home_sets::HomeSet;
-use index_faults::is_good_page;
-use page_store::MetaPages;
-use page_ways::{DomainFrame, IndexWay, ReadPages, read_pages};
-use row_faults::RowThere;
+use directory_faults::RowThere;
+use page_faults::{
+    DomainFrame, Home, HomeSet, IndexWay, MetaPages, OutOfMemory, ReadPages, is_good_page,
+    read_pages,
+};
 use std::alloc::Global;
 
 /// Whether a good page of an index stands at a home.
@@ -39,7 +38,7 @@ fn is_good_at<M: MetaPages>(pages: &M, home: &Home) -> bool
     }
 }
 
-/// Whether one stands at each of the homes.
+/// Whether a good page of an index stands at each of the homes.
 fn are_good<M: MetaPages>(pages: &M, homes: &[Home]) -> bool
     ensures { IsTrue result ↔ AreGoodPages (M.pages pages.now) homes.now }
 {
@@ -59,9 +58,9 @@ fn is_whole<M: MetaPages>(pages: &M, read: &ReadPages) -> bool
     read.unread.is_none() && are_good(pages, &read.homes)
 }
 
-/// Puts the pages of an index into a set on which an entry is below one in front of it, or stands
-/// more often than rows; and the first page, if the total is wrong or a row has no entry, where all
-/// pages are read.
+/// Puts into a set the pages of an index on which an entry is below an entry before it, or stands
+/// more often than its rows; and the first page, if all pages are read and the total is wrong or a
+/// row has no entry.
 fn insert_of_index<M: MetaPages>(
     alloc: Global,
     pages: &M,
@@ -90,10 +89,10 @@ fn insert_of_index<M: MetaPages>(
     Ok(())
 }
 
-/// Puts the pages of a fileset's indexes into a set at which a rule of entries is broken, by these
-/// and its rows: pages with an entry that is below one in front of it or of which there are more
-/// than rows, and first pages where the total is wrong or a row has no entry, of those of which all
-/// pages are read, and of those that may not be there.
+/// Puts into a set the pages of a fileset's indexes at which a rule of entries is broken, from
+/// these and its rows: pages with an entry that is below an entry before it or stands more often
+/// than its rows, first pages of indexes whose pages are all read and whose total is wrong or that
+/// lack an entry for a row, and first pages of indexes that may not be there.
 pub fn insert_wrong_indexes<M: MetaPages>(
     alloc: Global,
     pages: &M,
@@ -117,8 +116,8 @@ pub fn insert_wrong_indexes<M: MetaPages>(
     Ok(())
 }
 
-/// The pages at which an index of a file is wrong, beside what is asked of every index, are those
-/// at which one of the fileset in some slot is.
+/// The pages at which an index of a file is wrong, beyond what is asked of every index, are those
+/// at which an index of the fileset in some slot is wrong.
 pub fn wrong_indexes_by_slot()
     ensures { (pages : Pages) (frame : Frame) (table : Table) (home : HomeOf)
         → IsWrongIndexOf pages frame table home

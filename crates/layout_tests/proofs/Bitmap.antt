@@ -3,8 +3,8 @@ use Rattle.std.proofs.Common.{◌≡◌, ◌∙◌, ◌⊎◌, ◌↔◌, inl, i
 use Rattle.std.proofs.lemmas.Bool.{both_ways, cases_lt, cases_order, lt-ltb, ltb-true}
 use Rattle.std.proofs.lemmas.List.{get_or-append_right, length-replicate}
 use Rattle.std.specs.Int.{bit_at}
-use Rattle.domain_base.specs.Page.{length-zero_bytes, zero_bytes}
-use Rattle.storage_bitmap.specs.Bits.{is_set}
+use Rattle.domain_making.specs.domain_base.Page.{length-zero_bytes, zero_bytes}
+use Rattle.domain_making.specs.free_space.Bits.{is_set}
 use Rattle.layout_tests.specs.Written.{bitmap_with, full_bytes}
 
 -- ---- bytes

@@ -2,13 +2,13 @@
 use Rattle.std.proofs.Common.{◌≡◌, ◌∙◌, ℕ, zero, suc, ◌+◌, ◌*◌, ◌<◌, inl, inr, List, [], ◌∷◌, Bool, true, false, None, count_by, drop, take, slice_index, refl, sym, ap, subst, arith}
 use Rattle.std.proofs.lemmas.Bool.{eq-eqb}
 use Rattle.std.specs.List.{range_with_len}
-use Rattle.domain_base.specs.Page.{zero_bytes}
-use Rattle.record_table.specs.Fields.{number_at}
-use Rattle.record_table.specs.Records.{Allowed, spelled, spelling}
-use Rattle.record_table.specs.declared.record.Record.TheVariants as written
-use Rattle.bmt_mcells.specs.declared.head.CellKind.TheVariants.{Volume}
-use Rattle.bmt_mcells.specs.Cell.{Cell, IsCell, IsFreeCell, IsFreeOrUsed}
-use Rattle.bmt_mcells.specs.CellPage.{IsCellPage, cell_of, index_of, is_cell_page, is_free_in, next_of}
+use Rattle.domain_making.specs.domain_base.Page.{zero_bytes}
+use Rattle.domain_making.specs.cell_records.Fields.{number_at}
+use Rattle.domain_making.specs.cell_records.Records.{Allowed, spelled, spelling}
+use Rattle.domain_making.specs.cell_records.declared.record.Record.TheVariants as written
+use Rattle.domain_making.specs.metadata_cells.declared.head.CellKind.TheVariants.{Volume}
+use Rattle.domain_making.specs.metadata_cells.Cell.{Cell, IsCell, IsFreeCell, IsFreeOrUsed}
+use Rattle.domain_making.specs.metadata_cells.CellPage.{IsCellPage, cell_of, index_of, is_cell_page, is_free_in, next_of}
 use Rattle.layout_tests.specs.EmptyDomain.{cells_front, cells_page}
 use Rattle.layout_tests.proofs.Zeros.{byte_behind, count_same, first_zeros, part_behind}
 

@@ -1,6 +1,6 @@
 -- The pages of the empty domain have a page's bytes.
 use Rattle.std.proofs.Common.{◌≡◌, ◌∙◌, ℕ, ◌+◌, ◌∷◌, ◌++◌, length, ap, arith, length-append}
-use Rattle.domain_base.specs.Page.{length-zero_bytes, zero_bytes}
+use Rattle.domain_making.specs.domain_base.Page.{length-zero_bytes, zero_bytes}
 use Rattle.layout_tests.specs.EmptyDomain.{cells_front, cells_page, table_front, table_page}
 use Rattle.layout_tests.specs.Written.{bitmap_with, full_bytes}
 use Rattle.layout_tests.proofs.Bitmap.{length-full}

@@ -1,17 +1,17 @@
 -- What the empty domain means.
 use Rattle.std.proofs.Common.{◌≡◌, ◌↔◌, inl, inr, ◌⊎◌, ℕ, zero, suc, ◌+◌, ◌*◌, ◌<◌, ◌≤◌, [], ◌∷◌, true, Some, IsSomeAnd, refl, sym, ap, subst, arith, ⊎_elim}
 use Rattle.std.specs.FinMap.{empty}
-use Rattle.domain_base.specs.Version.{bitmap_pages}
-use Rattle.domain_base.specs.declared.version.Version.{Version}
-use Rattle.record_table.specs.declared.record.Record.TheVariants as written
-use Rattle.storage_bitmap.specs.Bits.{is_set}
-use Rattle.volume_disk.specs.Image.{page_at}
-use Rattle.log_ring.specs.Groups.{pages_in}
-use Rattle.bmt_mcells.specs.Cell.{IsFreeCell}
-use Rattle.bmt_mcells.specs.CellPage.{cell_of}
-use Rattle.domain_layout.specs.Read.{Means, ReadsFrom}
-use Rattle.layout_laws.specs.NewDomain.{IsNew, IsNewAnchor, IsNewBitmap, IsNewCells, IsNewTablePage, firsts, on_first}
-use Rattle.layout_laws.proofs.NewDomain.{no_fault, reads_none}
+use Rattle.domain_making.specs.domain_base.Version.{bitmap_pages}
+use Rattle.domain_making.specs.domain_base.declared.version.Version.{Version}
+use Rattle.domain_making.specs.cell_records.declared.record.Record.TheVariants as written
+use Rattle.domain_making.specs.free_space.Bits.{is_set}
+use Rattle.domain_making.specs.volume_disk.Image.{page_at}
+use Rattle.domain_making.specs.log_ring.Groups.{pages_in}
+use Rattle.domain_making.specs.metadata_cells.Cell.{IsFreeCell}
+use Rattle.domain_making.specs.metadata_cells.CellPage.{cell_of}
+use Rattle.domain_making.specs.domain_layout.Read.{Means, ReadsFrom}
+use Rattle.domain_making.specs.domain_layout.NewDomain.{IsNew, IsNewAnchor, IsNewBitmap, IsNewCells, IsNewTablePage, firsts, on_first}
+use Rattle.domain_making.proofs.OfDomainLayout.NewDomain.{no_fault, reads_none}
 use Rattle.layout_tests.specs.EmptyDomain.{bitmap_page, cells_page, image_of, page_of}
 use Rattle.layout_tests.specs.Written.{anchor_of, frame_of}
 use Rattle.layout_tests.proofs.Bitmap.{bits_are, five_bits}

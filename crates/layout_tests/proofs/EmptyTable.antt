@@ -1,16 +1,16 @@
 -- The table page of the empty domain.
 use Rattle.std.proofs.Common.{◌≡◌, ◌∙◌, ℕ, zero, suc, ◌*◌, ◌<◌, Some, IsSomeAnd, slice_get, refl, sym, ap, subst, arith}
 use Rattle.std.specs.Prelude.{replicate}
-use Rattle.domain_base.specs.Page.{zero_bytes}
-use Rattle.record_table.specs.Fields.{number_at}
-use Rattle.fileset_table.specs.Page.{HasHeader, slot_bytes}
-use Rattle.fileset_table.specs.Slot.{IsSlot}
-use Rattle.fileset_table.specs.Table.{Table}
-use Rattle.fileset_table.specs.declared.slot.SlotItem.TheVariants.{Free}
-use Rattle.fileset_table.proofs.NewTable.{AreFree, new_is_table}
+use Rattle.domain_making.specs.domain_base.Page.{zero_bytes}
+use Rattle.domain_making.specs.cell_records.Fields.{number_at}
+use Rattle.domain_making.specs.fileset_table.Page.{HasHeader, slot_bytes}
+use Rattle.domain_making.specs.fileset_table.Slot.{IsSlot}
+use Rattle.domain_making.specs.fileset_table.Table.{Table}
+use Rattle.domain_making.specs.fileset_table.declared.slot.SlotItem.TheVariants.{Free}
+use Rattle.domain_making.proofs.OfFilesetTable.NewTable.{AreFree, new_is_table}
 use Rattle.layout_tests.specs.EmptyDomain.{table_front, table_page}
 use Rattle.layout_tests.proofs.Zeros.{part_behind}
-use Rattle.layout_laws.specs.NewDomain.{IsNewTablePage}
+use Rattle.domain_making.specs.domain_layout.NewDomain.{IsNewTablePage}
 
 abbrev free_table : Table
 free_table = record { slots = replicate 32 Free; made = 0 }

@@ -3,16 +3,16 @@ use Rattle.std.proofs.Common.{◌≡◌, ◌∙◌, ℕ, zero, suc, ◌+◌, ◌
 use Rattle.std.proofs.lemmas.Bool.{eq-eqb}
 use Rattle.std.proofs.lemmas.List.{drop-drop, drop_at, get_or-append_right, get_or-drop, take_at}
 use Rattle.std.specs.List.{range_with_len}
-use Rattle.domain_base.specs.Page.{length-zero_bytes, zero_bytes}
-use Rattle.record_table.specs.Fields.{number_at}
-use Rattle.record_table.specs.Records.{Allowed, NoExtent, spelled, spelling}
-use Rattle.record_table.specs.declared.record.Record.{Record}
-use Rattle.record_table.specs.declared.record.Record.TheVariants as written
-use Rattle.extent_records.specs.Writing.{no_extent}
-use Rattle.bmt_mcells.specs.declared.head.CellKind.TheVariants.{Primary}
-use Rattle.bmt_mcells.specs.Cell.{Cell, IsCell, IsFreeCell, IsFreeOrUsed}
-use Rattle.bmt_mcells.specs.CellPage.{IsCellPage, cell_of, index_of, is_cell_page, is_free_in, next_of}
-use Rattle.domain_layout.specs.CellRules.{next_in}
+use Rattle.domain_making.specs.domain_base.Page.{length-zero_bytes, zero_bytes}
+use Rattle.domain_making.specs.cell_records.Fields.{number_at}
+use Rattle.domain_making.specs.cell_records.Records.{Allowed, NoExtent, spelled, spelling}
+use Rattle.domain_making.specs.cell_records.declared.record.Record.{Record}
+use Rattle.domain_making.specs.cell_records.declared.record.Record.TheVariants as written
+use Rattle.domain_making.specs.extent_records.Writing.{no_extent}
+use Rattle.domain_making.specs.metadata_cells.declared.head.CellKind.TheVariants.{Primary}
+use Rattle.domain_making.specs.metadata_cells.Cell.{Cell, IsCell, IsFreeCell, IsFreeOrUsed}
+use Rattle.domain_making.specs.metadata_cells.CellPage.{IsCellPage, cell_of, index_of, is_cell_page, is_free_in, next_of}
+use Rattle.domain_making.specs.domain_layout.CellRules.{next_in}
 use Rattle.layout_tests.specs.OneFileset.{cells_front, cells_page, root_front}
 use Rattle.layout_tests.proofs.EmptyCells.{cell_bytes, says_volume, volume_cell}
 use Rattle.layout_tests.proofs.Zeros.{byte_behind, count_same, first_zeros, part_behind}

@@ -2,25 +2,25 @@
 use Rattle.std.proofs.Common.{◌≡◌, ◌∙◌, ℕ, zero, suc, ◌/◌, ◌%◌, Bool, true, false, cond, nat_eq, nat_lt, ◌&&◌, List, [], ◌∷◌, Option, Some, None, IfSome, IsSomeAnd, slice_get, refl, sym, ap, subst, arith, ⊎_elim}
 use Rattle.std.proofs.lemmas.Bool.{and_parts, both_ways, cases_Bool, eq-eqb, eqb-true}
 use Rattle.std.specs.Option.{option_and_then, option_map}
-use Rattle.domain_base.specs.declared.place.CellAt.{CellAt}
-use Rattle.domain_base.specs.declared.place.Kind.TheVariants.{Directory}
-use Rattle.domain_base.specs.declared.place.Tag.{Tag}
-use Rattle.page_store.specs.Bitfiles.{same_tag}
-use Rattle.page_store.specs.Pages.{Pages}
-use Rattle.record_table.specs.declared.record.Record.TheVariants as written
-use Rattle.bmt_mcells.specs.Chain.{PlacedCell, StandsAt}
-use Rattle.tag_dirs.specs.Directory.{IsDirectory, IsDirectoryAt, IsPageOf, home_behind, cell_for, cell_of}
-use Rattle.tag_dirs.specs.TagPage.{entry_of}
-use Rattle.tag_dirs.specs.declared.dir.TagPlace.{TagPlace}
-use Rattle.extent_maps.specs.Runs.{home_at}
-use Rattle.extent_maps.specs.declared.run.PagePlace.TheVariants.{Absent}
-use Rattle.extent_records.specs.Writing.{IsMapRecord, no_extent, places_before}
-use Rattle.bitfile_cells.specs.Files.{IsFile, places_of}
-use Rattle.bitfile_core.specs.Files.{AreApart, AreFiles, Chains, LeadsToFile}
-use Rattle.name_space.specs.Names.{root_tag}
-use Rattle.domain_layout.specs.Seen.{SeenFile, seen_in}
-use Rattle.domain_layout.specs.Shape.{HasChains}
-use Rattle.layout_laws.specs.NewDomain.{on_first}
+use Rattle.domain_making.specs.domain_base.declared.place.CellAt.{CellAt}
+use Rattle.domain_making.specs.domain_base.declared.place.Kind.TheVariants.{Directory}
+use Rattle.domain_making.specs.domain_base.declared.place.Tag.{Tag}
+use Rattle.domain_making.specs.page_store.Bitfiles.{same_tag}
+use Rattle.domain_making.specs.page_store.Pages.{Pages}
+use Rattle.domain_making.specs.cell_records.declared.record.Record.TheVariants as written
+use Rattle.domain_making.specs.metadata_cells.Chain.{PlacedCell, StandsAt}
+use Rattle.domain_making.specs.tag_dirs.Directory.{IsDirectory, IsDirectoryAt, IsPageOf, home_behind, cell_for, cell_of}
+use Rattle.domain_making.specs.tag_dirs.TagPage.{entry_of}
+use Rattle.domain_making.specs.tag_dirs.declared.dir.TagPlace.{TagPlace}
+use Rattle.domain_making.specs.extent_maps.Runs.{home_at}
+use Rattle.domain_making.specs.extent_maps.declared.run.PagePlace.TheVariants.{Absent}
+use Rattle.domain_making.specs.extent_records.Writing.{IsMapRecord, no_extent, places_before}
+use Rattle.domain_making.specs.file_chains.Files.{IsFile, places_of}
+use Rattle.domain_making.specs.fileset_files.Files.{AreApart, AreFiles, Chains, LeadsToFile}
+use Rattle.domain_making.specs.name_space.Names.{root_tag}
+use Rattle.domain_making.specs.domain_layout.Seen.{SeenFile, seen_in}
+use Rattle.domain_making.specs.domain_layout.Shape.{HasChains}
+use Rattle.domain_making.specs.domain_layout.NewDomain.{on_first}
 use Rattle.layout_tests.specs.OneFileset.{cells_page, tags_page}
 use Rattle.layout_tests.proofs.OneCells.{extents_allowed, root_bytes, root_cell, says_root}
 use Rattle.layout_tests.proofs.OneTags.{entry_a, first_index, good_tags, no_entry, no_next, none_behind, root_at, root_entry}

@@ -2,40 +2,40 @@
 use Rattle.std.proofs.Common.{◌≡◌, ◌∙◌, ◌⊎◌, ◌↔◌, inl, inr, ℕ, zero, suc, ◌+◌, ◌*◌, ◌<◌, ◌≤◌, Bool, true, false, cond, List, [], ◌∷◌, Some, None, Contains, is_some, refl, sym, ap, subst, arith, ⊎_elim}
 use Rattle.std.proofs.lemmas.Bool.{cases_order, or_cases}
 use Rattle.std.specs.List.{AllByRecursion}
-use Rattle.domain_base.specs.declared.place.CellAt.{CellAt}
-use Rattle.domain_base.specs.declared.place.Home.{Home}
-use Rattle.domain_base.specs.declared.place.Kind.TheVariants.{Directory}
-use Rattle.domain_base.specs.declared.place.Tag.{Tag}
-use Rattle.domain_base.specs.declared.version.Version.TheVariants.{Three}
-use Rattle.disk_label.specs.FirstPages.{first_pages}
-use Rattle.page_store.specs.Bitfiles.{same_tag}
-use Rattle.page_store.specs.Pages.{Pages}
-use Rattle.storage_bitmap.specs.Bits.{is_set}
-use Rattle.log_ring.specs.Homes.{member_of}
-use Rattle.record_table.specs.declared.record.Record.{Record}
-use Rattle.bmt_mcells.specs.Cell.{Cell, record_of}
-use Rattle.bmt_mcells.specs.Chain.{PlacedCell}
-use Rattle.bmt_mcells.proofs.Changed.{homes_same}
-use Rattle.tag_dirs.specs.Directory.{has_home}
-use Rattle.tag_dirs.specs.declared.dir.TagPlace.{TagPlace}
-use Rattle.tag_dirs.proofs.Reading.{same_directory}
-use Rattle.extent_maps.specs.declared.run.PagePlace.TheVariants.{Absent, At}
-use Rattle.extent_records.specs.Writing.{places_in}
-use Rattle.bitfile_core.specs.Files.{first_record}
-use Rattle.dir_pages.specs.declared.row.Row.{Row}
-use Rattle.fileset_table.specs.declared.slot.SlotItem.TheVariants.{Original}
-use Rattle.name_space.specs.Names.{root_tag}
-use Rattle.domain_layout.specs.CellRules.{IsUsed}
-use Rattle.domain_layout.proofs.There.{chain_is}
-use Rattle.domain_layout.specs.DirectoryRules.{Has, HasWrongParent, HasWrongSize, IsDirectoryFault, IsDirectoryPage, IsFileFault, IsInItem, IsInOriginal, IsIndexFault, IsRow, IsWrongFile, RowPlace}
-use Rattle.domain_layout.specs.Layout.{AreTagPlaces, IsLayout, Layout, first_tag_of}
-use Rattle.domain_layout.specs.Owners.{BelongsTo, HasExtent, HasTagPage, IsOnTable, IsOwned, Owner}
-use Rattle.domain_layout.specs.Owners.Owner.{of_cells, of_file, of_index, of_log, of_table, of_tags, of_volume}
-use Rattle.domain_layout.specs.PageRules.{IsBitmapFault, IsExtentFault}
-use Rattle.domain_layout.specs.Seen.{SeenFile, seen_in}
-use Rattle.layout_laws.specs.NewDomain.{on_first}
-use Rattle.layout_laws.proofs.OnePage.{some_same}
-use Rattle.layout_laws.proofs.OneTable.{cells_are, one_in, used_there}
+use Rattle.domain_making.specs.domain_base.declared.place.CellAt.{CellAt}
+use Rattle.domain_making.specs.domain_base.declared.place.Home.{Home}
+use Rattle.domain_making.specs.domain_base.declared.place.Kind.TheVariants.{Directory}
+use Rattle.domain_making.specs.domain_base.declared.place.Tag.{Tag}
+use Rattle.domain_making.specs.domain_base.declared.version.Version.TheVariants.{Three}
+use Rattle.domain_making.specs.disk_label.FirstPages.{first_pages}
+use Rattle.domain_making.specs.page_store.Bitfiles.{same_tag}
+use Rattle.domain_making.specs.page_store.Pages.{Pages}
+use Rattle.domain_making.specs.free_space.Bits.{is_set}
+use Rattle.domain_making.specs.log_ring.Homes.{member_of}
+use Rattle.domain_making.specs.cell_records.declared.record.Record.{Record}
+use Rattle.domain_making.specs.metadata_cells.Cell.{Cell, record_of}
+use Rattle.domain_making.specs.metadata_cells.Chain.{PlacedCell}
+use Rattle.domain_making.proofs.OfMetadataCells.Changed.{homes_same}
+use Rattle.domain_making.specs.tag_dirs.Directory.{has_home}
+use Rattle.domain_making.specs.tag_dirs.declared.dir.TagPlace.{TagPlace}
+use Rattle.domain_making.proofs.OfTagDirs.Reading.{same_directory}
+use Rattle.domain_making.specs.extent_maps.declared.run.PagePlace.TheVariants.{Absent, At}
+use Rattle.domain_making.specs.extent_records.Writing.{places_in}
+use Rattle.domain_making.specs.fileset_files.Files.{first_record}
+use Rattle.domain_making.specs.directory_pages.declared.row.Row.{Row}
+use Rattle.domain_making.specs.fileset_table.declared.slot.SlotItem.TheVariants.{Original}
+use Rattle.domain_making.specs.name_space.Names.{root_tag}
+use Rattle.domain_making.specs.domain_layout.CellRules.{IsUsed}
+use Rattle.domain_making.proofs.OfDomainLayout.There.{chain_is}
+use Rattle.domain_making.specs.domain_layout.DirectoryRules.{Has, HasWrongParent, HasWrongSize, IsDirectoryFault, IsDirectoryPage, IsFileFault, IsInItem, IsInOriginal, IsIndexFault, IsRow, IsWrongFile, RowPlace}
+use Rattle.domain_making.specs.domain_layout.Layout.{AreTagPlaces, IsLayout, Layout, first_tag_of}
+use Rattle.domain_making.specs.domain_layout.Owners.{BelongsTo, HasExtent, HasTagPage, IsOnTable, IsOwned, Owner}
+use Rattle.domain_making.specs.domain_layout.Owners.Owner.{of_cells, of_file, of_index, of_log, of_table, of_tags, of_volume}
+use Rattle.domain_making.specs.domain_layout.PageRules.{IsBitmapFault, IsExtentFault}
+use Rattle.domain_making.specs.domain_layout.Seen.{SeenFile, seen_in}
+use Rattle.domain_making.specs.domain_layout.NewDomain.{on_first}
+use Rattle.domain_making.proofs.OfDomainLayout.OnePage.{some_same}
+use Rattle.domain_making.proofs.OfDomainLayout.OneTable.{cells_are, one_in, used_there}
 use Rattle.layout_tests.specs.OneFileset.{bitmap_page, cells_page, tags_page}
 use Rattle.layout_tests.specs.Written.{anchor_of, frame_of}
 use Rattle.layout_tests.proofs.Bitmap.{bits_are, six_bits}

@@ -1,23 +1,23 @@
 -- What the domain with one fileset means.
 use Rattle.std.proofs.Common.{◌≡◌, ◌∙◌, ◌⊎◌, ◌<◌, [], ◌∷◌, Some, None, Option, IsSomeAnd, refl, sym, ap, subst, arith, ⊎_elim}
-use Rattle.domain_base.specs.declared.place.Home.{Home}
-use Rattle.domain_base.specs.declared.version.Version.TheVariants.{Three}
-use Rattle.page_store.specs.Pages.{Pages}
-use Rattle.log_ring.specs.Groups.{pages_in}
-use Rattle.fileset_table.specs.Page.{IsTablePage}
-use Rattle.fileset_table.specs.Table.{Table}
-use Rattle.fileset_table.proofs.Unique.{table_unique}
-use Rattle.domain_layout.specs.DirectoryRules.{IsDirectoryFault, IsIndexFault}
-use Rattle.domain_layout.specs.Faults.{FaultRow, HasNoFault, IsFilesFault, IsTableFault, IsTablesFault}
-use Rattle.domain_layout.specs.CellRules.{IsCellsFault}
-use Rattle.domain_layout.specs.TagRules.{IsTagsFault}
-use Rattle.domain_layout.specs.Layout.{IsLayout, Layout}
-use Rattle.domain_layout.specs.Owners.{frame_of as frame_in}
-use Rattle.domain_layout.specs.PageRules.{IsBitmapFault, IsExtentFault}
-use Rattle.domain_layout.specs.Reached.{Frame, first_cells}
-use Rattle.domain_layout.specs.Read.{Means}
-use Rattle.layout_laws.specs.NewDomain.{on_first}
-use Rattle.layout_laws.proofs.OnePage.{some_same}
+use Rattle.domain_making.specs.domain_base.declared.place.Home.{Home}
+use Rattle.domain_making.specs.domain_base.declared.version.Version.TheVariants.{Three}
+use Rattle.domain_making.specs.page_store.Pages.{Pages}
+use Rattle.domain_making.specs.log_ring.Groups.{pages_in}
+use Rattle.domain_making.specs.fileset_table.Page.{IsTablePage}
+use Rattle.domain_making.specs.fileset_table.Table.{Table}
+use Rattle.domain_making.proofs.OfFilesetTable.Unique.{table_unique}
+use Rattle.domain_making.specs.domain_layout.DirectoryRules.{IsDirectoryFault, IsIndexFault}
+use Rattle.domain_making.specs.domain_layout.Faults.{FaultRow, HasNoFault, IsFilesFault, IsTableFault, IsTablesFault}
+use Rattle.domain_making.specs.domain_layout.CellRules.{IsCellsFault}
+use Rattle.domain_making.specs.domain_layout.TagRules.{IsTagsFault}
+use Rattle.domain_making.specs.domain_layout.Layout.{IsLayout, Layout}
+use Rattle.domain_making.specs.domain_layout.Owners.{frame_of as frame_in}
+use Rattle.domain_making.specs.domain_layout.PageRules.{IsBitmapFault, IsExtentFault}
+use Rattle.domain_making.specs.domain_layout.Reached.{Frame, first_cells}
+use Rattle.domain_making.specs.domain_layout.Read.{Means}
+use Rattle.domain_making.specs.domain_layout.NewDomain.{on_first}
+use Rattle.domain_making.proofs.OfDomainLayout.OnePage.{some_same}
 use Rattle.layout_tests.specs.OneFileset.{bitmap_page, cells_page, filesets, image_of, page_of, table_page, tags_page}
 use Rattle.layout_tests.specs.Written.{anchor_of, frame_of}
 use Rattle.layout_tests.proofs.EmptyImage.{length-bitmap}

@@ -2,39 +2,39 @@
 use Rattle.std.proofs.Common.{◌≡◌, ◌∙◌, inl, ℕ, Bool, true, false, cond, nat_eq, [], ◌∷◌, count_by, Option, Some, None, IfSome, IsSome, IsSomeAnd, is_some, slice_get, refl, sym, ap, subst, arith, ⊎_elim}
 use Rattle.std.specs.FinMap as map
 use Rattle.std.specs.FinMap.{get}
-use Rattle.fileset_model.proofs.MoveLemmas.{entries-empty}
+use Rattle.domain_making.proofs.OfFilesetModel.MoveLemmas.{entries-empty}
 use Rattle.std.specs.Cmp.{nat_cmp_total}
 use Rattle.std.specs.Ordering.{eq_by_cmp, is_eq}
 use Rattle.std.specs.declared.cmp.Ordering.{Ordering}
 use Rattle.std.specs.declared.cmp.Ordering.TheVariants.{Equal, Greater, Less}
 use Rattle.std.specs.Option.{option_and_then, option_map, unwrap_or}
-use Rattle.domain_base.specs.declared.place.Kind.{Kind}
-use Rattle.domain_base.specs.declared.place.Kind.TheVariants.{Directory}
-use Rattle.domain_base.specs.declared.place.Tag.{Tag}
-use Rattle.page_store.specs.Bitfiles.{Bitfile, Bitfiles, IsDirectory, same_tag}
-use Rattle.page_store.specs.Pages.{Pages}
-use Rattle.bitfile_core.specs.Shown.{ShowsAt}
-use Rattle.dir_rows.specs.Directory.{IsWellFormed}
-use Rattle.fileset_laws.proofs.ValidTreeLemmas.{empty_fileset-valid}
-use Rattle.fileset_model.specs.LooksLike.{IsShown}
-use Rattle.fileset_model.specs.Orders.{Name, Path, name_cmp, name_cmp-IsAntisymmetric, name_cmp-total, owner_cmp, path_cmp, path_cmp-total}
-use Rattle.fileset_model.specs.Paths.{is_directory, paths_to}
-use Rattle.fileset_model.specs.declared.command.Owner.{Owner}
-use Rattle.fileset_model.specs.declared.command.Owner.TheVariants as owner
-use Rattle.fileset_model.specs.declared.fileset.FilesetSlot.{FilesetSlot}
-use Rattle.fileset_model.specs.declared.fileset.Limits.{Limits}
-use Rattle.fileset_model.specs.declared.node.Node.TheVariants as node
-use Rattle.fileset_table.specs.Page.{IsTablePage}
-use Rattle.fileset_table.specs.Table.{entry_of}
-use Rattle.fileset_table.specs.declared.slot.SlotItem.{SlotItem}
-use Rattle.fileset_table.specs.declared.slot.SlotItem.TheVariants.{Original}
-use Rattle.name_space.specs.Names.{IsNodeOf, IsShownAs, Names, led_to, number_of, root_tag}
-use Rattle.domain_layout.specs.Filled.{Contents, Fills, FillsThere, IsFilled}
-use Rattle.domain_layout.specs.Read.{ReadsFrom, contents_of}
-use Rattle.domain_layout.specs.Seen.{SeenFile, seen_in}
-use Rattle.domain_layout.specs.Shape.{FilesetShape, HasFileset, IsOriginal, IsShapeOf, Shapes, limits_in}
-use Rattle.layout_laws.specs.NewDomain.{on_first}
-use Rattle.layout_laws.proofs.OnePage.{some_same}
+use Rattle.domain_making.specs.domain_base.declared.place.Kind.{Kind}
+use Rattle.domain_making.specs.domain_base.declared.place.Kind.TheVariants.{Directory}
+use Rattle.domain_making.specs.domain_base.declared.place.Tag.{Tag}
+use Rattle.domain_making.specs.page_store.Bitfiles.{Bitfile, Bitfiles, IsDirectory, same_tag}
+use Rattle.domain_making.specs.page_store.Pages.{Pages}
+use Rattle.domain_making.specs.fileset_files.Shown.{ShowsAt}
+use Rattle.domain_making.specs.directory_rows.Directory.{IsWellFormed}
+use Rattle.domain_making.proofs.OfLegalHistories.ValidTreeLemmas.{empty_fileset-valid}
+use Rattle.domain_making.specs.fileset_model.LooksLike.{IsShown}
+use Rattle.domain_making.specs.fileset_values.Orders.{Name, Path, name_cmp, name_cmp-IsAntisymmetric, name_cmp-total, owner_cmp, path_cmp, path_cmp-total}
+use Rattle.domain_making.specs.fileset_model.Paths.{is_directory, paths_to}
+use Rattle.domain_making.specs.fileset_values.declared.command.Owner.{Owner}
+use Rattle.domain_making.specs.fileset_values.declared.command.Owner.TheVariants as owner
+use Rattle.domain_making.specs.fileset_model.declared.fileset.FilesetSlot.{FilesetSlot}
+use Rattle.domain_making.specs.fileset_model.declared.fileset.Limits.{Limits}
+use Rattle.domain_making.specs.fileset_model.declared.node.Node.TheVariants as node
+use Rattle.domain_making.specs.fileset_table.Page.{IsTablePage}
+use Rattle.domain_making.specs.fileset_table.Table.{entry_of}
+use Rattle.domain_making.specs.fileset_table.declared.slot.SlotItem.{SlotItem}
+use Rattle.domain_making.specs.fileset_table.declared.slot.SlotItem.TheVariants.{Original}
+use Rattle.domain_making.specs.name_space.Names.{IsNodeOf, IsShownAs, Names, led_to, number_of, root_tag}
+use Rattle.domain_making.specs.domain_layout.Filled.{Contents, Fills, FillsThere, IsFilled}
+use Rattle.domain_making.specs.domain_layout.Read.{ReadsFrom, contents_of}
+use Rattle.domain_making.specs.domain_layout.Seen.{SeenFile, seen_in}
+use Rattle.domain_making.specs.domain_layout.Shape.{FilesetShape, HasFileset, IsOriginal, IsShapeOf, Shapes, limits_in}
+use Rattle.domain_making.specs.domain_layout.NewDomain.{on_first}
+use Rattle.domain_making.proofs.OfDomainLayout.OnePage.{some_same}
 use Rattle.layout_tests.specs.OneFileset.{cells_page, fileset_a, filesets, name_a, table_page, tags_page}
 use Rattle.layout_tests.proofs.OneChains.{chains_a, has_chains, is_root, root_cells, root_seen}
 use Rattle.layout_tests.proofs.OneTags.{entry_a, item_is, one_table, says_table}

@@ -1,37 +1,37 @@
 -- The domain with one fileset breaks no rule of cells and tags.
 use Rattle.std.proofs.Common.{◌≡◌, ◌∙◌, ◌⊎◌, inl, inr, ℕ, zero, suc, ◌<◌, true, false, nat_eq, List, [], length, Some, None, Contains, IsSomeAnd, slice_get, refl, sym, ap, subst, arith, ⊎_elim}
 use Rattle.std.proofs.lemmas.Bool.{eq-eqb, eqb-true}
-use Rattle.domain_base.specs.declared.place.CellAt.{CellAt}
-use Rattle.domain_base.specs.declared.place.Home.{Home}
-use Rattle.domain_base.specs.declared.place.Tag.{Tag}
-use Rattle.domain_base.specs.declared.version.Version.TheVariants.{Three}
-use Rattle.page_store.specs.Pages.{Pages}
-use Rattle.record_table.specs.Fields.{number_at}
-use Rattle.record_table.specs.declared.record.Record.{Record}
-use Rattle.record_table.specs.declared.record.Record.TheVariants as written
-use Rattle.bmt_mcells.specs.declared.head.CellKind.{CellKind}
-use Rattle.bmt_mcells.specs.declared.head.CellKind.TheVariants.{Chain, Primary, Quota, Volume}
-use Rattle.bmt_mcells.specs.Cell.{Cell, IsCell, IsFreeCell, kind_number, record_of}
-use Rattle.bmt_mcells.specs.Chain.{StandsAt}
-use Rattle.bmt_mcells.specs.CellPage.{cell_at, cell_of, home_of}
-use Rattle.bmt_mcells.proofs.CellKinds.{kind_there, zeros_kind}
-use Rattle.bmt_mcells.proofs.Unique.{one_cell}
-use Rattle.bmt_mcells.proofs.Walk.{one_kind}
-use Rattle.tag_dirs.specs.TagPage.{IsTagPage, entry_of, index_of, next_of, slot_of}
-use Rattle.tag_dirs.specs.declared.page.TagEntry.{TagEntry}
-use Rattle.fileset_table.specs.Table.{entry_of as fileset_of}
-use Rattle.fileset_table.specs.declared.slot.FilesetEntry.{FilesetEntry}
-use Rattle.fileset_table.specs.declared.slot.SlotItem.{SlotItem}
-use Rattle.fileset_table.specs.declared.slot.SlotItem.TheVariants.{Original}
-use Rattle.name_space.specs.Names.{root_tag}
-use Rattle.domain_layout.specs.CellRules.{Follows, HasWrongCell, IsCellFault, IsCellOf, IsCellsFault, IsFirstPlace, SaysVolume, IsLink, IsPlace, IsUsed, IsWrongVolumeCell, Link, begins, goes_on, has_kind, is_good_first, item_of, next_in, of_original, say_removed}
-use Rattle.domain_layout.specs.Layout.{first_tag_of}
-use Rattle.domain_layout.specs.Reached.{first_cells, on_volume, IsRead, IsUnread, MayBe, Reaches, tags_way}
-use Rattle.domain_layout.specs.Reached as reaching
-use Rattle.domain_layout.specs.TagRules.{HasEntry, HasTags, HasWrongNumber, IsFirstOf, IsLate, IsNamingFault, IsTagsFault, IsTagsPage, IsWrongSlot, original_slot}
-use Rattle.layout_laws.specs.NewDomain.{IsNewAnchor, on_first}
-use Rattle.layout_laws.proofs.NewCells.{kind_some}
-use Rattle.layout_laws.proofs.OnePage.{IsFirst, at_first, bytes_are, cell_said, first_read, in_none, no_cells_page, no_wrong_header, some_same, that_page}
+use Rattle.domain_making.specs.domain_base.declared.place.CellAt.{CellAt}
+use Rattle.domain_making.specs.domain_base.declared.place.Home.{Home}
+use Rattle.domain_making.specs.domain_base.declared.place.Tag.{Tag}
+use Rattle.domain_making.specs.domain_base.declared.version.Version.TheVariants.{Three}
+use Rattle.domain_making.specs.page_store.Pages.{Pages}
+use Rattle.domain_making.specs.cell_records.Fields.{number_at}
+use Rattle.domain_making.specs.cell_records.declared.record.Record.{Record}
+use Rattle.domain_making.specs.cell_records.declared.record.Record.TheVariants as written
+use Rattle.domain_making.specs.metadata_cells.declared.head.CellKind.{CellKind}
+use Rattle.domain_making.specs.metadata_cells.declared.head.CellKind.TheVariants.{Chain, Primary, Quota, Volume}
+use Rattle.domain_making.specs.metadata_cells.Cell.{Cell, IsCell, IsFreeCell, kind_number, record_of}
+use Rattle.domain_making.specs.metadata_cells.Chain.{StandsAt}
+use Rattle.domain_making.specs.metadata_cells.CellPage.{cell_at, cell_of, home_of}
+use Rattle.domain_making.proofs.OfMetadataCells.CellKinds.{kind_there, zeros_kind}
+use Rattle.domain_making.proofs.OfMetadataCells.Unique.{one_cell}
+use Rattle.domain_making.proofs.OfMetadataCells.Walk.{one_kind}
+use Rattle.domain_making.specs.tag_dirs.TagPage.{IsTagPage, entry_of, index_of, next_of, slot_of}
+use Rattle.domain_making.specs.tag_dirs.declared.page.TagEntry.{TagEntry}
+use Rattle.domain_making.specs.fileset_table.Table.{entry_of as fileset_of}
+use Rattle.domain_making.specs.fileset_table.declared.slot.FilesetEntry.{FilesetEntry}
+use Rattle.domain_making.specs.fileset_table.declared.slot.SlotItem.{SlotItem}
+use Rattle.domain_making.specs.fileset_table.declared.slot.SlotItem.TheVariants.{Original}
+use Rattle.domain_making.specs.name_space.Names.{root_tag}
+use Rattle.domain_making.specs.domain_layout.CellRules.{Follows, HasWrongCell, IsCellFault, IsCellOf, IsCellsFault, IsFirstPlace, SaysVolume, IsLink, IsPlace, IsUsed, IsWrongVolumeCell, Link, begins, goes_on, has_kind, is_good_first, item_of, next_in, of_original, say_removed}
+use Rattle.domain_making.specs.domain_layout.Layout.{first_tag_of}
+use Rattle.domain_making.specs.domain_layout.Reached.{first_cells, on_volume, IsRead, IsUnread, MayBe, Reaches, tags_way}
+use Rattle.domain_making.specs.domain_layout.Reached as reaching
+use Rattle.domain_making.specs.domain_layout.TagRules.{HasEntry, HasTags, HasWrongNumber, IsFirstOf, IsLate, IsNamingFault, IsTagsFault, IsTagsPage, IsWrongSlot, original_slot}
+use Rattle.domain_making.specs.domain_layout.NewDomain.{IsNewAnchor, on_first}
+use Rattle.domain_making.proofs.OfDomainLayout.NewCells.{kind_some}
+use Rattle.domain_making.proofs.OfDomainLayout.OnePage.{IsFirst, at_first, bytes_are, cell_said, first_read, in_none, no_cells_page, no_wrong_header, some_same, that_page}
 use Rattle.layout_tests.specs.OneFileset.{cells_page, tags_page}
 use Rattle.layout_tests.specs.Written.{frame_of}
 use Rattle.layout_tests.proofs.EmptyCells.{volume_cell}

@@ -2,19 +2,19 @@
 use Rattle.std.proofs.Common.{◌≡◌, ◌∙◌, ◌⊎◌, inl, inr, drop, ℕ, zero, suc, ◌+◌, ◌*◌, ◌<◌, ◌≤◌, List, ◌∷◌, Bool, false, cond, nat_eq, Option, Some, None, IfSome, IsSomeAnd, length, slice_get, take, refl, sym, ap, subst, arith, length-append}
 use Rattle.std.specs.Prelude.{replicate}
 use Rattle.std.specs.List.{AllByRecursion, IsDistinct}
-use Rattle.domain_base.specs.Page.{length-zero_bytes, zero_bytes}
-use Rattle.domain_base.specs.declared.place.CellAt.{CellAt}
-use Rattle.record_table.specs.Fields.{number_at}
-use Rattle.bmt_mcells.specs.Cell.{IsAddress}
-use Rattle.tag_dirs.specs.TagPage.{IsAllowed, IsSpelled, IsTagPage, cell_in, entry_of, index_of, next_of, slot_of}
-use Rattle.fileset_table.specs.Page.{HasHeader, IsTablePage, slot_bytes}
-use Rattle.fileset_table.specs.Slot.{IsSlot}
-use Rattle.fileset_table.specs.Table.{IsTable, Table, is_fileset, leads_to_original, share_name, share_original}
-use Rattle.fileset_table.specs.Table as table
-use Rattle.fileset_table.specs.declared.slot.FilesetEntry.{FilesetEntry}
-use Rattle.fileset_table.specs.declared.slot.SlotItem.{SlotItem}
-use Rattle.fileset_table.specs.declared.slot.SlotItem.TheVariants.{Free, Original}
-use Rattle.layout_laws.proofs.OnePage.{some_same}
+use Rattle.domain_making.specs.domain_base.Page.{length-zero_bytes, zero_bytes}
+use Rattle.domain_making.specs.domain_base.declared.place.CellAt.{CellAt}
+use Rattle.domain_making.specs.cell_records.Fields.{number_at}
+use Rattle.domain_making.specs.metadata_cells.Cell.{IsAddress}
+use Rattle.domain_making.specs.tag_dirs.TagPage.{IsAllowed, IsSpelled, IsTagPage, cell_in, entry_of, index_of, next_of, slot_of}
+use Rattle.domain_making.specs.fileset_table.Page.{HasHeader, IsTablePage, slot_bytes}
+use Rattle.domain_making.specs.fileset_table.Slot.{IsSlot}
+use Rattle.domain_making.specs.fileset_table.Table.{IsTable, Table, is_fileset, leads_to_original, share_name, share_original}
+use Rattle.domain_making.specs.fileset_table.Table as table
+use Rattle.domain_making.specs.fileset_table.declared.slot.FilesetEntry.{FilesetEntry}
+use Rattle.domain_making.specs.fileset_table.declared.slot.SlotItem.{SlotItem}
+use Rattle.domain_making.specs.fileset_table.declared.slot.SlotItem.TheVariants.{Free, Original}
+use Rattle.domain_making.proofs.OfDomainLayout.OnePage.{some_same}
 use Rattle.layout_tests.specs.OneFileset.{name_a, table_front, table_page, tags_front, tags_page}
 use Rattle.layout_tests.proofs.Zeros.{first_zeros, number_behind, part_behind}
 

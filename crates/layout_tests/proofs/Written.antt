@@ -2,10 +2,10 @@
 use Rattle.std.proofs.Common.{◌≡◌, ◌∙◌, ℕ, zero, suc, ◌+◌, ◌*◌, ◌/◌, ◌%◌, ◌<◌, ◌≤◌, List, ◌∷◌, ◌++◌, length, drop, take, slice_index, refl, sym, ap, arith, length-append}
 use Rattle.std.proofs.lemmas.List.{length-replicate, take_all}
 use Rattle.std.proofs.Math.Seq.{drop-cons}
-use Rattle.domain_base.specs.Gate.{opened}
-use Rattle.domain_base.specs.Page.{length-zero_bytes, zero_bytes}
-use Rattle.domain_base.specs.declared.version.Version.{Version}
-use Rattle.volume_disk.specs.Image.{bytes_at, bytes_from, page_at}
+use Rattle.domain_making.specs.domain_base.Gate.{opened}
+use Rattle.domain_making.specs.domain_base.Page.{length-zero_bytes, zero_bytes}
+use Rattle.domain_making.specs.domain_base.declared.version.Version.{Version}
+use Rattle.domain_making.specs.volume_disk.Image.{bytes_at, bytes_from, page_at}
 use Rattle.layout_tests.specs.Written.{anchor_front, anchors_page, image_with, label_front, label_page}
 
 -- bytes of a volume from a place of a page on

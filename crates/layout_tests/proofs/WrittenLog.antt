@@ -1,24 +1,24 @@
 -- A volume with such a label and anchor, and a log whose first gate is closed: no fault of the first codes is there.
 use Rattle.std.proofs.Common.{◌≡◌, ◌∙◌, ◌⊎◌, inl, inr, ℕ, zero, suc, ◌+◌, ◌<◌, ◌≤◌, cond, nat_eq, List, [], ◌∷◌, ◌++◌, Some, None, length, drop, take, slice_index, refl, sym, ap, subst, arith, ⊎_elim}
 use Rattle.std.proofs.lemmas.List.{drop_at, get_or-append_right, length-replicate}
-use Rattle.domain_base.specs.Gate.{opened}
-use Rattle.domain_base.specs.Page.{zero_bytes}
-use Rattle.domain_base.specs.Version.{bitmap_pages, most_pages, number_of}
-use Rattle.domain_base.specs.declared.version.Version.{Version}
-use Rattle.domain_base.specs.declared.version.Version.TheVariants.{Three, Four}
-use Rattle.volume_disk.specs.Disk.{volume_pages}
-use Rattle.volume_disk.specs.Image.{bytes_at}
-use Rattle.disk_label.specs.Anchor.{Counts, IsAnchor, anchor_at, volume_of}
-use Rattle.disk_label.specs.Body.{HasLogMember, anchor_from, no_member, word_at}
-use Rattle.disk_label.specs.Label.{IsLabel, label_block}
-use Rattle.disk_label.specs.declared.anchor.Anchor.{Anchor}
-use Rattle.log_ring.specs.Groups.{Group, HasLog, span}
-use Rattle.log_ring.specs.Homes.{member_of}
-use Rattle.log_ring.specs.Ring.{IsGateOpen}
-use Rattle.log_recovery.specs.Groups.{AreInTurn, IsFirstNoGroup}
-use Rattle.log_recovery.specs.Members.{IsFirstUnlabelled, IsLabelled, label_version}
-use Rattle.log_recovery.specs.Outcome.{IsFirstFault, IsOutOfRange}
-use Rattle.log_recovery.specs.Range.{IsInRange, IsSized}
+use Rattle.domain_making.specs.domain_base.Gate.{opened}
+use Rattle.domain_making.specs.domain_base.Page.{zero_bytes}
+use Rattle.domain_making.specs.domain_base.Version.{bitmap_pages, most_pages, number_of}
+use Rattle.domain_making.specs.domain_base.declared.version.Version.{Version}
+use Rattle.domain_making.specs.domain_base.declared.version.Version.TheVariants.{Three, Four}
+use Rattle.domain_making.specs.volume_disk.Disk.{volume_pages}
+use Rattle.domain_making.specs.volume_disk.Image.{bytes_at}
+use Rattle.domain_making.specs.disk_label.Anchor.{Counts, IsAnchor, anchor_at, volume_of}
+use Rattle.domain_making.specs.disk_label.Body.{HasLogMember, anchor_from, no_member, word_at}
+use Rattle.domain_making.specs.disk_label.Label.{IsLabel, label_block}
+use Rattle.domain_making.specs.disk_label.declared.anchor.Anchor.{Anchor}
+use Rattle.domain_making.specs.log_ring.Groups.{Group, HasLog, span}
+use Rattle.domain_making.specs.log_ring.Homes.{member_of}
+use Rattle.domain_making.specs.log_ring.Ring.{IsGateOpen}
+use Rattle.domain_making.specs.log_recovery.Groups.{AreInTurn, IsFirstNoGroup}
+use Rattle.domain_making.specs.log_recovery.Members.{IsFirstUnlabelled, IsLabelled, label_version}
+use Rattle.domain_making.specs.log_recovery.Outcome.{IsFirstFault, IsOutOfRange}
+use Rattle.domain_making.specs.log_recovery.Range.{IsInRange, IsSized}
 use Rattle.layout_tests.specs.Written.{anchor_front, anchor_of, anchors_page, image_with, label_front, label_page}
 use Rattle.layout_tests.proofs.Written.{length-anchors, length-label, part_is}
 use Rattle.layout_tests.proofs.Zeros.{first_zeros, zero_anywhere}

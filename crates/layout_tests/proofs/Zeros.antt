@@ -2,8 +2,8 @@
 use Rattle.std.proofs.Common.{◌≡◌, ◌∙◌, ℕ, zero, suc, ◌+◌, ◌-◌, ◌≤◌, Bool, List, ◌++◌, length, drop, take, count_by, slice_index, refl, sym, ap, arith}
 use Rattle.std.proofs.lemmas.List.{drop-drop, drop-replicate, drop_at, take-replicate, get_or-append-add, get_or-drop}
 use Rattle.byteorder.specs.Endian.{little_from}
-use Rattle.domain_base.specs.Page.{zero_bytes}
-use Rattle.record_table.specs.Fields.{number_at}
+use Rattle.domain_making.specs.domain_base.Page.{zero_bytes}
+use Rattle.domain_making.specs.cell_records.Fields.{number_at}
 
 pub zero_anywhere : (n i : ℕ) → slice_index (zero_bytes n) i ≡ 0
 unfolding zero_bytes

@@ -1,8 +1,8 @@
 -- A domain without filesets, byte by byte.
 use Rattle.std.specs.Prelude.{◌==◌, ◌++◌, ℕ, List, [], ◌∷◌, if◌then◌else◌}
-use Rattle.domain_base.specs.Page.{zero_bytes}
-use Rattle.domain_base.specs.declared.version.Version.{Version}
-use Rattle.volume_disk.specs.Image.{Image}
+use Rattle.domain_making.specs.domain_base.Page.{zero_bytes}
+use Rattle.domain_making.specs.domain_base.declared.version.Version.{Version}
+use Rattle.domain_making.specs.volume_disk.Image.{Image}
 use Rattle.layout_tests.specs.Written.{anchors_page, bitmap_with, image_with, label_page}
 
 -- pages 0 to 132 are used

@@ -1,14 +1,14 @@
 -- A domain of version 3 with one fileset, `a`, whose root directory has no row, byte by byte.
 use Rattle.std.specs.Prelude.{◌==◌, ◌++◌, ℕ, List, [], ◌∷◌, if◌then◌else◌}
 use Rattle.std.specs.FinMap.{empty, insert}
-use Rattle.domain_base.specs.Page.{zero_bytes}
-use Rattle.domain_base.specs.declared.version.Version.TheVariants.{Three}
-use Rattle.volume_disk.specs.Image.{Image}
-use Rattle.fileset_model.specs.Apply.{empty_fileset}
-use Rattle.fileset_model.specs.Filesets.{FilesetMap}
-use Rattle.fileset_model.specs.Orders.{Name}
-use Rattle.fileset_model.specs.declared.fileset.FilesetSlot.{FilesetSlot}
-use Rattle.fileset_model.specs.declared.fileset.Role.TheVariants.{Original}
+use Rattle.domain_making.specs.domain_base.Page.{zero_bytes}
+use Rattle.domain_making.specs.domain_base.declared.version.Version.TheVariants.{Three}
+use Rattle.domain_making.specs.volume_disk.Image.{Image}
+use Rattle.domain_making.specs.fileset_model.Apply.{empty_fileset}
+use Rattle.domain_making.specs.fileset_model.Filesets.{FilesetMap}
+use Rattle.domain_making.specs.fileset_values.Orders.{Name}
+use Rattle.domain_making.specs.fileset_model.declared.fileset.FilesetSlot.{FilesetSlot}
+use Rattle.domain_making.specs.fileset_model.declared.fileset.Role.TheVariants.{Original}
 use Rattle.layout_tests.specs.Written.{anchors_page, bitmap_with, image_with, label_page}
 
 -- pages 0 to 133 are used

@@ -1,14 +1,14 @@
 -- Volumes that are written down page by page: one of 512 pages, with the log on pages 4 to 131 and
 -- the fileset table on page 132.
 use Rattle.std.specs.Prelude.{◌==◌, ◌++◌, ◌/◌, ◌%◌, ℕ, List, [], ◌∷◌, Some, if◌then◌else◌, replicate, slice_index}
-use Rattle.domain_base.specs.Gate.{opened}
-use Rattle.domain_base.specs.Page.{zero_bytes}
-use Rattle.domain_base.specs.Version.{number_of}
-use Rattle.domain_base.specs.declared.version.Version.{Version}
-use Rattle.volume_disk.specs.Image.{Image}
-use Rattle.disk_label.specs.Body.{no_member}
-use Rattle.disk_label.specs.declared.anchor.Anchor.{Anchor}
-use Rattle.domain_layout.specs.Reached.{Frame}
+use Rattle.domain_making.specs.domain_base.Gate.{opened}
+use Rattle.domain_making.specs.domain_base.Page.{zero_bytes}
+use Rattle.domain_making.specs.domain_base.Version.{number_of}
+use Rattle.domain_making.specs.domain_base.declared.version.Version.{Version}
+use Rattle.domain_making.specs.volume_disk.Image.{Image}
+use Rattle.domain_making.specs.disk_label.Body.{no_member}
+use Rattle.domain_making.specs.disk_label.declared.anchor.Anchor.{Anchor}
+use Rattle.domain_making.specs.domain_layout.Reached.{Frame}
 
 -- as many bytes of which each bit is 1
 unfoldable pub full_bytes : ℕ → List ℕ

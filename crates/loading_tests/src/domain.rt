@@ -1,14 +1,9 @@
 //! All pages of a domain's tables.
 use crate::fixture::{frame, has_members, rack_with, there, write_page};
 use crate::tables::table_with;
-use domain_base::Page;
-use domain_loading::load_tables;
-use memory_store::MemoryPages;
-use metadata_loading::LoadFault;
+use image_loading::{LoadFault, MemoryPages, Page, Rack, TableRead, load_tables};
 use std::alloc::Global;
 use std::test::Fail;
-use table_faults::TableRead;
-use volume_disk::Rack;
 
 /// What is read of the fileset table.
 #[derive(Clone, Copy, Debug, PartialEq, Eq)]

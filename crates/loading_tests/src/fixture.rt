@@ -2,17 +2,15 @@
 //! 3, pages 4 to 131 are the log's, and its fileset table stands at page 132.
 ghost use Rattle.std.specs.Prelude.{IsTrue};
 ghost use Rattle.loading_tests.specs.Members.{HasMember};
-ghost use Rattle.log_ring.specs.Homes.{HasMembers};
+ghost use Rattle.image_loading.specs.log_ring.Homes.{HasMembers};
 
-use disk_label::{Anchor, Member};
-use domain_base::limits::{BLOCKS_PER_PAGE, MAX_VOLUME_PAGES_4, MAX_VOLUMES};
-use domain_base::{Home, OutOfMemory, Page, Version, VolIx};
+use image_loading::limits::{BLOCKS_PER_PAGE, MAX_VOLUME_PAGES_4, MAX_VOLUMES};
+use image_loading::{
+    Anchor, DomainFrame, Home, Member, MemoryPages, MetaPages, OutOfMemory, Page, Rack, Version,
+    VolIx,
+};
 use memory_disk::MemoryRack;
-use memory_store::MemoryPages;
-use page_store::MetaPages;
-use page_ways::DomainFrame;
 use std::alloc::Global;
-use volume_disk::Rack;
 
 /// A page of volume 1.
 pub fn home(page: u32) -> Home {

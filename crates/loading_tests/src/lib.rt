@@ -6,4 +6,8 @@ mod domain;
 #[cfg(test)]
 mod fixture;
 #[cfg(test)]
+mod index_fixture;
+#[cfg(test)]
+mod indexes;
+#[cfg(test)]
 mod tables;

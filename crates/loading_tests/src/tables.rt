@@ -1,13 +1,11 @@
 //! Pages of tables that are brought.
 use crate::fixture::{frame, has_members, home, led_page, rack_with, there};
-use domain_base::{FilesetNo, OutOfMemory, Page};
-use fileset_table::{FilesetTable, SlotItem};
-use memory_store::MemoryPages;
-use metadata_loading::{LoadFault, load_bitmaps, load_cells, load_table, load_tags};
-use page_store::MetaPages;
+use image_loading::{
+    FilesetNo, FilesetTable, LoadFault, MemoryPages, MetaPages, OutOfMemory, Page, Rack, SlotItem,
+    load_bitmaps, load_cells, load_table, load_tags,
+};
 use std::alloc::Global;
 use std::test::Fail;
-use volume_disk::Rack;
 
 /// The pages of cells of the domain.
 fn cells<R: Rack>(alloc: Global, rack: &mut R, pages: &mut MemoryPages) -> Result<(), LoadFault> {

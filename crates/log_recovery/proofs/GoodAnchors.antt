@@ -1,19 +1,19 @@
 -- A good anchor stays good while the labels stay, and recovery takes the images left meanwhile.
 use Rattle.std.proofs.Common.{◌≡◌, ◌⊎◌, ◌==◌, ℕ, ◌+◌, ◌-◌, ◌^◌, ◌<◌, ◌≤◌, List, [], Option, Some, None, IsSomeAnd, if◌then◌else◌, sym, ◌∙◌, ap, subst, inl, inr, arith}
 use Rattle.std.proofs.lemmas.List.Elements.{All-weaker}
-use Rattle.domain_base.specs.declared.place.Home.{Home}
-use Rattle.domain_base.specs.declared.version.Version.TheVariants.{Three, Four}
-use Rattle.volume_disk.specs.Disk.{Disk, MayLeave, volume_pages}
-use Rattle.volume_disk.specs.Image.{Image, Places, SameOutside}
-use Rattle.volume_disk.specs.Run.{MayLeaveTorn}
-use Rattle.volume_disk.proofs.Bytes.{bytes_from-same}
-use Rattle.volume_disk.proofs.Laws.{both, touches-stays, weaker}
-use Rattle.disk_label.specs.Anchor.{IsAnchor}
-use Rattle.disk_label.specs.Body.{word_at}
-use Rattle.disk_label.specs.Label.{IsLabel, label_block}
-use Rattle.disk_label.specs.declared.anchor.Anchor.{Anchor}
-use Rattle.disk_label.proofs.Elsewhere.{IsAnchor-elsewhere}
-use Rattle.page_change.specs.declared.image.PageImage.{PageImage}
+use Rattle.log_ring.specs.domain_base.declared.place.Home.{Home}
+use Rattle.log_ring.specs.domain_base.declared.version.Version.TheVariants.{Three, Four}
+use Rattle.log_ring.specs.volume_disk.Disk.{Disk, MayLeave, volume_pages}
+use Rattle.log_ring.specs.volume_disk.Image.{Image, Places, SameOutside}
+use Rattle.log_ring.specs.volume_disk.Run.{MayLeaveTorn}
+use Rattle.log_ring.proofs.OfVolumeDisk.Bytes.{bytes_from-same}
+use Rattle.log_ring.proofs.OfVolumeDisk.Laws.{both, touches-stays, weaker}
+use Rattle.log_ring.specs.disk_label.Anchor.{IsAnchor}
+use Rattle.log_ring.specs.disk_label.Body.{word_at}
+use Rattle.log_ring.specs.disk_label.Label.{IsLabel, label_block}
+use Rattle.log_ring.specs.disk_label.declared.anchor.Anchor.{Anchor}
+use Rattle.log_ring.proofs.OfDiskLabel.Elsewhere.{IsAnchor-elsewhere}
+use Rattle.log_ring.specs.declared.image.PageImage.{PageImage}
 use Rattle.log_ring.specs.Groups.{Group, HasLog}
 use Rattle.log_ring.specs.Homes.{AreLoggable, HasMembers, HaveHomes, IsHomeOf, IsLoggable, IsMember, member_of}
 use Rattle.log_ring.specs.Settling.{BringsHome, IsAtHomesOrSlot, IsRedoneAs, MeansTheSame}

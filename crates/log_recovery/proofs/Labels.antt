@@ -2,11 +2,11 @@
 use Rattle.std.proofs.Common.{◌≡◌, ℕ, zero, suc, ◌+◌, ◌-◌, ◌<◌, ◌≤◌, List, Option, Some, None, IfSome, length, get_or, get_or-set_other, get_or-set_same, set, sym, ◌∙◌, ap, subst, inl, inr, arith}
 use Rattle.std.proofs.Math.ListN.{get_or-eq_default}
 use Rattle.std.proofs.lemmas.Bool.{cases_eq, cases_lt}
-use Rattle.domain_base.specs.declared.version.Version.{Version}
-use Rattle.domain_base.specs.declared.version.Version.TheVariants.{Three}
-use Rattle.volume_disk.specs.Disk.{volume_pages}
-use Rattle.volume_disk.specs.Image.{Image}
-use Rattle.disk_label.specs.declared.anchor.Anchor.{Anchor}
+use Rattle.log_ring.specs.domain_base.declared.version.Version.{Version}
+use Rattle.log_ring.specs.domain_base.declared.version.Version.TheVariants.{Three}
+use Rattle.log_ring.specs.volume_disk.Disk.{volume_pages}
+use Rattle.log_ring.specs.volume_disk.Image.{Image}
+use Rattle.log_ring.specs.disk_label.declared.anchor.Anchor.{Anchor}
 use Rattle.log_ring.specs.Homes.{IsMember}
 use Rattle.log_recovery.specs.Members.{AreLabelledBelow, AreThereBelow, AreVersionsBelow, IsLabelled, IsThere, label_version}
 

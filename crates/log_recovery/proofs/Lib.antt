@@ -6,3 +6,8 @@ pub mod Readied
 pub mod Reading
 pub mod Scanning
 pub mod SettledAnchors
+pub mod Meanings
+pub mod Settled
+pub mod OfDiskLabel
+pub mod OfLogRing
+pub mod OfVolumeDisk

@@ -1,11 +1,11 @@
 -- An image has one outcome of recovery.
 use Rattle.std.proofs.Common.{◌≡◌, ◌⊎◌, ℕ, ◌+◌, ◌<◌, ◌≤◌, List, [], ◌∷◌, Some, None, length, refl, sym, ◌∙◌, ap, subst, inl, inr, arith}
 use Rattle.std.proofs.lemmas.Bool.{cases_order}
-use Rattle.volume_disk.specs.Image.{Image}
-use Rattle.disk_label.specs.Anchor.{IsAnchor}
-use Rattle.disk_label.specs.declared.anchor.Anchor.{Anchor}
-use Rattle.disk_label.proofs.Slots.{IsAnchorBelow-unique}
-use Rattle.page_change.proofs.HeaderPages.{one_header}
+use Rattle.log_ring.specs.volume_disk.Image.{Image}
+use Rattle.log_ring.specs.disk_label.Anchor.{IsAnchor}
+use Rattle.log_ring.specs.disk_label.declared.anchor.Anchor.{Anchor}
+use Rattle.log_ring.proofs.OfDiskLabel.Slots.{IsAnchorBelow-unique}
+use Rattle.log_ring.proofs.HeaderPages.{one_header}
 use Rattle.log_ring.specs.Groups.{AreGroups, Group, HasGroup, HasLog, header_of, span}
 use Rattle.log_ring.specs.Ring.{IsGateOpen, place_at, ring_page}
 use Rattle.log_ring.proofs.OnImages.{images-once, one_way}

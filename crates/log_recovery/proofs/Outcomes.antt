@@ -1,10 +1,10 @@
 -- What recovery finds, put together.
 use Rattle.std.proofs.Common.{◌≡◌, ◌⊎◌, ℕ, ◌+◌, ◌%◌, List, Some, length, inl, inr, refl, sym, ◌∙◌, ap, subst, arith}
 use Rattle.std.proofs.lemmas.Bool.{cases_lt}
-use Rattle.domain_base.specs.declared.version.Version.{Version}
-use Rattle.volume_disk.specs.Image.{Image}
-use Rattle.disk_label.specs.Anchor.{IsAnchor}
-use Rattle.disk_label.specs.declared.anchor.Anchor.{Anchor}
+use Rattle.log_ring.specs.domain_base.declared.version.Version.{Version}
+use Rattle.log_ring.specs.volume_disk.Image.{Image}
+use Rattle.log_ring.specs.disk_label.Anchor.{IsAnchor}
+use Rattle.log_ring.specs.disk_label.declared.anchor.Anchor.{Anchor}
 use Rattle.log_ring.specs.Groups.{Group, HasLog, span}
 use Rattle.log_ring.specs.Homes.{IsMember, member_of}
 use Rattle.log_ring.specs.Ring.{IsGateOpen}

@@ -1,13 +1,13 @@
 -- A log that was recovered may be settled once the slot of its next anchor was made ready, and until
 -- then each image is recovered in the same way.
 use Rattle.std.proofs.Common.{◌≡◌, ◌+◌, ◌-◌, ◌*◌, ℕ, List, Some, inr, sym, ◌∙◌, ap, subst, arith}
-use Rattle.volume_disk.specs.Disk.{Disk, IsSettled, MayLeave, Moment, Tells}
-use Rattle.volume_disk.specs.Image.{Image, SameOutside}
-use Rattle.volume_disk.specs.Run.{LeavesOnly, MayLeaveTorn, OnlyReads}
-use Rattle.volume_disk.proofs.Laws.{both, only_reads-leaves, then_on, untorn, weaker}
-use Rattle.disk_label.specs.Anchor.{IsAnchor}
-use Rattle.disk_label.specs.Slot.{HasAnchor, HasReadied, IsBody, IsGate, IsReady, ReadiesSlot, StaysSynced}
-use Rattle.disk_label.proofs.Elsewhere.{shows_anchor}
+use Rattle.log_ring.specs.volume_disk.Disk.{Disk, IsSettled, MayLeave, Moment, Tells}
+use Rattle.log_ring.specs.volume_disk.Image.{Image, SameOutside}
+use Rattle.log_ring.specs.volume_disk.Run.{LeavesOnly, MayLeaveTorn, OnlyReads}
+use Rattle.log_ring.proofs.OfVolumeDisk.Laws.{both, only_reads-leaves, then_on, untorn, weaker}
+use Rattle.log_ring.specs.disk_label.Anchor.{IsAnchor}
+use Rattle.log_ring.specs.disk_label.Slot.{HasAnchor, HasReadied, IsBody, IsGate, IsReady, ReadiesSlot, StaysSynced}
+use Rattle.log_ring.proofs.OfDiskLabel.Elsewhere.{shows_anchor}
 use Rattle.log_ring.specs.Groups.{Group, HasLog}
 use Rattle.log_ring.specs.Ring.{IsOnLog}
 use Rattle.log_ring.specs.Settling.{IsRedoneAs}

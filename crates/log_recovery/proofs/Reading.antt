@@ -1,11 +1,11 @@
 -- What runs of reads leave as it was.
 use Rattle.std.proofs.Common.{◌≡◌, ℕ, ◌*◌, ◌++◌, List, length, take, drop, sym, ap, ◌∙◌, subst, arith}
 use Rattle.std.proofs.lemmas.List.{take_at}
-use Rattle.volume_disk.specs.Disk.{Disk, Moment, Tells}
-use Rattle.volume_disk.specs.Image.{Image, bytes_at, bytes_from}
-use Rattle.volume_disk.specs.Run.{OnlyReads}
-use Rattle.volume_disk.proofs.Bytes.{length-bytes_from}
-use Rattle.disk_label.specs.declared.anchor.Anchor.{Anchor}
+use Rattle.log_ring.specs.volume_disk.Disk.{Disk, Moment, Tells}
+use Rattle.log_ring.specs.volume_disk.Image.{Image, bytes_at, bytes_from}
+use Rattle.log_ring.specs.volume_disk.Run.{OnlyReads}
+use Rattle.log_ring.proofs.OfVolumeDisk.Bytes.{length-bytes_from}
+use Rattle.log_ring.specs.disk_label.declared.anchor.Anchor.{Anchor}
 use Rattle.log_ring.specs.Ring.{place_at, ring_page}
 use Rattle.log_recovery.specs.Fault.{IfNotADomain}
 use Rattle.log_recovery.specs.declared.fault.RecoverFault.{RecoverFault}

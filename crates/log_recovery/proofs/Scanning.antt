@@ -2,18 +2,18 @@
 use Rattle.std.proofs.Common.{◌≡◌, ℕ, zero, suc, ◌+◌, ◌<◌, ◌≤◌, ◌++◌, List, [], ◌∷◌, length, get_or, take, refl, sym, ap, ◌∙◌, subst, append_assoc, length-append, length-take, arith}
 use Rattle.std.proofs.lemmas.List.{append-nil, get_or-map, length-map, take_all, take_more}
 use Rattle.std.proofs.lemmas.List.Elements.{All-append}
-use Rattle.domain_base.specs.Gate.{IsOpen}
-use Rattle.domain_base.specs.declared.place.Home.{Home}
-use Rattle.volume_disk.specs.Disk.{Disk, Tells}
-use Rattle.volume_disk.specs.Image.{Image}
-use Rattle.volume_disk.proofs.Bytes.{get_or-bytes_from}
-use Rattle.disk_label.specs.declared.anchor.Anchor.{Anchor}
-use Rattle.page_change.specs.Header.{IsHeader, IsRead}
-use Rattle.page_change.specs.Images.{homes_of}
-use Rattle.page_change.specs.declared.header.Header.{Header}
-use Rattle.page_change.specs.declared.header.HeaderRead.TheVariants.{Group as AGroup, Bad}
-use Rattle.page_change.specs.declared.image.PageImage.{PageImage}
-use Rattle.page_change.proofs.HeaderPages.{one_header}
+use Rattle.log_ring.specs.domain_base.Gate.{IsOpen}
+use Rattle.log_ring.specs.domain_base.declared.place.Home.{Home}
+use Rattle.log_ring.specs.volume_disk.Disk.{Disk, Tells}
+use Rattle.log_ring.specs.volume_disk.Image.{Image}
+use Rattle.log_ring.proofs.OfVolumeDisk.Bytes.{get_or-bytes_from}
+use Rattle.log_ring.specs.disk_label.declared.anchor.Anchor.{Anchor}
+use Rattle.log_ring.specs.Header.{IsHeader, IsRead}
+use Rattle.log_ring.specs.Images.{homes_of}
+use Rattle.log_ring.specs.declared.header.Header.{Header}
+use Rattle.log_ring.specs.declared.header.HeaderRead.TheVariants.{Group as AGroup, Bad}
+use Rattle.log_ring.specs.declared.image.PageImage.{PageImage}
+use Rattle.log_ring.proofs.HeaderPages.{one_header}
 use Rattle.log_ring.specs.Groups.{AreGroups, AreImagesAt, Group, HasGroup, header_of, span}
 use Rattle.log_ring.specs.Homes.{AreLoggable, IsLoggable}
 use Rattle.log_ring.specs.Ring.{IsGateOpen, place_at, ring_byte}

@@ -1,9 +1,9 @@
 -- What a log that was recovered has for its next anchor.
 use Rattle.std.proofs.Common.{◌≡◌, ℕ, ◌+◌, ◌*◌, ◌%◌, List, Some, eqb, true, refl, sym, ◌∙◌, ap, subst, arith}
 use Rattle.std.proofs.lemmas.Bool.{eq-eqb}
-use Rattle.volume_disk.specs.Disk.{Disk, MayLeave}
-use Rattle.volume_disk.specs.Image.{Image}
-use Rattle.disk_label.specs.Anchor.{IsNext}
+use Rattle.log_ring.specs.volume_disk.Disk.{Disk, MayLeave}
+use Rattle.log_ring.specs.volume_disk.Image.{Image}
+use Rattle.log_ring.specs.disk_label.Anchor.{IsNext}
 use Rattle.log_ring.specs.Groups.{Group, HasLog, span}
 use Rattle.log_ring.proofs.OnImages.{next_closed}
 use Rattle.log_recovery.specs.Laws.{MaySettleSynced}

@@ -1,9 +1,9 @@
 -- Which call has failed, and what is said where there is no domain.
 use Rattle.std.specs.Prelude.{◌≡◌, ℕ}
-use Rattle.volume_disk.specs.Disk.{Disk, raised_at}
-use Rattle.disk_label.specs.FirstPages.{anchors_page}
-use Rattle.disk_label.specs.declared.fault.AnchorFault.{AnchorFault}
-use Rattle.disk_label.specs.declared.fault.AnchorFault.TheVariants.{NoAnchor, Fault as ReadFault}
+use Rattle.log_ring.specs.volume_disk.Disk.{Disk, raised_at}
+use Rattle.log_ring.specs.disk_label.FirstPages.{anchors_page}
+use Rattle.log_ring.specs.disk_label.declared.fault.AnchorFault.{AnchorFault}
+use Rattle.log_ring.specs.disk_label.declared.fault.AnchorFault.TheVariants.{NoAnchor, Fault as ReadFault}
 use Rattle.log_recovery.specs.declared.fault.RecoverFault.{RecoverFault}
 use Rattle.log_recovery.specs.declared.fault.RecoverFault.TheVariants.{Fault, NotADomain, OutOfMemory}
 

@@ -1,16 +1,16 @@
 -- Groups of the log that are read one after the other, and the first of them that is none.
 use Rattle.std.specs.Prelude.{◌≡◌, ◌+◌, ◌≤◌, ◌++◌, ℕ, List, [], ◌∷◌, Bool, true, false, All, length}
-use Rattle.domain_base.specs.Limits.{log_pages}
-use Rattle.domain_base.specs.declared.place.Home.{Home}
-use Rattle.volume_disk.specs.Disk.{Disk, Tells}
-use Rattle.volume_disk.specs.Image.{Image}
-use Rattle.disk_label.specs.declared.anchor.Anchor.{Anchor}
-use Rattle.page_change.specs.Header.{IsSayable}
-use Rattle.page_change.specs.Images.{homes_of}
-use Rattle.page_change.specs.declared.header.Header.{Header}
-use Rattle.page_change.specs.declared.header.HeaderRead.{HeaderRead}
-use Rattle.page_change.specs.declared.header.HeaderRead.TheVariants.{Closed, Group as AGroup, Bad}
-use Rattle.page_change.specs.declared.image.PageImage.{PageImage}
+use Rattle.log_ring.specs.domain_base.Limits.{log_pages}
+use Rattle.log_ring.specs.domain_base.declared.place.Home.{Home}
+use Rattle.log_ring.specs.volume_disk.Disk.{Disk, Tells}
+use Rattle.log_ring.specs.volume_disk.Image.{Image}
+use Rattle.log_ring.specs.disk_label.declared.anchor.Anchor.{Anchor}
+use Rattle.log_ring.specs.Header.{IsSayable}
+use Rattle.log_ring.specs.Images.{homes_of}
+use Rattle.log_ring.specs.declared.header.Header.{Header}
+use Rattle.log_ring.specs.declared.header.HeaderRead.{HeaderRead}
+use Rattle.log_ring.specs.declared.header.HeaderRead.TheVariants.{Closed, Group as AGroup, Bad}
+use Rattle.log_ring.specs.declared.image.PageImage.{PageImage}
 use Rattle.log_ring.specs.Groups.{AreImagesAt, FitsRing, Group, HasGroup, images_of, span}
 use Rattle.log_ring.specs.Homes.{IsLoggable}
 use Rattle.log_ring.specs.Ring.{IsGateOpen, ring_page}

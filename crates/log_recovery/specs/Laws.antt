@@ -1,10 +1,10 @@
 -- What holds of recovery, whatever calls are made.
 use Rattle.std.specs.Prelude.{◌≡◌, ℕ, List, Some}
-use Rattle.volume_disk.specs.Disk.{Disk, IsSettled, Tells}
-use Rattle.volume_disk.specs.Image.{Image, SameOutside}
-use Rattle.volume_disk.specs.Run.{LeavesOnly, OnlyReads}
-use Rattle.disk_label.specs.Slot.{HasReadied, IsBody, IsReadyFor, ReadiesSlot, StaysSynced}
-use Rattle.disk_label.specs.declared.anchor.Anchor.{Anchor}
+use Rattle.log_ring.specs.volume_disk.Disk.{Disk, IsSettled, Tells}
+use Rattle.log_ring.specs.volume_disk.Image.{Image, SameOutside}
+use Rattle.log_ring.specs.volume_disk.Run.{LeavesOnly, OnlyReads}
+use Rattle.log_ring.specs.disk_label.Slot.{HasReadied, IsBody, IsReadyFor, ReadiesSlot, StaysSynced}
+use Rattle.log_ring.specs.disk_label.declared.anchor.Anchor.{Anchor}
 use Rattle.log_ring.specs.Groups.{Group, HasLog}
 use Rattle.log_ring.specs.Settling.{IsRedoneAs}
 use Rattle.log_recovery.specs.Outcome.{HasGoodAnchor, HasRecovered, IsFirstFault}

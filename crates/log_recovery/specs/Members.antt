@@ -1,14 +1,14 @@
 -- The labels of the members of an anchor.
 use Rattle.std.specs.Prelude.{◌≡◌, ◌==◌, ◌-◌, ◌<◌, ◌≤◌, ℕ, List, Option, Some, None, if◌then◌else◌, length, slice_index_or}
-use Rattle.domain_base.specs.declared.version.Version.{Version}
-use Rattle.domain_base.specs.declared.version.Version.TheVariants.{Three, Four}
-use Rattle.volume_disk.specs.Disk.{volume_pages}
-use Rattle.volume_disk.specs.Image.{Image}
-use Rattle.disk_label.specs.Body.{word_at}
-use Rattle.disk_label.specs.FirstPages.{label_page}
-use Rattle.disk_label.specs.Label.{IsLabel, label_block}
-use Rattle.disk_label.specs.declared.anchor.Anchor.{Anchor}
-use Rattle.disk_label.specs.declared.label.Label.{Label}
+use Rattle.log_ring.specs.domain_base.declared.version.Version.{Version}
+use Rattle.log_ring.specs.domain_base.declared.version.Version.TheVariants.{Three, Four}
+use Rattle.log_ring.specs.volume_disk.Disk.{volume_pages}
+use Rattle.log_ring.specs.volume_disk.Image.{Image}
+use Rattle.log_ring.specs.disk_label.Body.{word_at}
+use Rattle.log_ring.specs.disk_label.FirstPages.{label_page}
+use Rattle.log_ring.specs.disk_label.Label.{IsLabel, label_block}
+use Rattle.log_ring.specs.disk_label.declared.anchor.Anchor.{Anchor}
+use Rattle.log_ring.specs.disk_label.declared.label.Label.{Label}
 use Rattle.log_ring.specs.Homes.{IsMember, member_of}
 
 -- the version that the label of a volume names, where it is a label

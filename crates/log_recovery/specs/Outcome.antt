@@ -1,11 +1,11 @@
 -- What recovery finds on an image: a log and its images, or the first place at which there is no
 -- domain.
 use Rattle.std.specs.Prelude.{◌≡◌, ◌⊎◌, ◌+◌, ◌%◌, ◌<◌, ℕ, List, Some, None, length}
-use Rattle.domain_base.specs.Limits.{log_pages}
-use Rattle.volume_disk.specs.Image.{Image}
-use Rattle.disk_label.specs.Anchor.{IsAnchor, IsWhole}
-use Rattle.disk_label.specs.FirstPages.{anchors_page}
-use Rattle.disk_label.specs.declared.anchor.Anchor.{Anchor}
+use Rattle.log_ring.specs.domain_base.Limits.{log_pages}
+use Rattle.log_ring.specs.volume_disk.Image.{Image}
+use Rattle.log_ring.specs.disk_label.Anchor.{IsAnchor, IsWhole}
+use Rattle.log_ring.specs.disk_label.FirstPages.{anchors_page}
+use Rattle.log_ring.specs.disk_label.declared.anchor.Anchor.{Anchor}
 use Rattle.log_ring.specs.Groups.{Group, HasLog, images_of, span}
 use Rattle.log_ring.specs.Homes.{AreLoggable, HasMembers}
 use Rattle.log_ring.specs.Ring.{IsRing}

@@ -1,10 +1,10 @@
 -- Which anchors are in range.
 use Rattle.std.specs.Prelude.{◌≡◌, ◌+◌, ◌^◌, ◌<◌, ◌≤◌, ℕ, IsSomeAnd}
-use Rattle.domain_base.specs.Limits.{log_pages, min_volume_pages}
-use Rattle.domain_base.specs.Version.{bitmap_pages, most_pages}
-use Rattle.domain_base.specs.declared.version.Version.{Version}
-use Rattle.disk_label.specs.Anchor.{IsWhole}
-use Rattle.disk_label.specs.declared.anchor.Anchor.{Anchor}
+use Rattle.log_ring.specs.domain_base.Limits.{log_pages, min_volume_pages}
+use Rattle.log_ring.specs.domain_base.Version.{bitmap_pages, most_pages}
+use Rattle.log_ring.specs.domain_base.declared.version.Version.{Version}
+use Rattle.log_ring.specs.disk_label.Anchor.{IsWhole}
+use Rattle.log_ring.specs.disk_label.declared.anchor.Anchor.{Anchor}
 use Rattle.log_ring.specs.Homes.{IsMember, member_of}
 
 -- its number, the number of the group at its start, and that start

@@ -1,13 +1,13 @@
 -- Images of which recovery takes the log, and that calls leave no others.
 use Rattle.std.specs.Prelude.{ℕ, ◌+◌, ◌*◌, ◌^◌, ◌<◌, ◌≤◌, List, Some}
-use Rattle.domain_base.specs.Limits.{block_bytes, log_pages, page_bytes}
-use Rattle.volume_disk.specs.Disk.{Disk, MayLeave, Tells}
-use Rattle.volume_disk.specs.Image.{Image, Places}
-use Rattle.volume_disk.specs.Run.{LeavesOnly, OnlyWrites, Touches}
-use Rattle.disk_label.specs.Anchor.{IsAnchor}
-use Rattle.disk_label.specs.FirstPages.{anchors_page}
-use Rattle.disk_label.specs.declared.anchor.Anchor.{Anchor}
-use Rattle.page_change.specs.declared.image.PageImage.{PageImage}
+use Rattle.log_ring.specs.domain_base.Limits.{block_bytes, log_pages, page_bytes}
+use Rattle.log_ring.specs.volume_disk.Disk.{Disk, MayLeave, Tells}
+use Rattle.log_ring.specs.volume_disk.Image.{Image, Places}
+use Rattle.log_ring.specs.volume_disk.Run.{LeavesOnly, OnlyWrites, Touches}
+use Rattle.log_ring.specs.disk_label.Anchor.{IsAnchor}
+use Rattle.log_ring.specs.disk_label.FirstPages.{anchors_page}
+use Rattle.log_ring.specs.disk_label.declared.anchor.Anchor.{Anchor}
+use Rattle.log_ring.specs.declared.image.PageImage.{PageImage}
 use Rattle.log_ring.specs.Groups.{Group, HasLog}
 use Rattle.log_ring.specs.Homes.{HaveHomes, IsMember}
 use Rattle.log_ring.specs.Settling.{IsAtHomesOrSlot, MeansTheSame}

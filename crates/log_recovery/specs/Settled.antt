@@ -1,9 +1,9 @@
 -- What settles a log.
 use Rattle.std.specs.Prelude.{◌≡◌, ◌+◌, ◌-◌, ◌%◌, ◌^◌, ◌<◌, ◌≤◌, List, Some}
-use Rattle.domain_base.specs.Limits.{log_pages}
-use Rattle.volume_disk.specs.Disk.{Disk}
-use Rattle.disk_label.specs.Slot.{IsReadyFor}
-use Rattle.disk_label.specs.declared.anchor.Anchor.{Anchor}
+use Rattle.log_ring.specs.domain_base.Limits.{log_pages}
+use Rattle.log_ring.specs.volume_disk.Disk.{Disk}
+use Rattle.log_ring.specs.disk_label.Slot.{IsReadyFor}
+use Rattle.log_ring.specs.disk_label.declared.anchor.Anchor.{Anchor}
 use Rattle.log_ring.specs.Groups.{Group, LogStands, images_of, span}
 use Rattle.log_ring.specs.Settling.{MayMove}
 use Rattle.log_recovery.specs.declared.redone.Redone.{Redone}

@@ -2,7 +2,7 @@
 ghost use Rattle.std.specs.Prelude.{◌≡◌};
 ghost use Rattle.log_recovery.specs.declared.fault.RecoverFault.TheVariants.{OutOfMemory};
 
-use domain_base::{OutOfMemory as NoMemory, VolIx};
+use log_ring::{OutOfMemory as NoMemory, VolIx};
 use std::alloc::AllocFailed;
 use std::error::Error;
 use std::fmt;
@@ -12,9 +12,9 @@ use std::fmt;
 pub enum RecoverFault {
     /// A read of this volume failed.
     Fault { vol: VolIx },
-    /// There is no domain: this page of this volume is the first that is none of one.
+    /// There is no domain: this page of this volume is the first that is not a domain's.
     NotADomain { vol: u32, at: u32 },
-    /// No memory could be had.
+    /// Memory ran out.
     OutOfMemory,
 }
 

@@ -13,23 +13,20 @@ ghost use Rattle.std.specs.Prelude.{
   MatchOption,
   length,
 };
-ghost use Rattle.volume_disk.specs.Disk.{Tells, volume_pages};
-ghost use Rattle.volume_disk.specs.Image.{Image};
-ghost use Rattle.volume_disk.specs.Run.{NamesReadFault, OnlyReads};
-ghost use Rattle.disk_label.specs.FirstPages.{label_page};
+ghost use Rattle.log_ring.specs.volume_disk.Disk.{Tells, volume_pages};
+ghost use Rattle.log_ring.specs.volume_disk.Image.{Image};
+ghost use Rattle.log_ring.specs.volume_disk.Run.{NamesReadFault, OnlyReads};
+ghost use Rattle.log_ring.specs.disk_label.FirstPages.{label_page};
 ghost use Rattle.log_ring.specs.Homes.{IsMember};
 ghost use Rattle.log_recovery.specs.Fault.{HasCause, IfNotADomain};
 ghost use Rattle.log_recovery.specs.Members.{AreLabelledBelow, AreThere, AreVersionsBelow, HasLabel, IsFirstUnlabelled, IsLabelled, IsThere, label_version};
 
 use crate::RecoverFault;
-use disk_label::{Anchor, LABEL_PAGE, Label, read_label};
-use domain_base::limits::MAX_VOLUMES;
-use domain_base::{Version, VolIx};
-use log_ring::{is_member, member_of};
-use volume_disk::Rack;
+use log_ring::limits::MAX_VOLUMES;
+use log_ring::{Anchor, LABEL_PAGE, Label, Rack, Version, VolIx, is_member, member_of, read_label};
 
-/// The version of a label, unless it says other pages than these, or has another version than an
-/// anchor of this one allows.
+/// The version of a label. Returns None if it says another number of pages than this, or has
+/// another version than an anchor of this one allows.
 fn version_under(version: u32, pages: u32, label: &Label) -> Option<Version>
     ensures { HasLabel version pages label.now result }
 {
@@ -40,8 +37,8 @@ fn version_under(version: u32, pages: u32, label: &Label) -> Option<Version>
     }
 }
 
-/// The version of the label of a member, and None where the rack has no such volume, or the volume
-/// has no label of that member. The error is the volume, of which the read failed.
+/// The version of the label of a member, or None if the rack has no such volume, or the volume has
+/// no label of that member. The error is the volume, if its read failed.
 fn label_of<R: Rack>(rack: &mut R, anchor: &Anchor, vol: VolIx) -> Result<Option<Version>, VolIx>
     ensures reads { OnlyReads (R.disk rack.old) (R.disk rack.new) }
     ensures label { let old = R.disk rack.old in IfOk result (λ found. Tells old
@@ -92,7 +89,7 @@ fn check_member<R: Rack>(rack: &mut R, anchor: &Anchor, vol: VolIx) -> Result<Ve
     }
 }
 
-/// The versions of the labels of all members. There is no domain where a member has no label.
+/// The versions of the labels of all members. There is no domain if a member has no label.
 pub(crate) fn read_labels<R: Rack>(
     rack: &mut R,
     anchor: &Anchor,

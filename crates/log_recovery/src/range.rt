@@ -1,6 +1,6 @@
 //! Whether an anchor is in range.
 ghost use Rattle.std.specs.Prelude.{◌≡◌, ◌+◌, ◌≤◌, ◌<◌, ◌↔◌, IsTrue, length};
-ghost use Rattle.disk_label.specs.Anchor.{IsWhole};
+ghost use Rattle.log_ring.specs.disk_label.Anchor.{IsWhole};
 ghost use Rattle.log_recovery.specs.Members.{version_in};
 ghost use Rattle.log_recovery.specs.Range.{
   AreSizedBelow,
@@ -11,13 +11,10 @@ ghost use Rattle.log_recovery.specs.Range.{
   IsTableInside,
 };
 
-use disk_label::Anchor;
-use domain_base::limits::{LOG_PAGES, MAX_VOLUMES, MIN_VOLUME_PAGES};
-use domain_base::{Version, VolIx};
-use log_ring::{is_member, member_of};
-use page_change::NUMBERS;
+use log_ring::limits::{LOG_PAGES, MAX_VOLUMES, MIN_VOLUME_PAGES};
+use log_ring::{Anchor, NUMBERS, Version, VolIx, is_member, member_of};
 
-/// The pages in front of a volume's bitmap.
+/// The pages before a volume's bitmap.
 const FIRST_BITMAP_PAGE: u32 = 2;
 
 /// Whether an anchor may be written: its version is 3 or 4, its log stands on a member, and it has
@@ -42,8 +39,8 @@ fn has_numbers(anchor: &Anchor) -> bool
         && anchor.log_pages == LOG_PAGES
 }
 
-/// Whether a volume has a state that there is, and as a member a number of pages that there may be
-/// where its label has this version.
+/// Whether a volume has a valid state and, if it is a member, a number of pages that is allowed
+/// when its label has this version.
 fn is_sized(version: Version, anchor: &Anchor, vol: VolIx) -> bool
     ensures { IsTrue result ↔ IsSized version anchor.now vol }
 {
@@ -52,7 +49,7 @@ fn is_sized(version: Version, anchor: &Anchor, vol: VolIx) -> bool
     member.state <= 2 && (in_limits || !is_member(anchor, vol))
 }
 
-/// Whether all volumes are, with the versions of their labels.
+/// Whether all volumes are sized, with the versions of their labels.
 fn are_sized(versions: &[Version; 8], anchor: &Anchor) -> bool
     ensures { IsTrue result ↔ AreSizedBelow 9 (version_in versions.now) anchor.now }
 {
@@ -67,7 +64,7 @@ fn are_sized(versions: &[Version; 8], anchor: &Anchor) -> bool
     true
 }
 
-/// Whether the log lies on its volume behind the bitmap.
+/// Whether the log lies on its volume after the bitmap.
 fn is_log_inside(version: Version, anchor: &Anchor, vol: VolIx) -> bool
     requires { vol ≡ anchor.now.log_vol }
     ensures { IsTrue result ↔ IsLogInside version anchor.now }
@@ -87,7 +84,7 @@ fn is_table_inside(anchor: &Anchor) -> bool
     }
 }
 
-/// Whether an anchor is in range, where the labels of its members have these versions.
+/// Whether an anchor is in range if the labels of its members have these versions.
 pub(crate) fn is_in_range(versions: &[Version; 8], anchor: &Anchor) -> bool
     ensures { IsTrue result ↔ IsInRange (version_in versions.now) anchor.now }
 {

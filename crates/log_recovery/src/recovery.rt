@@ -10,11 +10,11 @@ ghost use Rattle.std.specs.Prelude.{
   IfOk,
   OnOk,
 };
-ghost use Rattle.domain_base.specs.Limits.{log_pages};
-ghost use Rattle.volume_disk.specs.Disk.{Tells};
-ghost use Rattle.volume_disk.specs.Run.{OnlyReads};
-ghost use Rattle.disk_label.specs.Anchor.{IsAnchor};
-ghost use Rattle.disk_label.specs.FirstPages.{anchors_page};
+ghost use Rattle.log_ring.specs.domain_base.Limits.{log_pages};
+ghost use Rattle.log_ring.specs.volume_disk.Disk.{Tells};
+ghost use Rattle.log_ring.specs.volume_disk.Run.{OnlyReads};
+ghost use Rattle.log_ring.specs.disk_label.Anchor.{IsAnchor};
+ghost use Rattle.log_ring.specs.disk_label.FirstPages.{anchors_page};
 ghost use Rattle.log_ring.specs.Groups.{Group};
 ghost use Rattle.log_recovery.specs.Fault.{HasCause, IfNotADomain, IsFaultOf};
 ghost use Rattle.log_recovery.specs.Members.{AreLabelled, label_version};
@@ -33,12 +33,11 @@ use crate::members::read_labels;
 use crate::range::is_in_range;
 use crate::scan::{Scan, read_groups};
 use crate::{ImageList, RecoverFault, Redone};
-use disk_label::{ANCHORS_PAGE, Anchor, AnchorFault, read_anchor};
-use domain_base::limits::LOG_PAGES;
+use log_ring::limits::LOG_PAGES;
+use log_ring::{ANCHORS_PAGE, Anchor, AnchorFault, Rack, read_anchor};
 use std::alloc::Global;
-use volume_disk::Rack;
 
-/// The volume at which an anchor stands that is wrong.
+/// The volume that is named if an anchor is wrong.
 const FIRST_VOLUME: u32 = 1;
 
 /// There is no domain, since no anchor is good.
@@ -51,7 +50,7 @@ fn bad_anchor() -> RecoverFault
     }
 }
 
-/// What the fault of an anchor is to recovery: there is no domain where no anchor counts.
+/// What the fault of an anchor means for recovery: there is no domain if no anchor counts.
 fn fault_of(fault: &AnchorFault) -> RecoverFault
     ensures { IsFaultOf fault.now result }
 {
@@ -61,7 +60,7 @@ fn fault_of(fault: &AnchorFault) -> RecoverFault
     }
 }
 
-/// The anchor that counts. There is no domain where none does.
+/// The anchor that counts. There is no domain if none counts.
 fn counting_anchor<R: Rack>(rack: &mut R) -> Result<Anchor, RecoverFault>
     ensures reads { OnlyReads (R.disk rack.old) (R.disk rack.new) }
     ensures anchor { let old = R.disk rack.old in IfOk result (λ anchor. Tells old
@@ -78,8 +77,8 @@ fn counting_anchor<R: Rack>(rack: &mut R) -> Result<Anchor, RecoverFault>
     }
 }
 
-/// Looks at the labels of an anchor's members, and then at the anchor. There is no domain where one
-/// of them is wrong.
+/// Checks the labels of an anchor's members, and then the anchor. There is no domain if one of them
+/// is wrong.
 fn check_anchor<R: Rack>(rack: &mut R, anchor: &Anchor) -> Result<(), RecoverFault>
     ensures reads { OnlyReads (R.disk rack.old) (R.disk rack.new) }
     ensures good { let old = R.disk rack.old in OnOk result (Tells old
@@ -103,7 +102,7 @@ fn check_anchor<R: Rack>(rack: &mut R, anchor: &Anchor) -> Result<(), RecoverFau
     }
 }
 
-/// The anchor that counts, where it and the labels of its members are those of a domain.
+/// The anchor that counts, if it and the labels of its members are those of a domain.
 fn good_anchor<R: Rack>(rack: &mut R) -> Result<Anchor, RecoverFault>
     ensures reads { OnlyReads (R.disk rack.old) (R.disk rack.new) }
     ensures good { let old = R.disk rack.old in IfOk result (λ anchor. Tells old
@@ -143,12 +142,12 @@ fn redone_of(anchor: Anchor, scan: Scan) -> Redone
 }
 
 /// Recovers a log: its anchor, the images of its groups from the anchor's start up to the first
-/// closed gate, and the number and the place of the group that is next. It writes nothing.
+/// closed gate, and the number and the place of the next group. It writes nothing.
 ///
-/// `NotADomain` comes where a rule of a domain is broken, with the first place of these: the label
-/// page of each member, in the order of volumes; the page of anchors of volume 1, where no anchor
-/// counts or the one that does is out of range; the header's page of each group. `Fault` comes
-/// where a read of that volume failed.
+/// Fails with `NotADomain` if a rule of a domain is broken, with the first place of these: the
+/// label page of each member, in the order of volumes; the page of anchors of volume 1, if no
+/// anchor counts or the one that counts is out of range; the header's page of each group. Fails
+/// with `Fault` if a read of that volume failed.
 pub fn recover<R: Rack>(alloc: Global, rack: &mut R) -> Result<Redone, RecoverFault>
     ensures reads { OnlyReads (R.disk rack.old) (R.disk rack.new) }
     ensures recovered { let old = R.disk rack.old in IfOk result (λ redone. Tells old

@@ -1,8 +1,7 @@
-//! What is recovered of a log.
+//! The result of recovering a log.
 ghost use Rattle.std.specs.Prelude.{◌≡◌, ◌^◌, ◌<◌, ◌≤◌, ◌↔◌, IsTrue};
 
-use disk_label::Anchor;
-use page_change::{NUMBERS, PageImage};
+use log_ring::{Anchor, NUMBERS, PageImage};
 use std::marker::Model;
 
 /// Images of pages in their order, which contracts see as their list.
@@ -13,7 +12,7 @@ pub struct ImageList {
 
 impl Model for ImageList {
     ghost use Rattle.std.specs.Prelude.{List};
-    ghost use Rattle.page_change.specs.declared.image.PageImage.{PageImage};
+    ghost use Rattle.log_ring.specs.declared.image.PageImage.{PageImage};
 
     ghost Value = { List PageImage };
 
@@ -43,7 +42,7 @@ impl ImageList {
     }
 }
 
-/// What is recovered of a log.
+/// The result of recovering a log.
 #[derive(Drop)]
 pub struct Redone {
     /// The anchor that counts.
@@ -67,7 +66,7 @@ impl Redone {
         self.anchor.number < NUMBERS - 1 && self.next_group < NUMBERS
     }
 
-    /// The next anchor, with which the log starts behind the groups that were redone: the one that
+    /// The next anchor, with which the log starts after the groups that were redone: the one that
     /// stands once the log is settled.
     pub fn settled_anchor(&self) -> Anchor
         requires number { self.now.anchor.number < 2 ^ 63 }

@@ -15,11 +15,11 @@ ghost use Rattle.std.specs.Prelude.{
   length,
   slice_get,
 };
-ghost use Rattle.domain_base.specs.Limits.{log_pages, page_bytes};
-ghost use Rattle.volume_disk.specs.Disk.{Tells, volume_pages};
-ghost use Rattle.volume_disk.specs.Image.{page_at};
-ghost use Rattle.volume_disk.specs.Run.{OnlyReads};
-ghost use Rattle.page_change.specs.Header.{IsRead, IsSayable};
+ghost use Rattle.log_ring.specs.domain_base.Limits.{log_pages, page_bytes};
+ghost use Rattle.log_ring.specs.volume_disk.Disk.{Tells, volume_pages};
+ghost use Rattle.log_ring.specs.volume_disk.Image.{page_at};
+ghost use Rattle.log_ring.specs.volume_disk.Run.{OnlyReads};
+ghost use Rattle.log_ring.specs.Header.{IsRead, IsSayable};
 ghost use Rattle.log_ring.specs.Groups.{Group};
 ghost use Rattle.log_ring.specs.Homes.{AreLoggable, IsLoggable};
 ghost use Rattle.log_ring.specs.Ring.{IsRing, place_at, ring_page as page_of_place};
@@ -39,13 +39,12 @@ ghost use Rattle.log_recovery.specs.Groups.{
 ghost use Rattle.log_recovery.specs.declared.fault.RecoverFault.TheVariants.{NotADomain};
 
 use crate::RecoverFault;
-use disk_label::{ANCHORS_PAGE, Anchor};
-use domain_base::limits::{BLOCKS_PER_PAGE, LOG_PAGES, PAGE_BYTES};
-use domain_base::{Home, OutOfMemory, Page, VolIx};
-use log_ring::{is_member, member_of, ring_page};
-use page_change::{Header, HeaderRead, PageImage, read_header};
+use log_ring::limits::{BLOCKS_PER_PAGE, LOG_PAGES, PAGE_BYTES};
+use log_ring::{
+    ANCHORS_PAGE, Anchor, Header, HeaderRead, Home, OutOfMemory, Page, PageImage, Rack, VolIx,
+    is_member, member_of, read_blocks, read_header, ring_page,
+};
 use std::alloc::Global;
-use volume_disk::{Rack, read_blocks};
 
 /// What was read of a log so far.
 #[derive(Drop)]
@@ -68,7 +67,7 @@ fn page_of(alloc: Global, bytes: &[u8]) -> Result<Page, OutOfMemory>
     Ok(page)
 }
 
-/// The page at a place of the log, counted from its first place on without end.
+/// The page at a place of the log, counted from its first place and past the end of the ring.
 fn read_place<R: Rack>(
     alloc: Global,
     rack: &mut R,
@@ -99,8 +98,8 @@ fn read_place<R: Rack>(
     }
 }
 
-/// Whether a page may be logged under an anchor: one of a member, behind its label and anchors and
-/// outside of the log.
+/// Whether a page may be logged under an anchor: a page of a member, after its label and anchors
+/// and outside of the log.
 pub fn is_loggable(anchor: &Anchor, home: &Home) -> bool
     ensures { IsTrue result ↔ IsLoggable anchor.now home.now }
 {
@@ -219,7 +218,7 @@ fn take_group<R: Rack>(
     Ok(())
 }
 
-/// There is no domain, since no group stands at a place of the log behind an open gate.
+/// There is no domain, since a gate at a place of the log is open and no group follows it.
 fn no_group(anchor: &Anchor, place: u32) -> RecoverFault
     requires { anchor.now.log_page + log_pages < 2 ^ 32 }
     ensures { result ≡ NotADomain anchor.now.log_vol (page_of_place anchor.now place) }
@@ -230,7 +229,7 @@ fn no_group(anchor: &Anchor, place: u32) -> RecoverFault
     }
 }
 
-/// Reads the images of the group with this header, if it may be next; else there is no domain.
+/// Reads the images of the group with this header, if it may be next. Otherwise there is no domain.
 fn next_group<R: Rack>(
     alloc: Global,
     rack: &mut R,
@@ -259,8 +258,8 @@ fn next_group<R: Rack>(
     take_group(alloc, rack, anchor, scan, header)
 }
 
-/// Reads the group that is next, and answers whether there was one: there is none where its gate is
-/// closed. Where the gate is open and no next group stands behind it, there is no domain.
+/// Reads the next group, and returns whether there was one. There is none if its gate is closed. If
+/// the gate is open and the next group does not follow it, there is no domain.
 fn read_group<R: Rack>(
     alloc: Global,
     rack: &mut R,

@@ -1,30 +1,28 @@
-//! How a log that was recovered is settled: its images brought home, and its start moved behind
-//! them.
+//! How a log that was recovered is settled: its images are brought home, and its start is moved
+//! past them.
 ghost use Rattle.std.specs.Prelude.{OnOk, Some};
-ghost use Rattle.volume_disk.specs.Disk.{Tells};
-ghost use Rattle.volume_disk.specs.Run.{IsLaterBy, NamesWriteFault};
-ghost use Rattle.disk_label.specs.Anchor.{IsAnchor};
+ghost use Rattle.log_ring.specs.volume_disk.Disk.{Tells};
+ghost use Rattle.log_ring.specs.volume_disk.Run.{IsLaterBy, NamesWriteFault};
+ghost use Rattle.log_ring.specs.disk_label.Anchor.{IsAnchor};
 ghost use Rattle.log_ring.specs.Settling.{BringsHome, HasBroughtHome};
 ghost use Rattle.log_recovery.specs.Outcome.{IsSound};
 ghost use Rattle.log_recovery.specs.Readable.{SettlesReadably};
 ghost use Rattle.log_recovery.specs.Settled.{HasNumbersLeft, settled_anchor};
 
 use crate::Redone;
-use domain_base::VolIx;
-use log_ring::bring_home;
-use volume_disk::Rack;
+use log_ring::{Rack, VolIx, bring_home};
 
 /// Settles a log as it was recovered: brings its images home, and writes the next anchor, with
-/// which the log starts behind them (`Redone::settled_anchor`). It reads nothing. Each home is
+/// which the log starts after them (`Redone::settled_anchor`). It reads nothing. Each home is
 /// written once, with the last image of it, and each volume that was written is synced once, before
-/// the anchor. The anchor that was recovered has still to be the one that counts, and its number
-/// and the next group's not the last (`Redone::has_numbers_left`). The error is the volume, of
-/// which a write or a sync failed.
+/// the anchor. The anchor that was recovered must still be the one that counts, and neither its
+/// number nor that of the next group may be the last one (`Redone::has_numbers_left`). The error is
+/// the volume, if its write or sync failed.
 ///
-/// What a stop may leave is said where the log stands as it was recovered on each image that a stop
-/// might leave at the start, and the slot of the next anchor is ready (`MaySettle`, of which
-/// `recovery_laws` says that it is the premise here). Recovery takes each image since, where the
-/// anchor is good on each of the start.
+/// The contract says what a stop may leave if the log stands as it was recovered on each image that
+/// a stop might leave at the start, and the slot of the next anchor is ready (`MaySettle`;
+/// `recovery_laws` gives the premise here). Recovery accepts each image since then, if the anchor
+/// is good on each image of the start.
 pub fn settle<R: Rack>(rack: &mut R, redone: &Redone) -> Result<(), VolIx>
     requires sound { IsSound (R.disk rack.old).sizes redone.now }
     requires left { HasNumbersLeft redone.now }

@@ -6,14 +6,14 @@ use Rattle.std.proofs.lemmas.List.Elements.{All-head, All-tail}
 use Rattle.std.proofs.lemmas.Grind.{same_number_lists}
 use Rattle.std.specs.List.{All}
 use Rattle.std.specs.Option.{option_or}
-use Rattle.domain_base.specs.declared.place.Home.{Home}
+use Rattle.disk_label.specs.domain_base.declared.place.Home.{Home}
 use Rattle.page_store.specs.Pages.{same_home}
-use Rattle.volume_disk.specs.Image.{HasBytes, Image, SameIn, SameOutside, bytes_at, page_at}
-use Rattle.volume_disk.proofs.Bytes.{bytes_from-same, get_or-bytes_from, length-bytes_from}
-use Rattle.page_change.specs.Images.{image_at}
-use Rattle.page_change.specs.declared.image.PageImage.{PageImage}
-use Rattle.page_change.proofs.SameHomes.{homes_same, same_itself}
-use Rattle.log_ring.specs.Laws.{AreHome}
+use Rattle.disk_label.specs.volume_disk.Image.{HasBytes, Image, SameIn, SameOutside, bytes_at, page_at}
+use Rattle.disk_label.proofs.OfVolumeDisk.Bytes.{bytes_from-same, get_or-bytes_from, length-bytes_from}
+use Rattle.log_ring.specs.Images.{image_at}
+use Rattle.log_ring.specs.declared.image.PageImage.{PageImage}
+use Rattle.log_ring.proofs.SameHomes.{homes_same, same_itself}
+use Rattle.log_ring.specs.LogLaws.{AreHome}
 use Rattle.log_ring.specs.Settling.{HasHome, IsOnPage}
 
 -- pages that have a byte in common are one

@@ -2,20 +2,20 @@
 use Rattle.std.proofs.Common.{◌≡◌, ◌≢◌, ◌⊎◌, ℕ, ◌+◌, ◌<◌, ◌≤◌, true, false, List, [], ◌∷◌, length, Option, Some, None, is_some, IfSome, refl, sym, ◌∙◌, ap, subst, inl, inr, arith}
 use Rattle.std.proofs.lemmas.Bool.{both_ways, cases_Bool}
 use Rattle.std.proofs.lemmas.List.Elements.{All-append, All-nil, All-weaker}
-use Rattle.domain_base.specs.declared.place.Home.{Home}
-use Rattle.volume_disk.specs.Disk.{Disk, Moment, MayLeave, Tells}
-use Rattle.volume_disk.specs.Image.{Image, NoPlace, SameIn, SameOutside, page_at}
-use Rattle.volume_disk.specs.Run.{MayLeaveTorn, OnlyWrites}
-use Rattle.volume_disk.proofs.Laws.{both, leaves-now, only_writes-then, only_writes-wider, then_on, touches-leaves, weaker}
+use Rattle.disk_label.specs.domain_base.declared.place.Home.{Home}
+use Rattle.disk_label.specs.volume_disk.Disk.{Disk, Moment, MayLeave, Tells}
+use Rattle.disk_label.specs.volume_disk.Image.{Image, NoPlace, SameIn, SameOutside, page_at}
+use Rattle.disk_label.specs.volume_disk.Run.{MayLeaveTorn, OnlyWrites}
+use Rattle.disk_label.proofs.OfVolumeDisk.Laws.{both, leaves-now, only_writes-then, only_writes-wider, then_on, touches-leaves, weaker}
 use Rattle.disk_label.specs.Anchor.{IsAnchor}
 use Rattle.disk_label.specs.Slot.{HasWritten, IsOldOrNew, IsOnAnchors, IsReady, IsSlot, WritesAnchor}
 use Rattle.disk_label.specs.declared.anchor.Anchor.{Anchor}
 use Rattle.disk_label.proofs.Elsewhere.{IsAnchor-elsewhere, ready_still}
-use Rattle.page_change.specs.Images.{image_at}
-use Rattle.page_change.specs.declared.image.PageImage.{PageImage}
+use Rattle.log_ring.specs.Images.{image_at}
+use Rattle.log_ring.specs.declared.image.PageImage.{PageImage}
 use Rattle.log_ring.specs.Groups.{AreGroups, Group, HasLog, images_of, pages_in, redone}
 use Rattle.log_ring.specs.Homes.{AreLoggable, AreOutside, HaveHomes, IsHomeOf, IsLogPage, IsLoggable}
-use Rattle.log_ring.specs.Laws.{AreHome, IsLogged}
+use Rattle.log_ring.specs.LogLaws.{AreHome, IsLogged}
 use Rattle.log_ring.specs.Ring.{IsGateOpen, IsOnLog, ring_byte}
 use Rattle.log_ring.specs.Settling.{AreSyncedBelow, BringsHome, HasBroughtHome, HasHome, IsAtHomes, IsAtHomesOrSlot, IsOnPage, IsRedoneAs, MayMove, MeansTheSame}
 use Rattle.log_ring.proofs.HomePages.{each_home, one_page, page-same}

@@ -1,3 +1,7 @@
+pub mod HeaderPages
+pub mod Overlays
+pub mod Places
+pub mod SameHomes
 pub mod Homeward
 pub mod HomePages
 pub mod RingPlaces
@@ -5,3 +9,5 @@ pub mod OnImages
 pub mod Redoing
 pub mod Staying
 pub mod Syncing
+pub mod OfDiskLabel
+pub mod OfVolumeDisk

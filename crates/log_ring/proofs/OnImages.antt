@@ -1,15 +1,15 @@
 -- Groups on images: what they depend on, and that there is one list of them.
 use Rattle.std.proofs.Common.{◌≡◌, ℕ, ◌+◌, ◌<◌, ◌≤◌, List, [], ◌∷◌, ◌++◌, length, refl, sym, ◌∙◌, subst, inl, inr, arith}
 use Rattle.std.proofs.lemmas.List.{append-nil}
-use Rattle.volume_disk.specs.Image.{Image, SameIn}
+use Rattle.disk_label.specs.volume_disk.Image.{Image, SameIn}
 use Rattle.disk_label.specs.declared.anchor.Anchor.{Anchor}
-use Rattle.page_change.specs.Header.{IsHeader}
-use Rattle.page_change.specs.Images.{homes_of}
-use Rattle.page_change.specs.Laws.{HasOneHeader}
-use Rattle.page_change.specs.declared.header.Header.{Header}
-use Rattle.page_change.specs.declared.image.PageImage.{PageImage}
+use Rattle.log_ring.specs.Header.{IsHeader}
+use Rattle.log_ring.specs.Images.{homes_of}
+use Rattle.log_ring.specs.Laws.{HasOneHeader}
+use Rattle.log_ring.specs.declared.header.Header.{Header}
+use Rattle.log_ring.specs.declared.image.PageImage.{PageImage}
 use Rattle.log_ring.specs.Groups.{AreGroups, AreImagesAt, Group, HasGroup, header_of, span}
-use Rattle.log_ring.specs.Laws.{HaveOneWay, IsReadOnLog, DependsOnRead}
+use Rattle.log_ring.specs.LogLaws.{HaveOneWay, IsReadOnLog, DependsOnRead}
 use Rattle.log_ring.specs.Ring.{IsGateOpen, IsOnPlaces, place_at, ring_byte}
 use Rattle.log_ring.proofs.RingPlaces.{fewer_places, first_place, further_on, on_log, one_place, place-same}
 

@@ -3,11 +3,11 @@ use Rattle.std.proofs.Common.{◌≡◌, ℕ, List, [], ◌∷◌, ◌++◌, Opt
 use Rattle.std.specs.Option.{option_or}
 use Rattle.std.proofs.lemmas.Grind.{flat_map-append}
 use Rattle.std.proofs.lemmas.List.{append-nil}
-use Rattle.volume_disk.specs.Image.{Image, page_at}
-use Rattle.page_change.specs.Images.{image_at}
-use Rattle.page_change.specs.declared.image.PageImage.{PageImage}
+use Rattle.disk_label.specs.volume_disk.Image.{Image, page_at}
+use Rattle.log_ring.specs.Images.{image_at}
+use Rattle.log_ring.specs.declared.image.PageImage.{PageImage}
 use Rattle.log_ring.specs.Groups.{Group, images_of, pages_in}
-use Rattle.log_ring.specs.Laws.{RedoesAlike, RedoesNothing}
+use Rattle.log_ring.specs.LogLaws.{RedoesAlike, RedoesNothing}
 
 pub images_of-one_more : (groups : List Group) (group : Group) → images_of (groups ++ group ∷ []) ≡ images_of groups ++ group.images
 images_of-one_more groups group = flat_map-append (λ (g : Group). g.images) groups (group ∷ []) ∙ ap (λ (l : List PageImage). images_of groups ++ l) (append-nil group.images)

@@ -1,7 +1,7 @@
 -- Places of a ring: where they stand, and that those of one turn are apart.
 use Rattle.std.proofs.Common.{◌≡◌, ℕ, ◌+◌, ◌%◌, ◌<◌, ◌≤◌, refl, subst, arith}
-use Rattle.volume_disk.specs.Image.{Image, IsIn, SameIn}
-use Rattle.volume_disk.proofs.Bytes.{bytes_from-same}
+use Rattle.disk_label.specs.volume_disk.Image.{Image, IsIn, SameIn}
+use Rattle.disk_label.proofs.OfVolumeDisk.Bytes.{bytes_from-same}
 use Rattle.disk_label.specs.Slot.{IsOnAnchors}
 use Rattle.disk_label.specs.declared.anchor.Anchor.{Anchor}
 use Rattle.log_ring.specs.Ring.{IsOnLog, IsOnPlaces, place_at, ring_byte}

@@ -1,15 +1,15 @@
 -- What stands of a log stays while calls touch neither the pages of anchors nor the ring.
 use Rattle.std.proofs.Common.{◌≡◌, ℕ, List, Some, subst, sym}
-use Rattle.volume_disk.specs.Disk.{Disk}
-use Rattle.volume_disk.specs.Image.{Image, SameIn}
-use Rattle.volume_disk.specs.Run.{LeavesOnly, MayLeaveTorn, end_of}
-use Rattle.volume_disk.proofs.Laws.{both, leaves-now, touches-joined, touches-stays, weaker}
+use Rattle.disk_label.specs.volume_disk.Disk.{Disk}
+use Rattle.disk_label.specs.volume_disk.Image.{Image, SameIn}
+use Rattle.disk_label.specs.volume_disk.Run.{LeavesOnly, MayLeaveTorn, end_of}
+use Rattle.disk_label.proofs.OfVolumeDisk.Laws.{both, leaves-now, touches-joined, touches-stays, weaker}
 use Rattle.disk_label.specs.Anchor.{IsAnchor}
 use Rattle.disk_label.specs.Slot.{IsOnAnchors}
 use Rattle.disk_label.specs.declared.anchor.Anchor.{Anchor}
 use Rattle.disk_label.proofs.Elsewhere.{IsAnchor-elsewhere}
 use Rattle.log_ring.specs.Groups.{Group, HasLog}
-use Rattle.log_ring.specs.Laws.{IsElsewhere, KeepsLog, KeepsLogAlong, KeepsLogBeside, LogStays}
+use Rattle.log_ring.specs.LogLaws.{IsElsewhere, KeepsLog, KeepsLogAlong, KeepsLogBeside, LogStays}
 use Rattle.log_ring.specs.Ring.{IsOnLog}
 use Rattle.log_ring.proofs.OnImages.{groups-same, read_on_log}
 

@@ -4,9 +4,9 @@ use Rattle.std.proofs.lemmas.Bool.{both_ways, cases_eq, eq-eqb, eqb-true}
 use Rattle.std.proofs.lemmas.List.Folds.{Any-from_list_any, list_any-from_Any}
 use Rattle.std.proofs.lemmas.List.{get_or_default}
 use Rattle.std.specs.List.{list_any}
-use Rattle.domain_base.specs.declared.place.Home.{Home}
-use Rattle.volume_disk.specs.Disk.{Disk, HasVolume, Moment, Syncs}
-use Rattle.page_change.specs.declared.image.PageImage.{PageImage}
+use Rattle.disk_label.specs.domain_base.declared.place.Home.{Home}
+use Rattle.disk_label.specs.volume_disk.Disk.{Disk, HasVolume, Moment, Syncs}
+use Rattle.log_ring.specs.declared.image.PageImage.{PageImage}
 use Rattle.log_ring.specs.Homes.{HaveHomes, IsHomeOf}
 use Rattle.log_ring.specs.Settling.{AreSyncedBelow, HasHome}
 use Rattle.log_ring.proofs.HomePages.{each_home}

@@ -1,16 +1,16 @@
 -- The groups of a log, what stands of them on an image, and an image's pages once they are redone.
 use Rattle.std.specs.List.{flat_map}
 use Rattle.std.specs.Prelude.{◌≡◌, ◌+◌, ◌≤◌, ℕ, List, [], ◌∷◌, Some, length}
-use Rattle.domain_base.specs.Limits.{log_pages}
+use Rattle.disk_label.specs.domain_base.Limits.{log_pages}
 use Rattle.page_store.specs.Pages.{Pages}
-use Rattle.volume_disk.specs.Disk.{Disk, MayLeave}
-use Rattle.volume_disk.specs.Image.{Image, page_at}
+use Rattle.disk_label.specs.volume_disk.Disk.{Disk, MayLeave}
+use Rattle.disk_label.specs.volume_disk.Image.{Image, page_at}
 use Rattle.disk_label.specs.Anchor.{IsAnchor}
 use Rattle.disk_label.specs.declared.anchor.Anchor.{Anchor}
-use Rattle.page_change.specs.Header.{IsHeader}
-use Rattle.page_change.specs.Images.{homes_of, overlaid}
-use Rattle.page_change.specs.declared.header.Header.{Header}
-use Rattle.page_change.specs.declared.image.PageImage.{PageImage}
+use Rattle.log_ring.specs.Header.{IsHeader}
+use Rattle.log_ring.specs.Images.{homes_of, overlaid}
+use Rattle.log_ring.specs.declared.header.Header.{Header}
+use Rattle.log_ring.specs.declared.image.PageImage.{PageImage}
 use Rattle.log_ring.specs.Homes.{AreLoggable}
 use Rattle.log_ring.specs.Ring.{IsGateOpen, place_at}
 

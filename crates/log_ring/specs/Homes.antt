@@ -1,13 +1,13 @@
 -- At which homes an image may stand that the log has.
 use Rattle.std.specs.Prelude.{◌≡◌, ◌+◌, ◌-◌, ◌<◌, ◌≤◌, ℕ, List, All, length, slice_index_or}
-use Rattle.domain_base.specs.Limits.{log_pages, max_volume_pages_4, max_volumes}
-use Rattle.domain_base.specs.declared.place.Home.{Home}
-use Rattle.volume_disk.specs.Disk.{volume_pages}
+use Rattle.disk_label.specs.domain_base.Limits.{log_pages, max_volume_pages_4, max_volumes}
+use Rattle.disk_label.specs.domain_base.declared.place.Home.{Home}
+use Rattle.disk_label.specs.volume_disk.Disk.{volume_pages}
 use Rattle.disk_label.specs.Body.{no_member}
 use Rattle.disk_label.specs.FirstPages.{anchors_page}
 use Rattle.disk_label.specs.declared.anchor.Anchor.{Anchor}
 use Rattle.disk_label.specs.declared.anchor.Member.{Member}
-use Rattle.page_change.specs.declared.image.PageImage.{PageImage}
+use Rattle.log_ring.specs.declared.image.PageImage.{PageImage}
 
 -- a volume as an anchor has it
 abbrev pub member_of : Anchor → ℕ → Member

@@ -1,10 +1,10 @@
 -- The ring of a log: 128 pages of a volume. Its places are counted on without end, and stand on
 -- these pages in turn, so that a run of places may wrap.
 use Rattle.std.specs.Prelude.{◌+◌, ◌*◌, ◌%◌, ◌<◌, ◌≤◌, ℕ, List, length}
-use Rattle.domain_base.specs.Limits.{log_pages, max_volume_pages_4, max_volumes, page_bytes}
-use Rattle.volume_disk.specs.Disk.{volume_pages}
-use Rattle.volume_disk.specs.Gate.{IsOpenAt}
-use Rattle.volume_disk.specs.Image.{Image, IsIn, Places, page_at}
+use Rattle.disk_label.specs.domain_base.Limits.{log_pages, max_volume_pages_4, max_volumes, page_bytes}
+use Rattle.disk_label.specs.volume_disk.Disk.{volume_pages}
+use Rattle.disk_label.specs.volume_disk.Gate.{IsOpenAt}
+use Rattle.disk_label.specs.volume_disk.Image.{Image, IsIn, Places, page_at}
 use Rattle.disk_label.specs.declared.anchor.Anchor.{Anchor}
 
 -- the page of a place, and its first byte

@@ -1,16 +1,16 @@
 -- The images of a log brought home, and its start moved behind them.
 use Rattle.std.specs.Prelude.{◌≡◌, ◌≢◌, ◌⊎◌, ◌*◌, ◌<◌, ℕ, false, List, [], Option, Some, IsSome}
-use Rattle.domain_base.specs.Limits.{page_bytes}
-use Rattle.domain_base.specs.declared.place.Home.{Home}
-use Rattle.volume_disk.specs.Disk.{Disk, MayLeave, Moment, Tells}
-use Rattle.volume_disk.specs.Image.{Image, IsIn, Places}
-use Rattle.volume_disk.specs.Run.{LeavesOnly, OnlyWrites}
+use Rattle.disk_label.specs.domain_base.Limits.{page_bytes}
+use Rattle.disk_label.specs.domain_base.declared.place.Home.{Home}
+use Rattle.disk_label.specs.volume_disk.Disk.{Disk, MayLeave, Moment, Tells}
+use Rattle.disk_label.specs.volume_disk.Image.{Image, IsIn, Places}
+use Rattle.disk_label.specs.volume_disk.Run.{LeavesOnly, OnlyWrites}
 use Rattle.disk_label.specs.Anchor.{IsNext}
 use Rattle.disk_label.specs.FirstPages.{anchors_page}
 use Rattle.disk_label.specs.Slot.{IsReady, IsReadyFor, IsSlot, StandsIn}
 use Rattle.disk_label.specs.declared.anchor.Anchor.{Anchor}
-use Rattle.page_change.specs.Images.{image_at}
-use Rattle.page_change.specs.declared.image.PageImage.{PageImage}
+use Rattle.log_ring.specs.Images.{image_at}
+use Rattle.log_ring.specs.declared.image.PageImage.{PageImage}
 use Rattle.log_ring.specs.Groups.{Group, HasLog, LogStands, images_of, redone}
 use Rattle.log_ring.specs.Ring.{IsGateOpen}
 

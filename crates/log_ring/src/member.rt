@@ -2,9 +2,8 @@
 ghost use Rattle.std.specs.Prelude.{◌≡◌, ◌↔◌, IsTrue};
 ghost use Rattle.log_ring.specs.Homes.{IsMember, member_of as member_there};
 
-use disk_label::{Anchor, Member};
-use domain_base::VolIx;
-use domain_base::limits::MAX_VOLUMES;
+use disk_label::limits::MAX_VOLUMES;
+use disk_label::{Anchor, Member, VolIx};
 
 /// A volume as an anchor has it: its pages of 8,192 bytes, and its state.
 pub fn member_of(anchor: &Anchor, vol: VolIx) -> Member

@@ -1,12 +1,13 @@
 //! Where the places of a log's ring stand.
 ghost use Rattle.std.specs.Prelude.{◌≡◌, ◌+◌, ◌^◌, ◌<◌, ◌≤◌};
-ghost use Rattle.domain_base.specs.Limits.{log_pages};
+ghost use Rattle.disk_label.specs.domain_base.Limits.{log_pages};
 ghost use Rattle.log_ring.specs.Ring.{ring_page as page_of_place};
 
 use disk_label::Anchor;
-use domain_base::limits::LOG_PAGES;
+use disk_label::limits::LOG_PAGES;
 
-/// The page of a place of the ring, on the volume of the log. Places are counted on without end.
+/// The page of a place of the ring, on the volume of the log. The count of places continues past
+/// the end of the ring.
 pub fn ring_page(anchor: &Anchor, place: u32) -> u32
     requires { anchor.now.log_page + log_pages ≤ 2 ^ 32 }
     ensures page { result ≡ page_of_place anchor.now place }

@@ -1,4 +1,4 @@
-//! The images of a log brought home, and its start moved behind them.
+//! The images of a log are brought home, and its start is moved past them.
 ghost use Rattle.std.specs.Prelude.{
   ◌≡◌,
   ◌+◌,
@@ -12,15 +12,15 @@ ghost use Rattle.std.specs.Prelude.{
   length,
 };
 ghost use Rattle.std.specs.List.{list_any};
-ghost use Rattle.volume_disk.specs.Disk.{Tells};
-ghost use Rattle.volume_disk.specs.Image.{NoPlace, page_at};
-ghost use Rattle.volume_disk.specs.Run.{IsLaterBy, NamesWriteFault, OnlyWrites};
+ghost use Rattle.disk_label.specs.volume_disk.Disk.{Tells};
+ghost use Rattle.disk_label.specs.volume_disk.Image.{NoPlace, page_at};
+ghost use Rattle.disk_label.specs.volume_disk.Run.{IsLaterBy, NamesWriteFault, OnlyWrites};
 ghost use Rattle.disk_label.specs.Anchor.{IsAnchor, IsNext, IsWhole};
 ghost use Rattle.page_store.specs.Pages.{same_home};
-ghost use Rattle.page_change.specs.Images.{homes_of};
-ghost use Rattle.page_change.specs.declared.image.PageImage.{PageImage};
+ghost use Rattle.log_ring.specs.Images.{homes_of};
+ghost use Rattle.log_ring.specs.declared.image.PageImage.{PageImage};
 ghost use Rattle.log_ring.specs.Homes.{AreOutside, HaveHomes, IsHomeOf};
-ghost use Rattle.log_ring.specs.Laws.{AreHome};
+ghost use Rattle.log_ring.specs.LogLaws.{AreHome};
 ghost use Rattle.log_ring.specs.Ring.{IsRing};
 ghost use Rattle.log_ring.specs.Settling.{
   BringsHome,
@@ -30,11 +30,9 @@ ghost use Rattle.log_ring.specs.Settling.{
   IsOnPage,
 };
 
-use disk_label::{Anchor, write_anchor};
-use domain_base::VolIx;
-use domain_base::limits::{BLOCKS_PER_PAGE, MAX_VOLUMES};
-use page_change::{PageImage, place_of};
-use volume_disk::{Rack, sync_volume, write_blocks};
+use crate::{PageImage, place_of};
+use disk_label::limits::{BLOCKS_PER_PAGE, MAX_VOLUMES};
+use disk_label::{Anchor, Rack, VolIx, sync_volume, write_anchor, write_blocks};
 
 /// Writes an image to its home.
 fn write_image<R: Rack>(rack: &mut R, image: &PageImage) -> Result<(), VolIx>
@@ -131,7 +129,7 @@ fn sync_homes<R: Rack>(rack: &mut R, images: &[PageImage]) -> Result<(), VolIx>
     Ok(())
 }
 
-/// Brings the images of a log home, and writes the anchor with which it starts behind them. Each
+/// Brings the images of a log home, and writes the anchor with which it starts after them. Each
 /// home is written once, with the last image of it, and each volume that was written is synced
 /// once, before the anchor.
 pub fn bring_home<R: Rack>(rack: &mut R, images: &[PageImage], next: &Anchor) -> Result<(), VolIx>

@@ -4,24 +4,24 @@ use Rattle.std.proofs.lemmas.Bool.{eq-eqb, or_parts}
 use Rattle.std.proofs.lemmas.List.{append-nil}
 use Rattle.std.proofs.lemmas.List.Elements.{All-weaker}
 use Rattle.std.specs.List.{list_any}
-use Rattle.domain_base.specs.declared.place.Home.{Home}
-use Rattle.page_store.specs.Pages.{same_home}
-use Rattle.volume_disk.specs.Disk.{Disk, IsSettled, MayLeave, Tells, volume_pages, HasVolume}
-use Rattle.volume_disk.specs.Image.{AreBytes, Image, Places}
-use Rattle.volume_disk.specs.Run.{LeavesOnly, OnlyReads, Touches}
-use Rattle.volume_disk.proofs.Laws.{both, leaves-now, started, touches-wider, weaker}
-use Rattle.disk_label.specs.Anchor.{IsAnchor}
-use Rattle.disk_label.specs.Slot.{HasReadied, IsOnAnchors, IsReadyFor, ReadiesSlot, StaysSynced}
-use Rattle.disk_label.specs.declared.anchor.Anchor.{Anchor}
-use Rattle.disk_label.proofs.Elsewhere.{ready_still}
-use Rattle.page_change.specs.Images.{AreDistinctHomes, homes_of, joined, with_image}
-use Rattle.page_change.specs.declared.image.PageImage.{PageImage}
-use Rattle.page_change.proofs.SameHomes.{other_swapped}
-use Rattle.log_ring.specs.Groups.{Group, redone as redone_pages, span}
-use Rattle.log_ring.specs.Homes.{AreOutside, IsLogPage, IsLoggable}
-use Rattle.log_ring.specs.Ring.{IsOnLog, IsOnPlaces}
-use Rattle.log_ring.specs.Settling.{BringsHome, HasBroughtHome, MeansTheSame}
-use Rattle.log_ring.proofs.RingPlaces.{log_beside_anchors, on_log}
+use Rattle.log_recovery.specs.domain_base.declared.place.Home.{Home}
+use Rattle.log_recovery.specs.page_store.Pages.{same_home}
+use Rattle.log_recovery.specs.volume_disk.Disk.{Disk, IsSettled, MayLeave, Tells, volume_pages, HasVolume}
+use Rattle.log_recovery.specs.volume_disk.Image.{AreBytes, Image, Places}
+use Rattle.log_recovery.specs.volume_disk.Run.{LeavesOnly, OnlyReads, Touches}
+use Rattle.log_recovery.proofs.OfVolumeDisk.Laws.{both, leaves-now, started, touches-wider, weaker}
+use Rattle.log_recovery.specs.disk_label.Anchor.{IsAnchor}
+use Rattle.log_recovery.specs.disk_label.Slot.{HasReadied, IsOnAnchors, IsReadyFor, ReadiesSlot, StaysSynced}
+use Rattle.log_recovery.specs.disk_label.declared.anchor.Anchor.{Anchor}
+use Rattle.log_recovery.proofs.OfDiskLabel.Elsewhere.{ready_still}
+use Rattle.log_recovery.specs.log_ring.Images.{AreDistinctHomes, homes_of, joined, with_image}
+use Rattle.log_recovery.specs.log_ring.declared.image.PageImage.{PageImage}
+use Rattle.log_recovery.proofs.OfLogRing.SameHomes.{other_swapped}
+use Rattle.log_recovery.specs.log_ring.Groups.{Group, redone as redone_pages, span}
+use Rattle.log_recovery.specs.log_ring.Homes.{AreOutside, IsLogPage, IsLoggable}
+use Rattle.log_recovery.specs.log_ring.Ring.{IsOnLog, IsOnPlaces}
+use Rattle.log_recovery.specs.log_ring.Settling.{BringsHome, HasBroughtHome, MeansTheSame}
+use Rattle.log_recovery.proofs.OfLogRing.RingPlaces.{log_beside_anchors, on_log}
 use Rattle.log_recovery.specs.Laws.{IsReadyToSettle}
 use Rattle.log_recovery.specs.Outcome.{HasGoodAnchor, HasRecovered, IsSound, IsUsable}
 use Rattle.log_recovery.specs.Readable.{IsBehindAnchors, IsReadable, SettlesReadably}
@@ -34,9 +34,9 @@ use Rattle.meta_log.specs.Checkpoint.{Checkpoints, HasCheckpointed, MayCheckpoin
 use Rattle.meta_log.specs.Force.{Forces, HasEither, HasForced, forced}
 use Rattle.meta_log.specs.Log.{IsFullFor, IsLog, Log, Stands, appended, group_of, groups_of, new_log, next_number, pending_groups, used}
 use Rattle.meta_log.proofs.Pending.{one_group}
-use Rattle.log_settling.specs.Settling.{ReadsAs, StandsAtHome, StaysRead}
+use Rattle.log_recovery.specs.Settling.{ReadsAs, StandsAtHome, StaysRead}
 use Rattle.log_tests.specs.Opened.{Adds, AddsOrNot, ComesHome, IsAtRest, ReadsAsBefore, with_change}
-use Rattle.log_settling.proofs.Meanings.{good_is, log_settled, only_read, pages_home, reads_from, slot_readied}
+use Rattle.log_recovery.proofs.Meanings.{good_is, log_settled, only_read, pages_home, reads_from, slot_readied}
 
 -- what was told at the end was told at the start
 told_before : (old new : Disk) → new.told ≡ old.told → Tells new → Tells old

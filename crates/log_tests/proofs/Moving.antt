@@ -1,24 +1,24 @@
 -- A log that is moved to another volume: each call leaves what recovery takes.
 use Rattle.std.proofs.Common.{◌≡◌, ◌≢◌, ◌==◌, ℕ, ◌+◌, ◌-◌, ◌*◌, ◌%◌, ◌^◌, ◌<◌, ◌≤◌, Bool, true, false, cond, List, [], ◌∷◌, Some, IsSome, inl, inr, refl, sym, ◌∙◌, ap, subst, arith}
 use Rattle.std.proofs.lemmas.Bool.{eq-eqb, ne_eqb}
-use Rattle.domain_base.specs.Gate.{closed}
-use Rattle.domain_base.specs.declared.place.Home.{Home}
-use Rattle.volume_disk.specs.Disk.{Disk, IsSettled, MayLeave, Tells}
-use Rattle.volume_disk.specs.Image.{AreBytes, Image, IsIn, NoPlace, Places}
-use Rattle.volume_disk.specs.Run.{LeavesOnly, MayLeaveTorn, OnlyWrites, Settles, Touches}
-use Rattle.volume_disk.proofs.Laws.{both, leaves-now, then_on, touches-then, touches-wider, weaker}
-use Rattle.disk_label.specs.Anchor.{IsAnchor, IsNext, IsWhole}
-use Rattle.disk_label.specs.Slot.{HasAnchor, HasReadied, IsBody, IsOnAnchors, IsReady, IsReadyFor, ReadiesSlot, StaysSynced}
-use Rattle.disk_label.specs.declared.anchor.Anchor.{Anchor}
-use Rattle.disk_label.proofs.Elsewhere.{anchor_since, ready_still}
-use Rattle.page_change.specs.Images.{image_at}
-use Rattle.page_change.specs.declared.image.PageImage.{PageImage}
-use Rattle.log_ring.specs.Groups.{Group, LogStands}
-use Rattle.log_ring.specs.Homes.{HasMembers}
-use Rattle.log_ring.specs.Laws.{LogStays}
-use Rattle.log_ring.specs.Ring.{IsGateOpen, IsOnLog, IsRing}
-use Rattle.log_ring.specs.Settling.{IsAtHomesOrSlot}
-use Rattle.log_ring.proofs.Staying.{log_beside}
+use Rattle.log_recovery.specs.domain_base.Gate.{closed}
+use Rattle.log_recovery.specs.domain_base.declared.place.Home.{Home}
+use Rattle.log_recovery.specs.volume_disk.Disk.{Disk, IsSettled, MayLeave, Tells}
+use Rattle.log_recovery.specs.volume_disk.Image.{AreBytes, Image, IsIn, NoPlace, Places}
+use Rattle.log_recovery.specs.volume_disk.Run.{LeavesOnly, MayLeaveTorn, OnlyWrites, Settles, Touches}
+use Rattle.log_recovery.proofs.OfVolumeDisk.Laws.{both, leaves-now, then_on, touches-then, touches-wider, weaker}
+use Rattle.log_recovery.specs.disk_label.Anchor.{IsAnchor, IsNext, IsWhole}
+use Rattle.log_recovery.specs.disk_label.Slot.{HasAnchor, HasReadied, IsBody, IsOnAnchors, IsReady, IsReadyFor, ReadiesSlot, StaysSynced}
+use Rattle.log_recovery.specs.disk_label.declared.anchor.Anchor.{Anchor}
+use Rattle.log_recovery.proofs.OfDiskLabel.Elsewhere.{anchor_since, ready_still}
+use Rattle.log_recovery.specs.log_ring.Images.{image_at}
+use Rattle.log_recovery.specs.log_ring.declared.image.PageImage.{PageImage}
+use Rattle.log_recovery.specs.log_ring.Groups.{Group, LogStands}
+use Rattle.log_recovery.specs.log_ring.Homes.{HasMembers}
+use Rattle.log_recovery.specs.log_ring.LogLaws.{LogStays}
+use Rattle.log_recovery.specs.log_ring.Ring.{IsGateOpen, IsOnLog, IsRing}
+use Rattle.log_recovery.specs.log_ring.Settling.{IsAtHomesOrSlot}
+use Rattle.log_recovery.proofs.OfLogRing.Staying.{log_beside}
 use Rattle.log_recovery.specs.Outcome.{HasGoodAnchor, IsUsable}
 use Rattle.log_recovery.specs.Readable.{IsBesideLabels, IsGoodNow, IsReadable, WouldBeGood, WouldBeGoodNow}
 use Rattle.log_recovery.proofs.GoodAnchors.{homes_there, keeps_good_beside, labels-same, leaves_readable, would_be-same, would_be_good}
@@ -27,7 +27,7 @@ use Rattle.meta_log.specs.Log.{IsLog, Log, Stands, new_log, used}
 use Rattle.meta_log.proofs.Bodies.{written_closed}
 use Rattle.log_tests.specs.Moves.{IsMoving, MovesReadably}
 use Rattle.log_tests.specs.Opened.{IsAtRest}
-use Rattle.log_settling.proofs.Meanings.{good_is}
+use Rattle.log_recovery.proofs.Meanings.{good_is}
 
 -- what each image since has, each image of now has
 has_after : (old new : Disk) (anchor : Anchor) → new.sizes ≡ old.sizes → LeavesOnly old new (λ image. IsAnchor old.sizes image (Some anchor)) → HasAnchor new (Some anchor)

@@ -1,6 +1,6 @@
 -- A call of a rack is one of the same rack that tells nothing.
 use Rattle.std.proofs.Common.{ℕ, List, refl}
-use Rattle.volume_disk.specs.Disk.{Disk, Makes, Moment, ReadDone, SyncDone, Tells, WriteDone, WriteFailed}
+use Rattle.log_recovery.specs.volume_disk.Disk.{Disk, Makes, Moment, ReadDone, SyncDone, Tells, WriteDone, WriteFailed}
 use Rattle.log_tests.specs.Untold.{untold}
 
 not_told : (disk : Disk) → Tells (untold disk) → ⊥

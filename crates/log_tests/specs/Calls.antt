@@ -1,12 +1,12 @@
 -- What the calls of a log ask for.
 use Rattle.std.specs.Prelude.{◌≡◌, ◌+◌, ◌^◌, ◌<◌, ◌≤◌, ℕ, List, [], length}
-use Rattle.domain_base.specs.Limits.{max_volume_pages_4}
-use Rattle.volume_disk.specs.Disk.{Disk, volume_pages}
-use Rattle.disk_label.specs.Anchor.{IsWhole}
-use Rattle.disk_label.specs.declared.anchor.Anchor.{Anchor}
-use Rattle.page_change.specs.declared.image.PageImage.{PageImage}
-use Rattle.log_ring.specs.Homes.{AreLoggable, AreOutside, HasMembers, member_of}
-use Rattle.log_ring.specs.Ring.{IsRing}
+use Rattle.log_recovery.specs.domain_base.Limits.{max_volume_pages_4}
+use Rattle.log_recovery.specs.volume_disk.Disk.{Disk, volume_pages}
+use Rattle.log_recovery.specs.disk_label.Anchor.{IsWhole}
+use Rattle.log_recovery.specs.disk_label.declared.anchor.Anchor.{Anchor}
+use Rattle.log_recovery.specs.log_ring.declared.image.PageImage.{PageImage}
+use Rattle.log_recovery.specs.log_ring.Homes.{AreLoggable, AreOutside, HasMembers, member_of}
+use Rattle.log_recovery.specs.log_ring.Ring.{IsRing}
 use Rattle.meta_log.specs.Log.{Log, next_number}
 
 -- a change may be appended

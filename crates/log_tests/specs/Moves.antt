@@ -1,14 +1,14 @@
 -- What moving a log to another volume leaves.
 use Rattle.std.specs.Prelude.{◌≡◌, ◌≢◌, ◌⊎◌, ◌+◌, ◌*◌, ◌^◌, ◌<◌, ℕ, List}
-use Rattle.domain_base.specs.Limits.{block_bytes, log_pages, page_bytes}
-use Rattle.volume_disk.specs.Disk.{Disk, Tells}
-use Rattle.volume_disk.specs.Image.{IsIn, Places}
-use Rattle.volume_disk.specs.Run.{LeavesOnly}
-use Rattle.disk_label.specs.Anchor.{IsWhole}
-use Rattle.disk_label.specs.FirstPages.{anchors_page}
-use Rattle.disk_label.specs.declared.anchor.Anchor.{Anchor}
-use Rattle.log_ring.specs.Homes.{HasMembers}
-use Rattle.log_ring.specs.Ring.{IsRing}
+use Rattle.log_recovery.specs.domain_base.Limits.{block_bytes, log_pages, page_bytes}
+use Rattle.log_recovery.specs.volume_disk.Disk.{Disk, Tells}
+use Rattle.log_recovery.specs.volume_disk.Image.{IsIn, Places}
+use Rattle.log_recovery.specs.volume_disk.Run.{LeavesOnly}
+use Rattle.log_recovery.specs.disk_label.Anchor.{IsWhole}
+use Rattle.log_recovery.specs.disk_label.FirstPages.{anchors_page}
+use Rattle.log_recovery.specs.disk_label.declared.anchor.Anchor.{Anchor}
+use Rattle.log_recovery.specs.log_ring.Homes.{HasMembers}
+use Rattle.log_recovery.specs.log_ring.Ring.{IsRing}
 use Rattle.log_recovery.specs.Readable.{IsReadable, WouldBeGoodNow}
 use Rattle.meta_log.specs.Log.{Log}
 

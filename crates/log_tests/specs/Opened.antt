@@ -1,15 +1,15 @@
 -- A log at rest on a rack, between two calls, and what the calls of its order leave.
 use Rattle.std.specs.Prelude.{◌≡◌, ◌++◌, ℕ, List, [], ◌∷◌, Some}
-use Rattle.volume_disk.specs.Disk.{Disk, MayLeave, Tells, raised_at}
-use Rattle.volume_disk.specs.Image.{Image}
-use Rattle.volume_disk.specs.Run.{LeavesOnly}
-use Rattle.disk_label.specs.Anchor.{IsNext}
-use Rattle.disk_label.specs.Fault.{HasSlotCause}
-use Rattle.disk_label.specs.Slot.{IsReadyFor}
-use Rattle.disk_label.specs.declared.anchor.Anchor.{Anchor}
-use Rattle.page_change.specs.declared.image.PageImage.{PageImage}
-use Rattle.log_ring.specs.Groups.{Group, redone}
-use Rattle.log_ring.specs.Settling.{IsRedoneAs}
+use Rattle.log_recovery.specs.volume_disk.Disk.{Disk, MayLeave, Tells, raised_at}
+use Rattle.log_recovery.specs.volume_disk.Image.{Image}
+use Rattle.log_recovery.specs.volume_disk.Run.{LeavesOnly}
+use Rattle.log_recovery.specs.disk_label.Anchor.{IsNext}
+use Rattle.log_recovery.specs.disk_label.Fault.{HasSlotCause}
+use Rattle.log_recovery.specs.disk_label.Slot.{IsReadyFor}
+use Rattle.log_recovery.specs.disk_label.declared.anchor.Anchor.{Anchor}
+use Rattle.log_recovery.specs.log_ring.declared.image.PageImage.{PageImage}
+use Rattle.log_recovery.specs.log_ring.Groups.{Group, redone}
+use Rattle.log_recovery.specs.log_ring.Settling.{IsRedoneAs}
 use Rattle.log_recovery.specs.Fault.{HasCause, IfNotADomain}
 use Rattle.log_recovery.specs.Outcome.{HasGoodAnchor, HasRecovered, IsFirstFault, IsUsable}
 use Rattle.log_recovery.specs.Readable.{IsGoodNow}
@@ -17,7 +17,7 @@ use Rattle.log_recovery.specs.Settled.{HasNumbersLeft, settled_anchor}
 use Rattle.log_recovery.specs.declared.redone.Redone.{Redone}
 use Rattle.meta_log.specs.Force.{HasEither}
 use Rattle.meta_log.specs.Log.{IsFullFor, Log, Stands, group_of, new_log, next_number}
-use Rattle.log_settling.specs.Settling.{ReadsAs}
+use Rattle.log_recovery.specs.Settling.{ReadsAs}
 use Rattle.log_tests.specs.declared.openings.OpenFault.{OpenFault}
 use Rattle.log_tests.specs.declared.openings.OpenFault.TheVariants.{Recovering, NoNumbers, Readying, Settling, OutOfMemory}
 

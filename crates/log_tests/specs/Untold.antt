@@ -1,6 +1,6 @@
 -- A rack that tells nothing of what it holds.
 use Rattle.std.specs.Prelude.{false}
-use Rattle.volume_disk.specs.Disk.{Disk}
+use Rattle.log_recovery.specs.volume_disk.Disk.{Disk}
 use Rattle.memory_disk.specs.Memory.{memory_disk}
 use Rattle.log_tests.specs.declared.counting.CountRack.{CountRack}
 

@@ -1,10 +1,10 @@
 //! Changes and headers: what they hold, and what is made of them.
 
-use domain_base::limits::{BLOCK_BYTES, PAGE_BYTES};
-use domain_base::{Home, OutOfMemory, Page, VolIx};
-use memory_store::MemoryPages;
-use page_change::{Change, HeaderRead, HomeList, read_header, write_header};
-use page_store::MetaPages;
+use log_recovery::limits::{BLOCK_BYTES, PAGE_BYTES};
+use log_recovery::{
+    Change, HeaderRead, Home, HomeList, MemoryPages, MetaPages, OutOfMemory, Page, VolIx,
+    read_header, write_header,
+};
 use std::alloc::Global;
 use std::test::Fail;
 

@@ -1,8 +1,7 @@
 //! A rack in memory that counts its calls by what they are for.
 
-use domain_base::{Failed, VolIx};
+use log_recovery::{Failed, Rack, VolIx};
 use memory_disk::MemoryRack;
-use volume_disk::Rack;
 
 /// How often a rack was called: writes of more than a block, writes of a block, and syncs of
 /// volumes 1 and 2.

@@ -5,11 +5,10 @@ use crate::logs::{
     Appended, Seen, append, append_on, append_run, bring_home, faults_of, force, leaves, move_home,
     move_ring, started, started_on,
 };
-use domain_base::OutOfMemory;
+use log_recovery::{OutOfMemory, Rack};
 use meta_log::{LogFull, MetaLog};
 use std::alloc::Global;
 use std::test::Fail;
-use volume_disk::Rack;
 
 /// Three groups of pages of volume 2.
 static GROUPS: [&[(u32, u8)]; 3] = [&[(10, 1), (11, 2)], &[(11, 3), (12, 4)], &[(10, 5)]];

@@ -1,24 +1,23 @@
 //! Logs by plain numbers, on racks in memory, whose calls are made where their conditions hold.
 ghost use Rattle.std.specs.Prelude.{◌≡◌, ◌+◌, ◌^◌, ◌<◌, IsTrue};
-ghost use Rattle.volume_disk.specs.Disk.{Tells};
-ghost use Rattle.log_ring.specs.Homes.{AreLoggable, HasMembers};
-ghost use Rattle.log_ring.specs.Ring.{IsRing};
+ghost use Rattle.log_recovery.specs.volume_disk.Disk.{Tells};
+ghost use Rattle.log_recovery.specs.log_ring.Homes.{AreLoggable, HasMembers};
+ghost use Rattle.log_recovery.specs.log_ring.Ring.{IsRing};
 ghost use Rattle.meta_log.specs.Log.{next_number};
 ghost use Rattle.log_tests.specs.Calls.{HasMember, MayAppend, MayBringHome};
 ghost use Rattle.log_tests.specs.Moves.{MayMoveTo};
 
 use crate::counting::{CountRack, NO_CALLS};
-use disk_label::{Anchor, Member, write_anchor, write_label};
-use domain_base::limits::{
+use log_recovery::limits::{
     BLOCKS_PER_PAGE, LOG_PAGES, MAX_VOLUME_PAGES, MAX_VOLUME_PAGES_4, MAX_VOLUMES, PAGE_BYTES,
 };
-use domain_base::{Home, OutOfMemory, Page, Version, VolIx};
-use log_recovery::{is_loggable, is_whole, recover};
+use log_recovery::{
+    Anchor, Change, Home, Member, OutOfMemory, Page, PageImage, Rack, Version, VolIx, image_of,
+    is_loggable, is_whole, read_blocks, recover, write_anchor, write_label,
+};
 use memory_disk::MemoryRack;
 use meta_log::{LogFull, MetaLog};
-use page_change::{Change, PageImage, image_of};
 use std::alloc::Global;
-use volume_disk::{Rack, read_blocks};
 
 /// The pages of volumes 1 and 2.
 pub const SIZES: [u32; 2] = [160, 80];

@@ -1,19 +1,17 @@
 //! A caller that moves a log to another volume.
 ghost use Rattle.std.specs.Prelude.{◌≡◌, IfErr, OnOk, []};
-ghost use Rattle.volume_disk.specs.Disk.{Tells};
-ghost use Rattle.volume_disk.specs.Run.{Touches};
-ghost use Rattle.disk_label.specs.Fault.{HasSlotCause};
+ghost use Rattle.log_recovery.specs.volume_disk.Disk.{Tells};
+ghost use Rattle.log_recovery.specs.volume_disk.Run.{Touches};
+ghost use Rattle.log_recovery.specs.disk_label.Fault.{HasSlotCause};
 ghost use Rattle.log_recovery.specs.Readable.{WouldBeGoodNow};
 ghost use Rattle.meta_log.specs.Checkpoint.{next_anchor};
 ghost use Rattle.meta_log.specs.Log.{new_log};
 ghost use Rattle.log_tests.specs.Moves.{IsMoving, MayMoveTo, MovesReadably};
 ghost use Rattle.log_tests.specs.Opened.{IsAtRest};
 
-use disk_label::{Anchor, SlotFault, ready_slot};
-use domain_base::VolIx;
-use domain_base::limits::BLOCKS_PER_PAGE;
+use log_recovery::limits::BLOCKS_PER_PAGE;
+use log_recovery::{Anchor, Rack, SlotFault, VolIx, close_gate, ready_slot, sync_volumes};
 use meta_log::MetaLog;
-use volume_disk::{Rack, close_gate, sync_volumes};
 
 /// Moves a log that is home to a ring on another volume, by an anchor that is given but for its
 /// number, slot, start and group: makes both slots of the volume ready, closes the gate at which

@@ -2,12 +2,12 @@
 //! home. Each call's conditions are met by what the calls before it promise, and so is what the
 //! order as a whole leaves.
 ghost use Rattle.std.specs.Prelude.{◌≡◌, ◌⊎◌, ◌^◌, ◌≤◌, IfErr, IfOk, IsFalse, IsTrue, [], length};
-ghost use Rattle.volume_disk.specs.Disk.{IsSettled, Tells};
-ghost use Rattle.volume_disk.specs.Run.{Touches};
-ghost use Rattle.log_ring.specs.Ring.{IsOnLog};
+ghost use Rattle.log_recovery.specs.volume_disk.Disk.{IsSettled, Tells};
+ghost use Rattle.log_recovery.specs.volume_disk.Run.{Touches};
+ghost use Rattle.log_recovery.specs.log_ring.Ring.{IsOnLog};
 ghost use Rattle.meta_log.specs.Checkpoint.{next_anchor};
 ghost use Rattle.meta_log.specs.Log.{new_log};
-ghost use Rattle.log_settling.specs.Settling.{StandsAtHome, StaysRead};
+ghost use Rattle.log_recovery.specs.Settling.{StandsAtHome, StaysRead};
 ghost use Rattle.log_tests.specs.Calls.{MayAppend};
 ghost use Rattle.log_tests.specs.Opened.{
   Adds,
@@ -21,13 +21,9 @@ ghost use Rattle.log_tests.specs.Opened.{
   WasFull,
 };
 
-use disk_label::{SlotFault, ready_slot};
-use domain_base::VolIx;
-use log_recovery::{RecoverFault, recover, settle};
+use log_recovery::{Change, Rack, RecoverFault, SlotFault, VolIx, ready_slot, recover, settle};
 use meta_log::MetaLog;
-use page_change::Change;
 use std::alloc::Global;
-use volume_disk::Rack;
 
 /// Why a log is not opened.
 #[derive(Clone, Copy, Debug, PartialEq, Eq)]

@@ -1,17 +1,16 @@
 //! The whole order of calls, on a rack that tells what it holds.
 
-ghost use Rattle.volume_disk.specs.Disk.{IsSettled};
+ghost use Rattle.log_recovery.specs.volume_disk.Disk.{IsSettled};
 ghost use Rattle.memory_disk.specs.Memory.{memory_disk};
 
 use crate::counting::CountRack;
 use crate::logs::{NOTHING, Seen, change_of, look_at, may_append, may_move_to, moved, started_on};
 use crate::recoveries::by_hand;
 use crate::{close_log, log_change, move_log, open_log};
-use domain_base::OutOfMemory;
+use log_recovery::{OutOfMemory, Rack};
 use memory_disk::MemoryRack;
 use std::alloc::Global;
 use std::test::Fail;
-use volume_disk::Rack;
 
 /// How many steps pass: opening the log of a rack that starts again, logging a page full of 9, and
 /// closing the log.

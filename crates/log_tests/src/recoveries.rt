@@ -2,13 +2,11 @@
 
 use crate::counting::CountRack;
 use crate::logs::{Seen, look_at, started, started_on};
-use domain_base::gate::open_block;
-use domain_base::limits::{BLOCKS_PER_PAGE, LOG_PAGES, PAGE_BYTES};
-use domain_base::{OutOfMemory, Page, VolIx};
-use log_recovery::{RecoverFault, recover};
+use log_recovery::gate::open_block;
+use log_recovery::limits::{BLOCKS_PER_PAGE, LOG_PAGES, PAGE_BYTES};
+use log_recovery::{OutOfMemory, Page, Rack, RecoverFault, VolIx, read_blocks, recover};
 use std::alloc::Global;
 use std::test::Fail;
-use volume_disk::{Rack, read_blocks};
 
 /// A group as it is written by hand: its number, the volume and page of each image, and the byte
 /// that the first image is full of; each further one is full of the next byte.

@@ -3,13 +3,10 @@
 use crate::counting::{CountRack, Counts, NO_CALLS};
 use crate::logs::{Appended, Seen, append, faults_of, force, leaves, leaves_by, look_at, started};
 use crate::recoveries::{Answer, HOME, REDONE, by_hand, found};
-use disk_label::ready_slot;
-use domain_base::{OutOfMemory, VolIx};
-use log_recovery::{recover, settle};
+use log_recovery::{OutOfMemory, Rack, VolIx, ready_slot, recover, settle};
 use meta_log::MetaLog;
 use std::alloc::Global;
 use std::test::Fail;
-use volume_disk::Rack;
 
 /// Makes both slots of volume 1 ready: whether that passes.
 fn make_ready(rack: &mut CountRack) -> bool {

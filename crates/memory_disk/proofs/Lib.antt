@@ -6,3 +6,5 @@ pub mod OverlaidBytes
 pub mod Replays
 pub mod Stopped
 pub mod VolumeFields
+mod Made
+mod Untold

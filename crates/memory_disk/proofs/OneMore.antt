@@ -1,6 +1,6 @@
 -- What one call more makes of a rack in memory.
 use Rattle.std.proofs.Common.{◌≡◌, ℕ, ◌+◌, ◌-◌, ◌*◌, ◌%◌, ◌^◌, ◌<◌, ◌≤◌, IsTrue, List, length, refl, sym, ◌∙◌, ap, subst, arith}
-use Rattle.domain_base.specs.Counts.{raised}
+use Rattle.volume_disk.specs.domain_base.Counts.{raised}
 use Rattle.volume_disk.specs.Disk.{Disk, Moment, Makes, MayTear, SyncFailed, WriteFailed, volume_pages}
 use Rattle.memory_disk.specs.Kept.{replayed, Adds}
 use Rattle.memory_disk.specs.Memory.{memory_disk, past_of}

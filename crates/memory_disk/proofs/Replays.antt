@@ -2,7 +2,7 @@
 use Rattle.std.proofs.Common.{◌≡◌, ◌==◌, ◌&&◌, ℕ, zero, suc, ◌+◌, ◌-◌, ◌*◌, ◌%◌, ◌^◌, ◌<◌, ◌≤◌, min, nat_lt, nat_le, Bool, true, false, cond, IsTrue, Result, Ok, Err, is_err, OnOk, OnErr, List, [], ◌∷◌, ◌++◌, length, get_or, take, drop, refl, sym, ◌∙◌, ap, subst, inl, inr, arith}
 use Rattle.std.proofs.lemmas.Bool.{cases_order, cases_lt, eq-eqb, ne_eqb, lt-ltb, le-ltb, le-leb, lt-leb}
 use Rattle.std.proofs.lemmas.List.{take_all, drop_more}
-use Rattle.domain_base.specs.Counts.{raised}
+use Rattle.volume_disk.specs.domain_base.Counts.{raised}
 use Rattle.volume_disk.specs.Disk.{Disk, Moment, moment_at, volume_pages}
 use Rattle.memory_disk.specs.Kept.{effect_on, replayed, FitsIn, IsAdded, Adds}
 use Rattle.memory_disk.specs.Memory.{past_of}

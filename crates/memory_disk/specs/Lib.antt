@@ -5,3 +5,5 @@ pub mod Marks
 pub mod Memory
 pub mod Moment
 pub mod Volume
+pub mod Counts
+pub mod Files

@@ -1,7 +1,7 @@
 //! What a stop leaves of calls that are not synced, as a pick draws it.
 ghost use Rattle.std.specs.Prelude.{◌≡◌, length};
 
-use domain_base::limits::OPEN_GATE;
+use volume_disk::limits::OPEN_GATE;
 
 /// What is left of one half of a block.
 #[derive(Clone, Copy)]
@@ -10,12 +10,12 @@ enum Part {
     Written,
     /// What was there before.
     Before,
-    /// This byte all over.
+    /// This byte, throughout.
     Filled(u8),
 }
 
 impl Part {
-    /// Leaves that of a half over which these bytes were written.
+    /// Leaves this part of a half over which these bytes were written.
     fn leave(self, half: &mut [u8], bytes: &[u8])
         requires { length half.old ≡ length bytes.now }
         ensures { length half.new ≡ length half.old }
@@ -27,7 +27,8 @@ impl Part {
         }
     }
 
-    /// Whether all of it lasted or none of it, if this number tells so: each in one of four.
+    /// Whether all of it lasted or none of it, if this number says so. One in four numbers says
+    /// each.
     fn of_whole(number: u64) -> Option<Self> {
         match number % 4 {
             0 => Some(Part::Written),
@@ -45,8 +46,8 @@ impl Part {
     }
 }
 
-/// The byte that this number leaves: that of an open gate or that of a closed one each in one of
-/// four.
+/// The byte that this number leaves. One in four numbers gives the byte of an open gate, and one in
+/// four that of a closed gate.
 fn torn_byte(number: u64) -> u8 {
     match number % 4 {
         0 => OPEN_GATE,
@@ -70,7 +71,7 @@ impl Fate {
         }
     }
 
-    /// Leaves that of a block over which these bytes were written.
+    /// Leaves this of a block over which these bytes were written.
     pub fn leave(self, block: &mut [u8], bytes: &[u8])
         requires { length block.old ≡ length bytes.now }
         ensures { length block.new ≡ length block.old }
@@ -125,7 +126,7 @@ impl Draws {
     }
 }
 
-/// A number in which each bit depends on all bits of the one given.
+/// A number whose bits each depend on all bits of the given number.
 fn mixed(number: u64) -> u64 {
     let sum = number.wrapping_add(0x9e37_79b9_7f4a_7c15);
     let once = (sum ^ sum >> 30).wrapping_mul(0xbf58_476d_1ce4_e5b9);

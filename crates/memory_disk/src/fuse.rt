@@ -2,12 +2,11 @@
 ghost use Rattle.std.specs.Prelude.{◌≡◌, ◌+◌, ◌-◌, ◌^◌, min};
 
 use crate::MemoryRack;
-use domain_base::{Failed, VolIx};
-use volume_disk::Rack;
+use volume_disk::{Failed, Rack, VolIx};
 
-/// A rack that passes so many calls on to a rack in memory, which may fail them by itself, and
-/// fails every call after them. A write that it fails tears its range as one does that the rack in
-/// memory fails; of both only tests show it.
+/// A rack that passes a number of calls on to a rack in memory, which may itself fail them, and
+/// fails every call after them. A write that it fails tears its range as a write that the rack in
+/// memory fails does. Only tests show this, for both.
 #[derive(Drop)]
 pub struct FuseRack {
     rack: MemoryRack,
@@ -18,7 +17,7 @@ impl FuseRack {
     ghost use Rattle.memory_disk.specs.Fuse.{inner_of, last_of};
     ghost use Rattle.memory_disk.specs.Memory.{memory_disk};
 
-    /// Passes on so many more calls of the rack, as far as its clock goes.
+    /// Passes on `passes` more calls of the rack, as far as its clock goes.
     pub fn new(rack: MemoryRack, passes: u64) -> FuseRack
         ensures inner { inner_of result ≡ rack }
         ensures last { last_of result ≡ min ((memory_disk rack).calls + passes) (2 ^ 64 - 1) }

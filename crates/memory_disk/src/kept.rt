@@ -4,10 +4,10 @@ ghost use Rattle.std.specs.Prelude.{◌≡◌, ◌*◌, IsTrue, length, OnOk, On
 ghost use Rattle.memory_disk.specs.Kept.{Adds, block_of, size_of, effect_on};
 ghost use Rattle.memory_disk.specs.Moment.{torn, written};
 
-use domain_base::{OutOfMemory, VolIx};
 use std::alloc::Global;
+use volume_disk::{OutOfMemory, VolIx};
 
-/// What a call changed of what a stop may leave. Blocks have 512 bytes.
+/// What a call changed in what a stop may leave. Blocks have 512 bytes.
 #[derive(Drop)]
 pub enum Effect {
     /// These bytes were written from a block on.
@@ -26,7 +26,7 @@ pub struct KeptCall {
     pub effect: Effect,
 }
 
-/// Keeps a call, where calls are kept.
+/// Keeps a call, if calls are kept.
 pub fn keep(
     keeps: bool,
     kept: &mut Vec<KeptCall>,
@@ -50,7 +50,7 @@ pub fn keep(
     Ok(())
 }
 
-/// Keeps a write with a copy of its bytes, where calls are kept.
+/// Keeps a write with a copy of its bytes, if calls are kept.
 pub fn keep_write(
     alloc: Global,
     keeps: bool,
@@ -73,7 +73,7 @@ pub fn keep_write(
     keep(keeps, kept, number, vol, Effect::Wrote { block, bytes })
 }
 
-/// Keeps a write that failed with a copy of its bytes, where calls are kept.
+/// Keeps a write that failed with a copy of its bytes, if calls are kept.
 pub fn keep_failed_write(
     alloc: Global,
     keeps: bool,

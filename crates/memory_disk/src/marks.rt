@@ -17,8 +17,8 @@ ghost use Rattle.std.specs.Prelude.{
 };
 ghost use Rattle.memory_disk.specs.Marks.{is_marked};
 
-use domain_base::OutOfMemory;
 use std::alloc::Global;
+use volume_disk::OutOfMemory;
 
 /// Whether each block of a volume is marked: a number for each page, whose lowest bit is the page's
 /// first block.
@@ -28,7 +28,7 @@ pub struct Marks {
 }
 
 impl Marks {
-    /// Marks of the blocks of so many pages, none of them set.
+    /// Marks of the blocks of `pages` pages, none of them set.
     pub fn none(alloc: Global, pages: u32) -> Result<Self, OutOfMemory>
         ensures none { IfOk result (λ marks. (q : ℕ) → is_marked marks.words.items q ≡ false) }
         ensures pages { IfOk result (λ marks. vec_len marks.words ≡ pages) }

@@ -1,5 +1,5 @@
-//! A rack whose volumes are in memory, which fails where it is told to, and can tell what a stop
-//! may leave.
+//! A rack whose volumes are in memory. It fails when it is told to, and can tell what a stop may
+//! leave.
 ghost use Rattle.std.specs.Prelude.{
   ◌≡◌,
   ◌≤◌,
@@ -27,13 +27,12 @@ ghost use Rattle.memory_disk.specs.Volume.{moment_of, settled_of, sizes_of};
 
 use crate::kept::{Effect, KeptCall, keep, keep_failed_write, keep_write};
 use crate::volumes::Volumes;
-use domain_base::{Failed, OutOfMemory, VolIx};
 use std::alloc::Global;
-use volume_disk::Rack;
+use volume_disk::{Failed, OutOfMemory, Rack, VolIx};
 
-/// A rack in memory. Contracts tell what it holds and what a stop now may leave, and, where it
-/// keeps its calls, what a stop after any call since its making may have left; then `image` gives
-/// such a rack.
+/// A rack in memory. Contracts tell what it holds and what a stop now may leave. If it keeps its
+/// calls, they also tell what a stop after any call since its making may have left. Then `image`
+/// gives a rack with that.
 #[derive(Drop)]
 pub struct MemoryRack {
     alloc: Global,
@@ -53,12 +52,12 @@ pub struct MemoryRack {
 impl MemoryRack {
     ghost use Rattle.memory_disk.specs.Memory.{memory_disk, started, IsLeft, IsRestarted, IsTorn};
 
-    /// A rack of volumes of zeros, of so many pages each, in the order of their numbers. A domain
-    /// has at most eight volumes, so only the first eight sizes count. A call fails whose number,
-    /// counted from 1, is in `fails`. With `keep_calls` the rack can tell what a stop after any
-    /// call may have left, and a write or a sync fails where no memory is left to keep it; without,
-    /// no call takes memory, which no clause says. OutOfMemory comes where there is none for the
-    /// volumes.
+    /// A rack of volumes of zeros, with these sizes in pages, in the order of their numbers. A
+    /// domain has at most eight volumes, so only the first eight sizes count. A call fails if its
+    /// number, counted from 1, is in `fails`. With `keep_calls` the rack can tell what a stop after
+    /// any call may have left, and a write or a sync fails if no memory is left to keep it. Without
+    /// it no call takes memory, which no clause says. Fails as out of memory if there is none for
+    /// the volumes.
     pub fn new(
         alloc: Global,
         sizes: &[u32],
@@ -90,14 +89,14 @@ impl MemoryRack {
         self.keeps
     }
 
-    /// A rack that starts again on what a stop right after a call may have left; call 0 is the
+    /// A rack that starts again on what a stop right after a call may have left. Call 0 is the
     /// making of this rack. With pick 0 every write up to that call has lasted. Each other pick
     /// gives some image that the model allows, and no clause promises more of it. Tests show that
-    /// at pick 1 nothing has lasted that was not synced, and that each greater pick draws by
-    /// itself, for each call that was not synced, whether it lasted as a whole, in each page and in
-    /// each block, and what the halves of a torn block hold: what was written, what was there, or
-    /// one byte. Of a write that failed the same may last. The rack has to keep its calls, and has
-    /// to have made that one. OutOfMemory comes where there is none for the new rack.
+    /// at pick 1 nothing has lasted that was not synced. Each greater pick draws by itself, for
+    /// each call that was not synced, whether it lasted as a whole, in each page and in each block,
+    /// and what the halves of a torn block hold: what was written, what was there, or one byte. The
+    /// same may last of a write that failed. The rack must keep its calls, and must have made that
+    /// one. Fails as out of memory if there is none for the new rack.
     pub fn image(&self, alloc: Global, call: u64, pick: u64) -> Result<MemoryRack, OutOfMemory>
         requires kept { IsTrue (memory_disk self.now).kept }
         requires made { call ≤ (memory_disk self.now).calls }
@@ -153,8 +152,8 @@ impl MemoryRack {
         Ok(now)
     }
 
-    /// Volumes that hold, where they were not synced up to a call, what a pick draws: at pick 1
-    /// what was synced last.
+    /// Volumes that hold what a pick draws wherever they were not synced up to a call. At pick 1
+    /// that is what was last synced.
     fn draw(&self, alloc: Global, call: u64, pick: u64) -> Result<Volumes, OutOfMemory>
         requires { IsTrue self.now.keeps }
         ensures { IfOk result (λ volumes.
@@ -171,7 +170,7 @@ impl MemoryRack {
         Ok(drawn)
     }
 
-    /// Whether the next call has to fail.
+    /// Whether the next call must fail.
     pub(crate) fn must_fail(&self) -> bool
         ensures passes { result ≡ false → MayPass (memory_disk self.now) }
         ensures fails { result ≡ true → ¬ MayPass (memory_disk self.now) }
@@ -198,8 +197,7 @@ impl MemoryRack {
     }
 
     /// Makes a write that fails and tears its range, unless there is no number left, or no memory
-    /// to keep the call: then it tears nothing. Where calls are kept, only tests show that it
-    /// tears.
+    /// to keep the call. Then it tears nothing. If calls are kept, only tests show that it tears.
     pub(crate) fn fail_write(&mut self, vol: VolIx, block: u32, bytes: &[u8])
         requires { AreBlocks (memory_disk self.old) vol block (length bytes.now) }
         ensures failed { let n = length bytes.now in
@@ -230,9 +228,9 @@ impl MemoryRack {
     }
 }
 
-/// A call fails only where it has to, or where calls are kept and no memory is left to keep it, and
-/// a write that fails tears its range: the clauses `spared` and `tears` say so of a rack that keeps
-/// none.
+/// A call fails only if it must, or if calls are kept and no memory is left to keep it, and a write
+/// that fails tears its range. The clauses `spared` and `tears` say this of a rack that keeps no
+/// calls.
 impl Rack for MemoryRack {
     ghost use Rattle.volume_disk.specs.Disk.{ReadDone, SyncDone, WriteDone};
     ghost use Rattle.memory_disk.specs.Memory.{memory_disk, IsTorn};

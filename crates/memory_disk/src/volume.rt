@@ -18,9 +18,9 @@ ghost use Rattle.std.specs.Prelude.{
 
 use crate::draws::Draws;
 use crate::marks::Marks;
-use domain_base::OutOfMemory;
-use domain_base::limits::{BLOCK_BYTES, BLOCKS_PER_PAGE, PAGE_BYTES};
 use std::alloc::Global;
+use volume_disk::OutOfMemory;
+use volume_disk::limits::{BLOCK_BYTES, BLOCKS_PER_PAGE, PAGE_BYTES};
 
 /// A volume's bytes, and which of its blocks of 512 bytes were written since the last sync.
 #[derive(Drop)]
@@ -58,7 +58,7 @@ impl Volume {
         })
     }
 
-    /// The same bytes, all of them synced, and no fault counted.
+    /// A volume with the same bytes, all of them synced, and with no fault counted.
     pub fn copy(&self, alloc: Global) -> Result<Self, OutOfMemory>
         ensures bytes { IfOk result (λ volume. byte_of volume ≡ byte_of self.now) }
         ensures marks { IfOk result (λ volume. mark_of volume ≡ (λ _. false)) }
@@ -158,8 +158,8 @@ impl Volume {
         self.bytes[at..end].copy_from_slice(&other.bytes[at..end]);
     }
 
-    /// A volume that a stop may leave of this one, with nothing pending and no fault counted: where
-    /// a block was not synced, it is that of the one that was `drawn`.
+    /// A volume that a stop may leave of this one, with nothing pending and no fault counted. A
+    /// block that was not synced is taken from the volume `drawn`.
     pub fn after_stop(&self, alloc: Global, drawn: &Volume) -> Result<Self, OutOfMemory>
         requires { drawn.now.pages ≡ self.now.pages }
         ensures left { IfOk result (λ volume. (k : ℕ)

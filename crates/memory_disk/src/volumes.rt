@@ -16,9 +16,9 @@ ghost use Rattle.memory_disk.specs.Volume.{
 use crate::draws::Draws;
 use crate::kept::{Effect, KeptCall};
 use crate::volume::Volume;
-use domain_base::limits::BLOCK_BYTES;
-use domain_base::{OutOfMemory, VolIx};
 use std::alloc::Global;
+use volume_disk::limits::BLOCK_BYTES;
+use volume_disk::{OutOfMemory, VolIx};
 
 /// Up to eight volumes, numbered from 1.
 #[derive(Drop)]
@@ -28,7 +28,7 @@ pub struct Volumes {
 }
 
 impl Volumes {
-    /// Volumes of zeros, of so many pages each.
+    /// Volumes of zeros, with these sizes in pages.
     pub fn zeros(alloc: Global, sizes: &[u32]) -> Result<Self, OutOfMemory>
         requires { length sizes.now ≤ 8 }
         ensures moment { IfOk result (λ volumes. moment_of volumes.items.items ≡ blank) }
@@ -45,7 +45,7 @@ impl Volumes {
         Ok(Volumes { items })
     }
 
-    /// The pages of a volume; 0 where there is no such volume.
+    /// The pages of a volume, or 0 if there is no such volume.
     pub fn pages(&self, vol: VolIx) -> u32
         ensures { result ≡ volume_pages (sizes_of self.now.items.items) vol }
     {
@@ -152,7 +152,7 @@ impl Volumes {
         volume.write_faults = volume.write_faults.saturating_add(1);
     }
 
-    /// Makes a kept call again.
+    /// Repeats a kept call.
     pub fn make(&mut self, call: &KeptCall)
         requires { FitsIn (sizes_of self.old.items.items) call.now }
         ensures moment { let was = moment_of self.old.items.items in
@@ -186,8 +186,8 @@ impl Volumes {
         self.items[vol.index()].take_bytes(from);
     }
 
-    /// Leaves what a pick draws of a kept call. Where it is a sync, the volume takes the bytes that
-    /// it has in `now`; at pick 1 no other call leaves anything.
+    /// Leaves what a pick draws of a kept call. If it is a sync, the volume takes the bytes that it
+    /// has in `now`. At pick 1 no other call leaves anything.
     pub fn draw(&mut self, call: &KeptCall, now: &Volumes, pick: u64)
         requires fits { FitsIn (sizes_of self.old.items.items) call.now }
         requires same { sizes_of now.now.items.items ≡ sizes_of self.old.items.items }
@@ -201,7 +201,7 @@ impl Volumes {
         }
     }
 
-    /// The same volumes, all synced and with no fault counted.
+    /// A copy of these volumes, all synced and with no fault counted.
     pub fn copy(&self, alloc: Global) -> Result<Self, OutOfMemory>
         ensures moment { IfOk result (λ volumes.
             moment_of volumes.items.items ≡ settled_of self.now.items.items) }
@@ -219,8 +219,8 @@ impl Volumes {
         Ok(Volumes { items })
     }
 
-    /// Volumes that a stop may leave of these, with nothing pending and no fault counted: where a
-    /// block was not synced, it is that of those that were `drawn`, which have the same sizes.
+    /// Volumes that a stop may leave of these, with nothing pending and no fault counted. A block
+    /// that was not synced is taken from the volumes `drawn`, which have the same sizes.
     pub fn after_stop(&self, alloc: Global, drawn: &Volumes) -> Result<Self, OutOfMemory>
         requires { sizes_of drawn.now.items.items ≡ sizes_of self.now.items.items }
         ensures left { let was = moment_of self.now.items.items in IfOk result (λ volumes.

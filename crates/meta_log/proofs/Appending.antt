@@ -2,11 +2,11 @@
 use Rattle.std.proofs.Common.{◌≡◌, ℕ, ◌+◌, ◌^◌, ◌<◌, Bool, true, false, cond, List, [], ◌∷◌, length, ap, arith}
 use Rattle.std.proofs.lemmas.List.Elements.{All-cons, All-head, All-nil, All-tail}
 use Rattle.std.specs.List.{All}
-use Rattle.domain_base.specs.declared.place.Home.{Home}
-use Rattle.page_store.specs.Pages.{same_home}
-use Rattle.page_change.specs.Images.{joined, with_image}
-use Rattle.page_change.specs.declared.image.PageImage.{PageImage}
-use Rattle.page_change.proofs.Overlays.{AreDistinctHomes-joined, JoinsWell-joined}
+use Rattle.log_ring.specs.domain_base.declared.place.Home.{Home}
+use Rattle.log_ring.specs.page_store.Pages.{same_home}
+use Rattle.log_ring.specs.Images.{joined, with_image}
+use Rattle.log_ring.specs.declared.image.PageImage.{PageImage}
+use Rattle.log_ring.proofs.Overlays.{AreDistinctHomes-joined, JoinsWell-joined}
 use Rattle.log_ring.specs.Groups.{Group, span}
 use Rattle.log_ring.specs.Homes.{AreLoggable, IsLoggable}
 use Rattle.meta_log.specs.Log.{HasPlaceFor, IsLog, Log, appended, groups_of, next_number}

@@ -3,14 +3,14 @@ use Rattle.std.proofs.Common.{◌≡◌, ℕ, ◌+◌, ◌-◌, ◌<◌, ◌≤�
 use Rattle.std.proofs.lemmas.List.{get_or-drop, length-drop, length-replicate}
 use Rattle.std.proofs.lemmas.Slice.{between_to_end}
 use Rattle.std.proofs.lemmas.Grind.{same_number_lists}
-use Rattle.domain_base.specs.Gate.{closed}
-use Rattle.volume_disk.specs.Disk.{Disk, Syncs, Tells}
-use Rattle.volume_disk.specs.Image.{HasBytes, Image, IsIn, NoPlace, bytes_at, bytes_from}
-use Rattle.volume_disk.specs.Run.{OnlyWrites}
-use Rattle.volume_disk.proofs.Bytes.{bytes_from-same, get_or-bytes_from, length-bytes_from}
-use Rattle.volume_disk.proofs.Laws.{only_writes-then, only_writes-wider}
-use Rattle.disk_label.specs.declared.anchor.Anchor.{Anchor}
-use Rattle.page_change.specs.declared.image.PageImage.{PageImage}
+use Rattle.log_ring.specs.domain_base.Gate.{closed}
+use Rattle.log_ring.specs.volume_disk.Disk.{Disk, Syncs, Tells}
+use Rattle.log_ring.specs.volume_disk.Image.{HasBytes, Image, IsIn, NoPlace, bytes_at, bytes_from}
+use Rattle.log_ring.specs.volume_disk.Run.{OnlyWrites}
+use Rattle.log_ring.proofs.OfVolumeDisk.Bytes.{bytes_from-same, get_or-bytes_from, length-bytes_from}
+use Rattle.log_ring.proofs.OfVolumeDisk.Laws.{only_writes-then, only_writes-wider}
+use Rattle.log_ring.specs.disk_label.declared.anchor.Anchor.{Anchor}
+use Rattle.log_ring.specs.declared.image.PageImage.{PageImage}
 use Rattle.log_ring.specs.Groups.{AreImagesAt}
 use Rattle.log_ring.specs.Ring.{IsGateOpen, IsOnPlaces, place_at, ring_byte}
 use Rattle.log_ring.proofs.HomePages.{bytes_there}

@@ -1,11 +1,11 @@
 -- A checkpoint, as the images of a log brought home.
 use Rattle.std.proofs.Common.{◌≡◌, ◌⊎◌, ◌==◌, ◌+◌, ◌%◌, Bool, true, false, cond, List, Option, Some, refl, sym, ◌∙◌, ap, subst, inl, inr, arith}
 use Rattle.std.proofs.lemmas.Bool.{and_parts, both_ways, cases_Bool, eqb-true}
-use Rattle.volume_disk.specs.Disk.{Disk, MayLeave}
-use Rattle.volume_disk.specs.Image.{Image}
-use Rattle.disk_label.specs.Anchor.{IsAnchor, IsNext}
-use Rattle.disk_label.specs.declared.anchor.Anchor.{Anchor}
-use Rattle.page_change.specs.declared.image.PageImage.{PageImage}
+use Rattle.log_ring.specs.volume_disk.Disk.{Disk, MayLeave}
+use Rattle.log_ring.specs.volume_disk.Image.{Image}
+use Rattle.log_ring.specs.disk_label.Anchor.{IsAnchor, IsNext}
+use Rattle.log_ring.specs.disk_label.declared.anchor.Anchor.{Anchor}
+use Rattle.log_ring.specs.declared.image.PageImage.{PageImage}
 use Rattle.log_ring.specs.Groups.{Group, span}
 use Rattle.log_ring.specs.Ring.{IsGateOpen, ring_byte}
 use Rattle.log_ring.specs.Settling.{BringsHome, HasBroughtHome, MayMove}

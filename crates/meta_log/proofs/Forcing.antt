@@ -2,17 +2,17 @@
 use Rattle.std.proofs.Common.{◌≡◌, ℕ, ◌+◌, ◌<◌, ◌≤◌, List, [], ◌∷◌, ◌++◌, length, drop, Some, refl, sym, ◌∙◌, ap, subst, inl, inr, arith}
 use Rattle.std.proofs.lemmas.Bool.{cases_eq}
 use Rattle.std.proofs.lemmas.List.{append-nil, length-replicate}
-use Rattle.domain_base.specs.Gate.{opened}
-use Rattle.volume_disk.specs.Disk.{Disk, MayLeave, Tells}
-use Rattle.volume_disk.specs.Image.{Image, IsIn, SameIn, SameOutside}
-use Rattle.volume_disk.specs.Run.{LeavesOnly, MayLeaveTorn, OnlyWrites, Settles}
-use Rattle.volume_disk.proofs.Bytes.{bytes_from-same}
-use Rattle.volume_disk.proofs.Laws.{leaves-now, only_writes-then, only_writes-wider, then_on, touches-leaves, weaker}
-use Rattle.disk_label.specs.Slot.{IsOnAnchors}
-use Rattle.disk_label.specs.declared.anchor.Anchor.{Anchor}
-use Rattle.disk_label.proofs.Elsewhere.{IsAnchor-elsewhere}
-use Rattle.page_change.specs.Header.{IsHeader}
-use Rattle.page_change.proofs.HeaderPages.{header-behind_gate}
+use Rattle.log_ring.specs.domain_base.Gate.{opened}
+use Rattle.log_ring.specs.volume_disk.Disk.{Disk, MayLeave, Tells}
+use Rattle.log_ring.specs.volume_disk.Image.{Image, IsIn, SameIn, SameOutside}
+use Rattle.log_ring.specs.volume_disk.Run.{LeavesOnly, MayLeaveTorn, OnlyWrites, Settles}
+use Rattle.log_ring.proofs.OfVolumeDisk.Bytes.{bytes_from-same}
+use Rattle.log_ring.proofs.OfVolumeDisk.Laws.{leaves-now, only_writes-then, only_writes-wider, then_on, touches-leaves, weaker}
+use Rattle.log_ring.specs.disk_label.Slot.{IsOnAnchors}
+use Rattle.log_ring.specs.disk_label.declared.anchor.Anchor.{Anchor}
+use Rattle.log_ring.proofs.OfDiskLabel.Elsewhere.{IsAnchor-elsewhere}
+use Rattle.log_ring.specs.Header.{IsHeader}
+use Rattle.log_ring.proofs.HeaderPages.{header-behind_gate}
 use Rattle.log_ring.specs.Groups.{AreGroups, Group, HasLog, IsBehindGate, header_of, span}
 use Rattle.log_ring.specs.Ring.{IsGateOpen, IsOnPlaces, place_at, ring_byte}
 use Rattle.log_ring.proofs.OnImages.{groups_kept, images-same, next_closed}

@@ -3,12 +3,12 @@ use Rattle.std.proofs.Common.{◌≡◌, ◌||◌, ℕ, zero, suc, ◌+◌, ◌<
 use Rattle.std.proofs.lemmas.Bool.{or_parts}
 use Rattle.std.proofs.lemmas.List.{take_more}
 use Rattle.std.specs.List.{list_any}
-use Rattle.domain_base.specs.declared.place.Home.{Home}
-use Rattle.page_store.specs.Pages.{same_home}
-use Rattle.page_change.specs.Images.{AreDistinctHomes, homes_of, joined, with_image}
-use Rattle.page_change.specs.declared.image.PageImage.{PageImage}
-use Rattle.page_change.proofs.Overlays.{JoinsWell-joined, has-with_image, length-with_image}
-use Rattle.page_change.proofs.SameHomes.{other_swapped}
+use Rattle.log_ring.specs.domain_base.declared.place.Home.{Home}
+use Rattle.log_ring.specs.page_store.Pages.{same_home}
+use Rattle.log_ring.specs.Images.{AreDistinctHomes, homes_of, joined, with_image}
+use Rattle.log_ring.specs.declared.image.PageImage.{PageImage}
+use Rattle.log_ring.proofs.Overlays.{JoinsWell-joined, has-with_image, length-with_image}
+use Rattle.log_ring.proofs.SameHomes.{other_swapped}
 
 -- one change after another
 pub joined-append : (first second pending : List PageImage) → joined (first ++ second) pending ≡ joined second (joined first pending)

@@ -1,9 +1,9 @@
 -- Numbers go up by one, and each time the rack makes five calls or more.
 use Rattle.std.proofs.Common.{ℕ, ◌+◌, ◌*◌, ◌<◌, ◌≤◌, List, [], ◌∷◌, length, arith}
-use Rattle.volume_disk.specs.Disk.{Disk}
-use Rattle.volume_disk.specs.Run.{IsLaterBy}
-use Rattle.disk_label.specs.declared.anchor.Anchor.{Anchor}
-use Rattle.page_change.specs.declared.image.PageImage.{PageImage}
+use Rattle.log_ring.specs.volume_disk.Disk.{Disk}
+use Rattle.log_ring.specs.volume_disk.Run.{IsLaterBy}
+use Rattle.log_ring.specs.disk_label.declared.anchor.Anchor.{Anchor}
+use Rattle.log_ring.specs.declared.image.PageImage.{PageImage}
 use Rattle.meta_log.specs.Log.{Log, groups_of, next_number}
 use Rattle.meta_log.specs.Numbers.{ForcesNumbers, KeepsNumbers, LeavesNumbers, MovesNumbers}
 

@@ -4,12 +4,12 @@ use Rattle.std.proofs.lemmas.Grind.{flat_map-append}
 use Rattle.std.proofs.lemmas.List.{append-nil, length-map}
 use Rattle.std.proofs.lemmas.List.Elements.{All-append, All-nil}
 use Rattle.std.proofs.lemmas.Slice.{between_is}
-use Rattle.volume_disk.specs.Disk.{Disk}
-use Rattle.volume_disk.specs.Run.{LeavesOnly, OnlyWrites}
-use Rattle.disk_label.specs.declared.anchor.Anchor.{Anchor}
-use Rattle.page_change.specs.Header.{IsSayable, header_for}
-use Rattle.page_change.specs.Images.{homes_of}
-use Rattle.page_change.specs.declared.image.PageImage.{PageImage}
+use Rattle.log_ring.specs.volume_disk.Disk.{Disk}
+use Rattle.log_ring.specs.volume_disk.Run.{LeavesOnly, OnlyWrites}
+use Rattle.log_ring.specs.disk_label.declared.anchor.Anchor.{Anchor}
+use Rattle.log_ring.specs.Header.{IsSayable, header_for}
+use Rattle.log_ring.specs.Images.{homes_of}
+use Rattle.log_ring.specs.declared.image.PageImage.{PageImage}
 use Rattle.log_ring.specs.Groups.{Group, LogStands, images_of, span}
 use Rattle.log_ring.specs.Homes.{IsLoggable}
 use Rattle.log_ring.specs.Ring.{IsOnPlaces}

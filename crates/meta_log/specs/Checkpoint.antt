@@ -1,12 +1,12 @@
 -- How the images of durable groups come home, and the log's start goes behind them.
 use Rattle.std.specs.Prelude.{◌≡◌, ◌==◌, ◌&&◌, ◌+◌, ◌-◌, ◌%◌, ℕ, Bool, IsTrue, List, [], Some, if◌then◌else◌}
-use Rattle.domain_base.specs.Limits.{log_pages}
-use Rattle.volume_disk.specs.Disk.{Disk, MayLeave, Tells}
-use Rattle.volume_disk.specs.Image.{Image}
-use Rattle.volume_disk.specs.Run.{LeavesOnly, OnlyWrites}
-use Rattle.disk_label.specs.Anchor.{IsNext}
-use Rattle.disk_label.specs.Slot.{IsReady, IsReadyFor, StandsIn}
-use Rattle.disk_label.specs.declared.anchor.Anchor.{Anchor}
+use Rattle.log_ring.specs.domain_base.Limits.{log_pages}
+use Rattle.log_ring.specs.volume_disk.Disk.{Disk, MayLeave, Tells}
+use Rattle.log_ring.specs.volume_disk.Image.{Image}
+use Rattle.log_ring.specs.volume_disk.Run.{LeavesOnly, OnlyWrites}
+use Rattle.log_ring.specs.disk_label.Anchor.{IsNext}
+use Rattle.log_ring.specs.disk_label.Slot.{IsReady, IsReadyFor, StandsIn}
+use Rattle.log_ring.specs.disk_label.declared.anchor.Anchor.{Anchor}
 use Rattle.log_ring.specs.Groups.{Group}
 use Rattle.log_ring.specs.Ring.{IsGateOpen}
 use Rattle.log_ring.specs.Settling.{IsAtHomesOrSlot, IsRedoneAs, MeansTheSame}

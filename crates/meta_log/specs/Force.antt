@@ -1,11 +1,11 @@
 -- How what is pending becomes a durable group.
 use Rattle.std.specs.Prelude.{◌≡◌, ◌⊎◌, ◌+◌, ◌++◌, ℕ, false, List, [], ◌∷◌, length, drop}
-use Rattle.domain_base.specs.Limits.{block_bytes}
-use Rattle.volume_disk.specs.Disk.{Disk, Moment, Tells}
-use Rattle.volume_disk.specs.Image.{Image, IsIn, Places}
-use Rattle.volume_disk.specs.Run.{LeavesOnly, OnlyWrites}
-use Rattle.disk_label.specs.declared.anchor.Anchor.{Anchor}
-use Rattle.page_change.specs.declared.image.PageImage.{PageImage}
+use Rattle.log_ring.specs.domain_base.Limits.{block_bytes}
+use Rattle.log_ring.specs.volume_disk.Disk.{Disk, Moment, Tells}
+use Rattle.log_ring.specs.volume_disk.Image.{Image, IsIn, Places}
+use Rattle.log_ring.specs.volume_disk.Run.{LeavesOnly, OnlyWrites}
+use Rattle.log_ring.specs.disk_label.declared.anchor.Anchor.{Anchor}
+use Rattle.log_ring.specs.declared.image.PageImage.{PageImage}
 use Rattle.log_ring.specs.Groups.{AreImagesAt, FitsRing, Group, HasLog, LogStands, span}
 use Rattle.log_ring.specs.Homes.{AreLoggable}
 use Rattle.log_ring.specs.Ring.{IsGateOpen, IsOnPlaces, place_at, ring_byte}

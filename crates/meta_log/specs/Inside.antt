@@ -1,6 +1,6 @@
 -- What stands in a `MetaLog`.
 use Rattle.std.specs.Prelude.{◌≡◌, ◌≤◌, drop, take, vec_len}
-use Rattle.domain_base.specs.Limits.{log_pages}
+use Rattle.log_ring.specs.domain_base.Limits.{log_pages}
 use Rattle.meta_log.specs.Log.{IsLog, Log}
 use Rattle.meta_log.specs.declared.log.MetaLog.TheInside.{Inside}
 

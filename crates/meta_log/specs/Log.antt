@@ -1,12 +1,12 @@
 -- The log as it is held in memory: what has been made durable since its start, and what was
 -- appended after that.
 use Rattle.std.specs.Prelude.{◌≡◌, ◌⊎◌, ◌+◌, ◌-◌, ◌^◌, ◌<◌, ◌≤◌, ℕ, List, [], ◌∷◌, length, min}
-use Rattle.domain_base.specs.Limits.{group_images, log_pages}
-use Rattle.volume_disk.specs.Disk.{Disk}
-use Rattle.disk_label.specs.FirstPages.{anchors_page}
-use Rattle.disk_label.specs.declared.anchor.Anchor.{Anchor}
-use Rattle.page_change.specs.Images.{AreDistinctHomes, joined}
-use Rattle.page_change.specs.declared.image.PageImage.{PageImage}
+use Rattle.log_ring.specs.domain_base.Limits.{group_images, log_pages}
+use Rattle.log_ring.specs.volume_disk.Disk.{Disk}
+use Rattle.log_ring.specs.disk_label.FirstPages.{anchors_page}
+use Rattle.log_ring.specs.disk_label.declared.anchor.Anchor.{Anchor}
+use Rattle.log_ring.specs.Images.{AreDistinctHomes, joined}
+use Rattle.log_ring.specs.declared.image.PageImage.{PageImage}
 use Rattle.log_ring.specs.Groups.{Group, LogStands, images_of, span}
 use Rattle.log_ring.specs.Homes.{AreLoggable}
 

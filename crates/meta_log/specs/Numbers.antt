@@ -1,8 +1,8 @@
 -- The numbers of anchors and groups, and the calls of a rack that it takes to raise them.
 use Rattle.std.specs.Prelude.{ℕ, ◌+◌, ◌-◌, ◌*◌, ◌^◌, ◌<◌, ◌≤◌, length}
-use Rattle.volume_disk.specs.Disk.{Disk}
-use Rattle.volume_disk.specs.Run.{IsLaterBy}
-use Rattle.disk_label.specs.declared.anchor.Anchor.{Anchor}
+use Rattle.log_ring.specs.volume_disk.Disk.{Disk}
+use Rattle.log_ring.specs.volume_disk.Run.{IsLaterBy}
+use Rattle.log_ring.specs.disk_label.declared.anchor.Anchor.{Anchor}
 use Rattle.meta_log.specs.Checkpoint.{next_anchor}
 use Rattle.meta_log.specs.Force.{forced}
 use Rattle.meta_log.specs.Log.{Log, new_log, next_number}

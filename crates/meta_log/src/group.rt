@@ -1,13 +1,13 @@
 //! A group written into the ring.
 ghost use Rattle.std.specs.Prelude.{◌≡◌, ◌*◌, ◌+◌, ◌%◌, ◌^◌, ◌<◌, ◌≤◌, OnOk, length};
-ghost use Rattle.domain_base.specs.Limits.{log_pages, page_bytes};
-ghost use Rattle.domain_base.specs.Gate.{opened};
-ghost use Rattle.volume_disk.specs.Disk.{Tells};
-ghost use Rattle.volume_disk.specs.Image.{IsIn};
-ghost use Rattle.volume_disk.specs.Run.{IsLaterBy, NamesWriteFault, OnlyWrites, Settles};
+ghost use Rattle.log_ring.specs.domain_base.Limits.{log_pages, page_bytes};
+ghost use Rattle.log_ring.specs.domain_base.Gate.{opened};
+ghost use Rattle.log_ring.specs.volume_disk.Disk.{Tells};
+ghost use Rattle.log_ring.specs.volume_disk.Image.{IsIn};
+ghost use Rattle.log_ring.specs.volume_disk.Run.{IsLaterBy, NamesWriteFault, OnlyWrites, Settles};
 ghost use Rattle.log_ring.specs.Groups.{AreImagesAt};
 ghost use Rattle.log_ring.specs.Ring.{IsGateOpen, IsOnPlaces, IsRing, place_at, ring_byte};
-ghost use Rattle.page_change.specs.Header.{IsSayable, header_for};
+ghost use Rattle.log_ring.specs.Header.{IsSayable, header_for};
 ghost use Rattle.meta_log.specs.Force.{
   HasWrittenGroup,
   IsGateAt,
@@ -19,13 +19,12 @@ ghost use Rattle.meta_log.specs.Force.{
 };
 ghost use Rattle.meta_log.specs.Log.{group_of};
 
-use disk_label::Anchor;
-use domain_base::gate::closed_block;
-use domain_base::limits::{BLOCK_BYTES, BLOCKS_PER_PAGE};
-use domain_base::{Page, VolIx};
-use log_ring::ring_page;
-use page_change::{PageImage, write_header_of};
-use volume_disk::{Rack, open_gate, sync_volume, write_blocks};
+use log_ring::gate::closed_block;
+use log_ring::limits::{BLOCK_BYTES, BLOCKS_PER_PAGE};
+use log_ring::{
+    Anchor, Page, PageImage, Rack, VolIx, open_gate, ring_page, sync_volume, write_blocks,
+    write_header_of,
+};
 
 /// The first block of a place of the ring.
 fn ring_block(anchor: &Anchor, place: u32) -> u32
@@ -36,7 +35,7 @@ fn ring_block(anchor: &Anchor, place: u32) -> u32
     BLOCKS_PER_PAGE * ring_page(anchor, place)
 }
 
-/// Writes what stands behind the gate of a header.
+/// Writes what follows the gate of a header.
 fn write_header_body<R: Rack>(
     rack: &mut R,
     vol: VolIx,
@@ -117,7 +116,7 @@ fn close_gate<R: Rack>(rack: &mut R, vol: VolIx, anchor: &Anchor, place: u32) ->
     write_blocks(rack, vol, ring_block(anchor, place), &closed_block())
 }
 
-/// Writes a group behind its gate, and the next gate closed, and syncs.
+/// Writes a group after its gate, and the next gate closed, and syncs.
 fn write_body<R: Rack>(
     rack: &mut R,
     vol: VolIx,
@@ -157,10 +156,10 @@ fn open_group<R: Rack>(rack: &mut R, vol: VolIx, anchor: &Anchor, place: u32) ->
     open_gate(rack, vol, ring_block(anchor, place))
 }
 
-/// Writes a group of that number and these images at a place of the ring: all but its gate, with
-/// the next gate closed, and its gate once that is synced. Its own gate has to be closed and synced
-/// before (`MayFollow`). The header is made in a page that is given for it. The error is the
-/// volume, of which a write or a sync failed.
+/// Writes a group of that number and these images at a place of the ring: first all but its gate,
+/// with the next gate closed, and its gate once that is synced. Its own gate must have been closed
+/// and synced before (`MayFollow`). The header is made in a page that is given for it. The error is
+/// the volume, if its write or sync failed.
 pub fn write_group<R: Rack>(
     rack: &mut R,
     anchor: &Anchor,

@@ -1,7 +1,7 @@
 //! What holds of the numbers of a log, for those who call this crate.
 ghost use Rattle.std.specs.Prelude.{ℕ};
-ghost use Rattle.volume_disk.specs.Disk.{Disk};
-ghost use Rattle.disk_label.specs.declared.anchor.Anchor.{Anchor};
+ghost use Rattle.log_ring.specs.volume_disk.Disk.{Disk};
+ghost use Rattle.log_ring.specs.disk_label.declared.anchor.Anchor.{Anchor};
 ghost use Rattle.meta_log.specs.Log.{Log};
 ghost use Rattle.meta_log.specs.Numbers.{
   ForcesNumbers,
@@ -10,13 +10,13 @@ ghost use Rattle.meta_log.specs.Numbers.{
   MovesNumbers,
 };
 
-/// Laws of the numbers of a log. Each of them is raised by one, in five calls of the rack or more;
-/// so they stay within a fifth of its calls of the higher one of those that a domain was opened
-/// with: through calls of others and `append` (`keeps`), `force` (`forced`) and `checkpoint`
-/// (`moved`). A clock of 64 bits counts fewer than 2^64 calls, so a log that was opened with
-/// numbers up to 2^62 + 64 never comes to a number of 2^63: what `append` and `checkpoint` ask of
-/// its numbers is always met (`left`). So it is where an anchor's two numbers are below 2^62: its
-/// ring has fewer than 64 groups, and settling writes one anchor.
+/// Laws of the numbers of a log. Each of them is raised by one, in five calls of the rack or more.
+/// So they stay within a fifth of its calls of the higher of those with which a domain was opened:
+/// through calls of others and `append` (`keeps`), `force` (`forced`) and `checkpoint` (`moved`). A
+/// clock of 64 bits counts fewer than 2^64 calls, so a log whose numbers were at most 2^62 + 64
+/// when it was opened never comes to a number of 2^63. What `append` and `checkpoint` require of
+/// its numbers is always met (`left`). A log is opened with such numbers if its anchor's two
+/// numbers are below 2^62: its ring has fewer than 64 groups, and settling writes one anchor.
 pub fn number_laws()
     ensures keeps { (first : ℕ) (old new : Disk) (log : Log) → KeepsNumbers first old new log }
     ensures forced { (first : ℕ) (old new : Disk) (log : Log) → ForcesNumbers first old new log }

@@ -19,13 +19,13 @@ ghost use Rattle.std.specs.Prelude.{
   Some,
   length,
 };
-ghost use Rattle.domain_base.specs.Limits.{log_pages};
-ghost use Rattle.volume_disk.specs.Disk.{Tells};
-ghost use Rattle.volume_disk.specs.Run.{IsLaterBy, NamesWriteFault};
-ghost use Rattle.disk_label.specs.Anchor.{IsAnchor, IsWhole};
-ghost use Rattle.disk_label.specs.FirstPages.{anchors_page};
-ghost use Rattle.page_change.specs.Images.{IsChange, joined};
-ghost use Rattle.page_change.specs.declared.image.PageImage.{PageImage};
+ghost use Rattle.log_ring.specs.domain_base.Limits.{log_pages};
+ghost use Rattle.log_ring.specs.volume_disk.Disk.{Tells};
+ghost use Rattle.log_ring.specs.volume_disk.Run.{IsLaterBy, NamesWriteFault};
+ghost use Rattle.log_ring.specs.disk_label.Anchor.{IsAnchor, IsWhole};
+ghost use Rattle.log_ring.specs.disk_label.FirstPages.{anchors_page};
+ghost use Rattle.log_ring.specs.Images.{IsChange, joined};
+ghost use Rattle.log_ring.specs.declared.image.PageImage.{PageImage};
 ghost use Rattle.log_ring.specs.Homes.{AreLoggable, AreOutside, HasMembers};
 ghost use Rattle.log_ring.specs.Ring.{IsRing};
 ghost use Rattle.meta_log.specs.Checkpoint.{Checkpoints, HasCheckpointed, next_anchor};
@@ -44,14 +44,10 @@ ghost use Rattle.meta_log.specs.Log.{
 use crate::LogFull;
 use crate::group::write_group;
 use crate::slots::{count_joined, join, new_slots};
-use disk_label::Anchor;
-use domain_base::limits::{GROUP_IMAGES, LOG_PAGES};
-use domain_base::{OutOfMemory, Page, VolIx};
-use log_ring::bring_home;
-use page_change::{Change, PageImage};
+use log_ring::limits::{GROUP_IMAGES, LOG_PAGES};
+use log_ring::{Anchor, Change, OutOfMemory, Page, PageImage, Rack, VolIx, bring_home};
 use std::alloc::Global;
 use std::marker::Model;
-use volume_disk::Rack;
 
 /// The log of a domain: an anchor, the groups that are durable from its start on, and what was
 /// appended since the last of them. It has all of its memory from the start.
@@ -80,8 +76,8 @@ impl Model for MetaLog {
 }
 
 impl MetaLog {
-    /// The log of an anchor, with no group. The anchor's slot, start, first page and group have to
-    /// be in their ranges.
+    /// The log of an anchor, without groups. The anchor's slot, start, first page and group must be
+    /// in their ranges.
     pub fn new(alloc: Global, anchor: &Anchor) -> Result<MetaLog, OutOfMemory>
         requires slot { anchor.now.slot ≤ 1 }
         requires start { anchor.now.start < log_pages }
@@ -115,8 +111,8 @@ impl MetaLog {
         self.logged < self.end
     }
 
-    /// The number of the last durable group, which is the one before that of the next: of a group
-    /// that stands in the log or is home already. There is none where the next one is group 0.
+    /// The number of the last durable group, which is one below that of the next group. It may
+    /// stand in the log or be home already. Returns None if the next one is group 0.
     pub fn last_durable(&self) -> Option<u64>
         ensures { let next = next_number self.now in
             MatchOption result (next ≡ 0) (λ number. next ≡ number + 1) }
@@ -125,7 +121,7 @@ impl MetaLog {
         if next == 0 { None } else { Some(next - 1) }
     }
 
-    /// Of how many homes each change has a place now, whichever homes it has.
+    /// How many homes a change may have to have a place now, whichever homes they are.
     pub fn room(&self) -> u32
         ensures room { result ≡ room_of self.now }
         ensures place { (change : List PageImage) → 0 < length change → length change ≤ result
@@ -149,7 +145,7 @@ impl MetaLog {
         self.anchor.group + self.groups
     }
 
-    /// The number before it, and 0 before 0.
+    /// The number before it, or 0 if it is 0.
     fn last_number(&self) -> u64
         ensures { result ≡ next_number self.now - 1 }
     {
@@ -172,7 +168,7 @@ impl MetaLog {
         count_joined(&self.slots[self.logged..self.end], change)
     }
 
-    /// Whether so many images fit one group, and it the ring.
+    /// Whether one group may hold `count` images, and fits the ring.
     fn has_place_for(&self, count: usize) -> bool
         ensures yes { IsTrue result → HasPlaceFor self.now count }
         ensures no { IsTrue result ⊎ IsFullFor self.now count }
@@ -180,11 +176,11 @@ impl MetaLog {
         count <= GROUP_IMAGES && self.used() as usize + count + 2 <= LOG_PAGES as usize
     }
 
-    /// Appends a change to what is pending, which becomes durable as one group: at each home of the
-    /// change its page takes the place of one that was pending there. The answer is the number of
-    /// that group. `LogFull` comes exactly where the group would have more than 60 images, or would
-    /// not fit the ring with the header behind it. The change has to have a home, and its homes
-    /// have to be such as may be logged under the log's anchor.
+    /// Appends a change to what is pending, which becomes durable as one group. At each home of the
+    /// change its page takes the place of any page that was pending there. Returns the number of
+    /// that group. Fails with `LogFull` if and only if the group would have more than 60 images, or
+    /// would not fit the ring with the header after it. The change must have a home, and its homes
+    /// must be such that they may be logged under the log's anchor.
     pub fn append(&mut self, change: &Change) -> Result<u64, LogFull>
         requires some { 0 < length change.now }
         requires loggable { AreLoggable self.old.anchor change.now }
@@ -211,7 +207,7 @@ impl MetaLog {
         Ok(number)
     }
 
-    /// Writes what is pending, of which there is some, as a group, and counts it as durable.
+    /// Writes what is pending, which must be something, as a group, and counts it as durable.
     fn write_pending<R: Rack>(&mut self, rack: &mut R) -> Result<(), VolIx>
         requires ring { IsRing (R.disk rack.old).sizes self.old.anchor }
         requires some { 0 < length self.old.pending }
@@ -230,17 +226,17 @@ impl MetaLog {
         Ok(())
     }
 
-    /// Makes what is pending durable: as one group behind a gate, which is opened once the group is
-    /// synced. With nothing pending it makes no call. The answer is the number of the last durable
-    /// group, and 0 where there is none: so it may be only where nothing was pending, and
-    /// `last_durable` tells it from group 0. The ring has to lie in the rack. The error is the
-    /// volume, of which a write or a sync failed; the log is not used again then.
+    /// Makes what is pending durable: as one group after a gate, which is opened once the group is
+    /// synced. With nothing pending it makes no call. Returns the number of the last durable group,
+    /// or 0 if there is none. That can only be if nothing was pending, and `last_durable` tells it
+    /// from group 0. The ring must lie in the rack. The error is the volume, if its write or sync
+    /// failed. The log must not be used again then.
     pub fn force<R: Rack>(&mut self, rack: &mut R) -> Result<u64, VolIx>
         requires { IsRing (R.disk rack.old).sizes self.old.anchor }
         ensures forces { Forces (R.disk rack.old) (R.disk rack.new) self.old }
         ensures idle { self.old.pending ≡ [] → R.disk rack.new ≡ R.disk rack.old }
         ensures ok { OnOk result (self.new ≡ forced self.old) }
-        // where the next group is group 0 there is none before it, and the answer is 0
+        // if the next group is group 0 there is none before it, and the result is 0
         ensures number { IfOk result (λ number. number ≡ next_number self.new - 1) }
         ensures done { OnOk result (HasForced (R.disk rack.old) (R.disk rack.new) self.old) }
         ensures later { OnOk result (0 < length self.old.pending
@@ -254,8 +250,8 @@ impl MetaLog {
         Ok(self.last_number())
     }
 
-    /// The next anchor: one that is given, with the next number and slot, and the log's start
-    /// behind the durable groups, or at the first page of another ring.
+    /// The next anchor: the given one, with the next number and slot, and the log's start after the
+    /// durable groups, or at the first page of another ring.
     fn next_anchor(&self, given: &Anchor) -> Anchor
         requires { self.now.anchor.number + 1 < 2 ^ 63 }
         ensures { result ≡ next_anchor self.now given.now }
@@ -280,7 +276,7 @@ impl MetaLog {
         }
     }
 
-    /// Goes on behind an anchor, with no group.
+    /// Continues after an anchor, without groups.
     fn restart(&mut self, anchor: Anchor)
         requires slot { anchor.slot ≤ 1 }
         requires start { anchor.start < log_pages }
@@ -294,16 +290,16 @@ impl MetaLog {
         self.end = 0;
     }
 
-    /// Brings the images of the durable groups home and moves the log's start behind them, by an
-    /// anchor that is given but for its number, slot, start and group. Each home is written once,
-    /// and each volume synced once before the anchor. The answer is the anchor's number.
+    /// Brings the images of the durable groups home and moves the log's start past them, by the
+    /// given anchor with another number, slot, start and group. Each home is written once, and each
+    /// volume is synced once before the anchor. Returns the anchor's number.
     ///
-    /// Nothing may be pending. The members of the old anchor and the ring of the new one have to
-    /// lie in the rack, no durable image may have a page of the new ring as its home, and the
-    /// anchor of the rack's contents has to be the log's. What a stop may leave is said where the
-    /// log stands, the next anchor's slot is ready, and on another ring the first gate is closed
-    /// (`MayCheckpoint`). The error is the volume, of which a write or a sync failed; the log is
-    /// not used again then.
+    /// Nothing may be pending. The members of the old anchor and the ring of the new one must lie
+    /// in the rack, no durable image may have a page of the new ring as its home, and the anchor of
+    /// the rack's contents must be the log's. The contract says what a stop may leave if the log
+    /// stands, the next anchor's slot is ready, and on another ring the first gate is closed
+    /// (`MayCheckpoint`). The error is the volume, if its write or sync failed. The log must not be
+    /// used again then.
     pub fn checkpoint<R: Rack>(&mut self, rack: &mut R, anchor: &Anchor) -> Result<u64, VolIx>
         requires forced { self.old.pending ≡ [] }
         requires members { HasMembers (R.disk rack.old).sizes self.old.anchor }

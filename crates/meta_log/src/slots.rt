@@ -16,8 +16,8 @@ ghost use Rattle.std.specs.Prelude.{
   vec_len,
 };
 ghost use Rattle.std.specs.List.{list_any};
-ghost use Rattle.page_store.specs.Pages.{same_home};
-ghost use Rattle.page_change.specs.Images.{
+ghost use Rattle.log_ring.specs.page_store.Pages.{same_home};
+ghost use Rattle.log_ring.specs.Images.{
   AreDistinctHomes,
   IsPlaceOf,
   homes_of,
@@ -25,12 +25,10 @@ ghost use Rattle.page_change.specs.Images.{
   with_image,
 };
 
-use domain_base::{Home, OutOfMemory, Page, VolIx};
-use log_ring::has_home_of;
-use page_change::{PageImage, place_of};
+use log_ring::{Home, OutOfMemory, Page, PageImage, VolIx, has_home_of, place_of};
 use std::alloc::Global;
 
-/// An image that is none yet.
+/// A placeholder image for a slot that has none yet.
 fn no_image(alloc: Global) -> Result<PageImage, OutOfMemory> {
     let Some(vol) = VolIx::new(1) else {
         unreachable!()
@@ -42,7 +40,7 @@ fn no_image(alloc: Global) -> Result<PageImage, OutOfMemory> {
     })
 }
 
-/// So many slots.
+/// `count` slots.
 pub fn new_slots(alloc: Global, count: usize) -> Result<Vec<PageImage>, OutOfMemory>
     ensures { IfOk result (λ slots. vec_len slots ≡ count) }
 {
@@ -53,7 +51,7 @@ pub fn new_slots(alloc: Global, count: usize) -> Result<Vec<PageImage>, OutOfMem
     Ok(slots)
 }
 
-/// Makes an image another one.
+/// Makes an image a copy of another one.
 fn fill(slot: &mut PageImage, image: &PageImage)
     ensures { slot.new ≡ image.now }
 {
@@ -76,8 +74,8 @@ fn slot_of(slots: &[PageImage], first: usize, end: usize, home: &Home) -> Option
     }
 }
 
-/// Puts an image among those of the slots from `first` to `end`: in place of the one of its home,
-/// or behind them. The answer is where they end then.
+/// Puts an image among those of the slots from `first` to `end`: in place of the image of its home,
+/// or after them. Returns where they end then.
 fn put(slots: &mut [PageImage], first: usize, end: usize, image: &PageImage) -> usize
     requires order { first ≤ end }
     requires room { end < length slots.old }
@@ -102,8 +100,7 @@ fn put(slots: &mut [PageImage], first: usize, end: usize, image: &PageImage) -> 
     }
 }
 
-/// Joins a change to the images of the slots from `first` to `end`. The answer is where they end
-/// then.
+/// Joins a change to the images of the slots from `first` to `end`. Returns where they then end.
 pub fn join(slots: &mut [PageImage], first: usize, end: usize, change: &[PageImage]) -> usize
     requires order { first ≤ end }
     requires within { end ≤ length slots.old }

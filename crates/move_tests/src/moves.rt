@@ -1,8 +1,7 @@
 //! Moves from pages of volume 1 to pages of volume 2.
 
-use domain_base::Home;
-use move_calls::{Place, abandon, copy, finish, home, start, switch, writes};
-use page_migrate::{Moves, Phase};
+use member_moves::calls::{Place, abandon, copy, finish, home, start, switch, writes};
+use member_moves::{Home, Moves, Phase};
 use std::test::Fail;
 
 type Seen = (bool, Option<Phase>, bool);

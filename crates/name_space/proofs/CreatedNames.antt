@@ -6,27 +6,27 @@ use Rattle.std.specs.Ordering.{nat_cmp}
 use Rattle.std.specs.Cmp.{nat_cmp_total}
 use Rattle.std.specs.Option.{option_and_then, option_map, option_map_or}
 use Rattle.std.specs.FinMap as map
-use Rattle.domain_base.specs.declared.place.Kind.{Kind}
-use Rattle.domain_base.specs.declared.place.Kind.TheVariants as kinds
-use Rattle.domain_base.specs.declared.place.Tag.{Tag}
-use Rattle.page_store.specs.Bitfiles.{Bitfile, Bitfiles, IsDirectory, count_index, new_file, same_tag, with_file}
-use Rattle.dir_pages.specs.declared.row.Row.{Row}
-use Rattle.dir_pages.specs.Rows.{found, is_named}
-use Rattle.dir_rows.proofs.Entered.{named_found}
-use Rattle.dir_rows.specs.Directory.{IsWellFormed, all_rows, rows_in}
-use Rattle.dir_rows.specs.Laws.{IsSameNode, LeavesOthers}
-use Rattle.dir_rows.specs.RowChanges.{AddsRow}
-use Rattle.dir_rows.proofs.Outside.{empty_is_well_formed_lem, others_stay_lem, rows_decide_lem}
-use Rattle.fileset_model.specs.Apply.{with_node}
-use Rattle.fileset_model.specs.Orders.{Name, Path, path_cmp-total, path_cmp-IsAntisymmetric}
-use Rattle.fileset_model.specs.Paths.{first_refusal, paths_to}
-use Rattle.fileset_model.specs.declared.fileset.FilesetSlot.{FilesetSlot}
-use Rattle.fileset_model.specs.declared.fileset.Role.TheVariants.{Original}
-use Rattle.fileset_model.proofs.MapLemmas.{get-insert_other, get-insert_same}
-use Rattle.fileset_laws.specs.Valid.{HasWholePages, IsDirectoryAt, IsValidFileset}
-use Rattle.fileset_laws.proofs.ValidCountLemmas.{no_paths}
-use Rattle.fileset_laws.proofs.ValidLemmas.{from_some_and, some_inj, to_some_and}
-use Rattle.fileset_laws.proofs.ValidTreeLemmas.{with_node-valid}
+use Rattle.plain_program.specs.domain_base.declared.place.Kind.{Kind}
+use Rattle.plain_program.specs.domain_base.declared.place.Kind.TheVariants as kinds
+use Rattle.plain_program.specs.domain_base.declared.place.Tag.{Tag}
+use Rattle.directory_rows.specs.page_store.Bitfiles.{Bitfile, Bitfiles, IsDirectory, count_index, new_file, same_tag, with_file}
+use Rattle.directory_rows.specs.directory_pages.declared.row.Row.{Row}
+use Rattle.directory_rows.specs.directory_pages.Rows.{found, is_named}
+use Rattle.directory_rows.proofs.Entered.{named_found}
+use Rattle.directory_rows.specs.Directory.{IsWellFormed, all_rows, rows_in}
+use Rattle.directory_rows.specs.Laws.{IsSameNode, LeavesOthers}
+use Rattle.directory_rows.specs.RowChanges.{AddsRow}
+use Rattle.directory_rows.proofs.Outside.{empty_is_well_formed_lem, others_stay_lem, rows_decide_lem}
+use Rattle.plain_program.specs.fileset_model.Apply.{with_node}
+use Rattle.plain_program.specs.fileset_values.Orders.{Name, Path, path_cmp-total, path_cmp-IsAntisymmetric}
+use Rattle.plain_program.specs.fileset_model.Paths.{first_refusal, paths_to}
+use Rattle.plain_program.specs.fileset_model.declared.fileset.FilesetSlot.{FilesetSlot}
+use Rattle.plain_program.specs.fileset_model.declared.fileset.Role.TheVariants.{Original}
+use Rattle.plain_program.proofs.OfFilesetValues.MapLemmas.{get-insert_other, get-insert_same}
+use Rattle.plain_program.specs.legal_histories.Valid.{HasWholePages, IsDirectoryAt, IsValidFileset}
+use Rattle.plain_program.proofs.OfLegalHistories.ValidCountLemmas.{no_paths}
+use Rattle.plain_program.proofs.OfLegalHistories.ValidLemmas.{from_some_and, some_inj, to_some_and}
+use Rattle.plain_program.proofs.OfLegalHistories.ValidTreeLemmas.{with_node-valid}
 use Rattle.name_space.specs.Changes.{Creates, IndexesFollow, IsMade, IsOriginal, free_checks, last_name, new_node}
 use Rattle.name_space.specs.Walks.{IsWayTo}
 use Rattle.name_space.specs.Names.{IsNodeOf, Names, led_from, led_to, number_of}

@@ -1,10 +1,10 @@
 -- What a fault of a store tells, where the checks refuse nothing.
 use Rattle.std.proofs.Common.{◌≡◌, ℕ, None, sym, subst}
-use Rattle.page_store.specs.Bitfiles.{Bitfiles, IsCounted}
-use Rattle.page_store.specs.declared.fault.StoreFault.{StoreFault}
-use Rattle.page_store.specs.declared.fault.StoreFault.TheVariants as store
-use Rattle.fileset_model.specs.Paths.{first_refusal}
-use Rattle.fileset_model.specs.declared.fileset.FilesetSlot.{FilesetSlot}
+use Rattle.directory_rows.specs.page_store.Bitfiles.{Bitfiles, IsCounted}
+use Rattle.directory_rows.specs.page_store.declared.fault.StoreFault.{StoreFault}
+use Rattle.directory_rows.specs.page_store.declared.fault.StoreFault.TheVariants as store
+use Rattle.plain_program.specs.fileset_model.Paths.{first_refusal}
+use Rattle.plain_program.specs.fileset_model.declared.fileset.FilesetSlot.{FilesetSlot}
 use Rattle.name_space.specs.Changes.{Checks, IfRefused, IsFaultOf, IsOriginal, fault_of}
 use Rattle.name_space.specs.declared.fault.NameFault.{NameFault}
 

@@ -11,14 +11,14 @@ use Rattle.std.specs.Cmp.Lexicographic.{texts_ties}
 use Rattle.std.specs.Option.{option_map}
 use Rattle.std.specs.FinMap as map
 use Rattle.std.specs.FinMap.Entries.{below_all, find, is_sorted}
-use Rattle.domain_base.specs.declared.place.Kind.{Kind}
-use Rattle.domain_base.specs.declared.place.Tag.{Tag}
-use Rattle.dir_pages.specs.declared.row.Row.{Row}
-use Rattle.dir_pages.specs.Rows.{found, has_name, is_named}
-use Rattle.dir_pages.proofs.Places.{is_named_so, named_is}
-use Rattle.dir_rows.specs.Directory.{NamesOnce}
-use Rattle.fileset_model.specs.Orders.{Name, name_cmp, name_cmp-total, name_cmp-IsAntisymmetric}
-use Rattle.sorted_entries.proofs.EntryLemmas.{entries-from_sorted, get-from_sorted}
+use Rattle.plain_program.specs.domain_base.declared.place.Kind.{Kind}
+use Rattle.plain_program.specs.domain_base.declared.place.Tag.{Tag}
+use Rattle.directory_rows.specs.directory_pages.declared.row.Row.{Row}
+use Rattle.directory_rows.specs.directory_pages.Rows.{found, has_name, is_named}
+use Rattle.directory_rows.proofs.OfDirectoryPages.Places.{is_named_so, named_is}
+use Rattle.directory_rows.specs.Directory.{NamesOnce}
+use Rattle.plain_program.specs.fileset_values.Orders.{Name, name_cmp, name_cmp-total, name_cmp-IsAntisymmetric}
+use Rattle.plain_program.proofs.OfSortedSets.EntryLemmas.{entries-from_sorted, get-from_sorted}
 use Rattle.name_space.specs.Names.{is_directory_kind}
 
 abbrev pub entry_of : Row → Name × Bool

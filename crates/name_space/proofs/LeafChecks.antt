@@ -1,24 +1,24 @@
 -- Why what stands at a path does not go, by its row and its own rows.
 use Rattle.std.proofs.Common.{◌≡◌, ◌∙◌, ◌==◌, ◌||◌, ◌≤◌, ℕ, Bool, true, false, not, List, [], ◌∷◌, Option, Some, None, IfSome, length, refl, sym, ap, subst, arith, eqb-true}
-use Rattle.domain_base.specs.declared.place.Kind.{Kind}
-use Rattle.domain_base.specs.declared.place.Kind.TheVariants as kinds
-use Rattle.domain_base.specs.declared.place.Tag.{Tag}
-use Rattle.page_store.specs.Bitfiles.{Bitfile, Bitfiles, IsBitfile, IsDirectory}
-use Rattle.dir_pages.specs.declared.row.Row.{Row}
-use Rattle.dir_rows.specs.Directory.{IsWellFormed, rows_in}
+use Rattle.plain_program.specs.domain_base.declared.place.Kind.{Kind}
+use Rattle.plain_program.specs.domain_base.declared.place.Kind.TheVariants as kinds
+use Rattle.plain_program.specs.domain_base.declared.place.Tag.{Tag}
+use Rattle.directory_rows.specs.page_store.Bitfiles.{Bitfile, Bitfiles, IsBitfile, IsDirectory}
+use Rattle.directory_rows.specs.directory_pages.declared.row.Row.{Row}
+use Rattle.directory_rows.specs.Directory.{IsWellFormed, rows_in}
 use Rattle.std.proofs.lemmas.Bool.{not-false}
 use Rattle.std.specs.Option.{option_and_then, option_map_or}
 use Rattle.std.specs.FinMap as map
-use Rattle.fileset_model.specs.Apply.{is_named_elsewhere, not_empty}
-use Rattle.fileset_model.specs.Orders.{Path}
-use Rattle.fileset_model.specs.Paths.{file_here, first_refusal, is_directory, node_at, refuse_if, rows_of, target_refusal}
-use Rattle.fileset_model.specs.declared.fileset.FilesetSlot.{FilesetSlot}
-use Rattle.fileset_model.specs.declared.reply.Refusal.{Refusal}
-use Rattle.fileset_model.specs.declared.reply.Refusal.TheVariants.{IsDirectory as IsDirectoryHere, NotDirectory, NotEmpty}
-use Rattle.fileset_laws.specs.Valid.{IsDirectoryAt, IsValidFileset}
-use Rattle.fileset_laws.proofs.ValidCountLemmas.{named_by}
-use Rattle.fileset_laws.proofs.ValidLemmas.{passed, passed_test, to_some_and}
-use Rattle.fileset_laws.proofs.ValidTreeLemmas.{at_directory, some_of}
+use Rattle.plain_program.specs.fileset_model.Apply.{is_named_elsewhere, not_empty}
+use Rattle.plain_program.specs.fileset_values.Orders.{Path}
+use Rattle.plain_program.specs.fileset_model.Paths.{file_here, first_refusal, is_directory, node_at, refuse_if, rows_of, target_refusal}
+use Rattle.plain_program.specs.fileset_model.declared.fileset.FilesetSlot.{FilesetSlot}
+use Rattle.plain_program.specs.fileset_values.declared.reply.Refusal.{Refusal}
+use Rattle.plain_program.specs.fileset_values.declared.reply.Refusal.TheVariants.{IsDirectory as IsDirectoryHere, NotDirectory, NotEmpty}
+use Rattle.plain_program.specs.legal_histories.Valid.{IsDirectoryAt, IsValidFileset}
+use Rattle.plain_program.proofs.OfLegalHistories.ValidCountLemmas.{named_by}
+use Rattle.plain_program.proofs.OfLegalHistories.ValidLemmas.{passed, passed_test, to_some_and}
+use Rattle.plain_program.proofs.OfLegalHistories.ValidTreeLemmas.{at_directory, some_of}
 use Rattle.name_space.specs.Changes.{IsOriginal, Removes, leaf_checks, leaf_refusal, rmdir_checks}
 use Rattle.name_space.specs.Names.{is_directory_kind, led_to, number_of}
 use Rattle.name_space.proofs.Listed.{row_count_is}

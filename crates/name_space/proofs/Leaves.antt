@@ -3,22 +3,22 @@ use Rattle.std.proofs.Common.{◌≡◌, ◌≢◌, ◌⊎◌, ◌∙◌, ◌^�
 use Rattle.std.proofs.lemmas.List.{append_cancel_left}
 use Rattle.std.specs.Option.{option_and_then, option_map}
 use Rattle.std.specs.FinMap.{get}
-use Rattle.domain_base.specs.declared.place.Kind.{Kind}
-use Rattle.domain_base.specs.declared.place.Kind.TheVariants.{Directory}
-use Rattle.domain_base.specs.declared.place.Tag.{Tag}
-use Rattle.page_store.specs.Bitfiles.{Bitfile, Bitfiles, IsDirectory, same_tag}
-use Rattle.dir_pages.specs.declared.row.Row.{Row}
-use Rattle.dir_pages.specs.Rows.{found, has_name}
-use Rattle.dir_pages.proofs.Places.{is_named_so, named_is}
-use Rattle.dir_rows.specs.Directory.{IsWellFormed, rows_in}
-use Rattle.dir_rows.specs.Laws.{IsSameNode}
-use Rattle.fileset_model.specs.Orders.{Name, Path}
-use Rattle.fileset_model.specs.Paths.{begins_with}
-use Rattle.fileset_model.specs.declared.fileset.FilesetSlot.{FilesetSlot}
-use Rattle.fileset_model.specs.declared.fileset.Role.TheVariants.{Original}
-use Rattle.fileset_model.specs.declared.node.Node.{Node}
-use Rattle.fileset_model.specs.declared.node.Node.TheVariants.{File, Directory as DirectoryNode}
-use Rattle.fileset_laws.proofs.ValidMoveLemmas.{begins, begins_of}
+use Rattle.plain_program.specs.domain_base.declared.place.Kind.{Kind}
+use Rattle.plain_program.specs.domain_base.declared.place.Kind.TheVariants.{Directory}
+use Rattle.plain_program.specs.domain_base.declared.place.Tag.{Tag}
+use Rattle.directory_rows.specs.page_store.Bitfiles.{Bitfile, Bitfiles, IsDirectory, same_tag}
+use Rattle.directory_rows.specs.directory_pages.declared.row.Row.{Row}
+use Rattle.directory_rows.specs.directory_pages.Rows.{found, has_name}
+use Rattle.directory_rows.proofs.OfDirectoryPages.Places.{is_named_so, named_is}
+use Rattle.directory_rows.specs.Directory.{IsWellFormed, rows_in}
+use Rattle.directory_rows.specs.Laws.{IsSameNode}
+use Rattle.plain_program.specs.fileset_values.Orders.{Name, Path}
+use Rattle.plain_program.specs.fileset_model.Paths.{begins_with}
+use Rattle.plain_program.specs.fileset_model.declared.fileset.FilesetSlot.{FilesetSlot}
+use Rattle.plain_program.specs.fileset_model.declared.fileset.Role.TheVariants.{Original}
+use Rattle.plain_program.specs.fileset_model.declared.node.Node.{Node}
+use Rattle.plain_program.specs.fileset_model.declared.node.Node.TheVariants.{File, Directory as DirectoryNode}
+use Rattle.plain_program.proofs.OfLegalHistories.ValidMoveLemmas.{begins, begins_of}
 use Rattle.name_space.specs.Names.{IsNodeOf, Names, led_from, led_to, number_of, root_tag}
 use Rattle.name_space.proofs.Leads.{led-append}
 use Rattle.name_space.proofs.Originals.{IsIn, original_names, path_at}

@@ -24,3 +24,15 @@ pub mod RenamedNames
 pub mod LinkChecks
 pub mod Roots
 pub mod Likeness
+pub mod Views
+pub mod OneWay
+pub mod Counted
+pub mod Grown
+pub mod BelowMissing
+pub mod OutOfSync
+pub mod Made
+pub mod OfDirectoryPages
+pub mod OfDirectoryRows
+pub mod OfFilesetModel
+pub mod OfFilesetValues
+pub mod OfLegalHistories

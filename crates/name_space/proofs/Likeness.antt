@@ -5,16 +5,16 @@ use Rattle.std.specs.Cmp.{nat_cmp_total}
 use Rattle.std.specs.Ordering.{nat_cmp}
 use Rattle.std.specs.Option.{option_map_or}
 use Rattle.std.specs.FinMap as map
-use Rattle.page_store.specs.Bitfiles.{Bitfile}
-use Rattle.fileset_model.specs.Fileset.{Fileset}
-use Rattle.fileset_model.specs.Paths.{is_out_of_sync, paths_to}
-use Rattle.fileset_model.specs.declared.fileset.Role.{Role}
-use Rattle.fileset_model.specs.declared.node.Node.{Node}
-use Rattle.fileset_model.specs.declared.node.Node.TheVariants.{File, Directory}
-use Rattle.fileset_model.proofs.MapLemmas.{get-insert_other, get-insert_same}
-use Rattle.fileset_laws.proofs.LooksLemmas.{looks_like_itself}
-use Rattle.fileset_laws.proofs.ValidSetLemmas.{original≢clone}
-use Rattle.fileset_laws.proofs.ValidTreeLemmas.{without_limits-valid}
+use Rattle.directory_rows.specs.page_store.Bitfiles.{Bitfile}
+use Rattle.plain_program.specs.fileset_model.Fileset.{Fileset}
+use Rattle.plain_program.specs.fileset_model.Paths.{is_out_of_sync, paths_to}
+use Rattle.plain_program.specs.fileset_model.declared.fileset.Role.{Role}
+use Rattle.plain_program.specs.fileset_model.declared.node.Node.{Node}
+use Rattle.plain_program.specs.fileset_model.declared.node.Node.TheVariants.{File, Directory}
+use Rattle.plain_program.proofs.OfFilesetValues.MapLemmas.{get-insert_other, get-insert_same}
+use Rattle.plain_program.proofs.OfLegalHistories.LooksLemmas.{looks_like_itself}
+use Rattle.plain_program.proofs.OfLegalHistories.ValidSetLemmas.{original≢clone}
+use Rattle.plain_program.proofs.OfLegalHistories.ValidTreeLemmas.{without_limits-valid}
 use Rattle.name_space.specs.Laws.{AreLike, BytesAreFree, ChangesAreLike, ClonesHaveNames, HasSameNames, IsLike, clone_of}
 use Rattle.name_space.specs.Names.{IsNodeOf, number_of}
 use Rattle.name_space.proofs.Originals.{all_shown, is_in, original_names, path_at}

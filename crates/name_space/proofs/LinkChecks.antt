@@ -1,16 +1,16 @@
 -- What is refused of a link, by its parts.
 use Rattle.std.proofs.Common.{◌≡◌, ◌∙◌, ◌<◌, ◌≤◌, Bool, true, false, nat_le, List, [], ◌∷◌, Option, Some, None, refl, sym, ap, arith, leb-false, leb-true}
 use Rattle.std.specs.Option.{option_map_or}
-use Rattle.domain_base.specs.Limits.{max_links}
-use Rattle.domain_base.specs.declared.place.Kind.TheVariants as kinds
-use Rattle.domain_base.specs.declared.place.Tag.{Tag}
-use Rattle.page_store.specs.Bitfiles.{Bitfile, Bitfiles, links_at}
-use Rattle.fileset_model.specs.Apply.{link_checks, links_full, path_taken}
-use Rattle.fileset_model.specs.Orders.{Path}
-use Rattle.fileset_model.specs.Paths.{directory_here, first_refusal, paths_to, refuse_if, target_refusal, walk_refusal}
-use Rattle.fileset_model.specs.declared.fileset.FilesetSlot.{FilesetSlot}
-use Rattle.fileset_model.specs.declared.reply.Refusal.{Refusal}
-use Rattle.fileset_model.specs.declared.reply.Refusal.TheVariants.{LinksFull}
+use Rattle.plain_program.specs.domain_base.Limits.{max_links}
+use Rattle.plain_program.specs.domain_base.declared.place.Kind.TheVariants as kinds
+use Rattle.plain_program.specs.domain_base.declared.place.Tag.{Tag}
+use Rattle.directory_rows.specs.page_store.Bitfiles.{Bitfile, Bitfiles, links_at}
+use Rattle.plain_program.specs.fileset_model.Apply.{link_checks, links_full, path_taken}
+use Rattle.plain_program.specs.fileset_values.Orders.{Path}
+use Rattle.plain_program.specs.fileset_model.Paths.{directory_here, first_refusal, paths_to, refuse_if, target_refusal, walk_refusal}
+use Rattle.plain_program.specs.fileset_model.declared.fileset.FilesetSlot.{FilesetSlot}
+use Rattle.plain_program.specs.fileset_values.declared.reply.Refusal.{Refusal}
+use Rattle.plain_program.specs.fileset_values.declared.reply.Refusal.TheVariants.{LinksFull}
 use Rattle.name_space.specs.Changes.{IsOriginal, free_checks, taking_checks}
 use Rattle.name_space.specs.Names.{led_to, number_of}
 use Rattle.name_space.proofs.Originals.{is_in, number_at}

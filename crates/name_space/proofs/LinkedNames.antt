@@ -3,26 +3,26 @@ use Rattle.std.proofs.Common.{◌≡◌, ◌≢◌, ◌⊎◌, ◌∙◌, ℕ, �
 use Rattle.std.proofs.lemmas.Bool.{eq-eqb}
 use Rattle.std.specs.Option.{option_and_then, option_map, option_map_or}
 use Rattle.std.specs.FinMap as map
-use Rattle.domain_base.specs.Limits.{max_links}
-use Rattle.domain_base.specs.declared.place.Kind.{Kind}
-use Rattle.domain_base.specs.declared.place.Kind.TheVariants as kinds
-use Rattle.domain_base.specs.declared.place.Tag.{Tag}
-use Rattle.page_store.specs.Bitfiles.{Bitfile, Bitfiles, IsDirectory, count_index, linked, links_at, same_tag, with_change, with_file}
-use Rattle.dir_pages.specs.Rows.{found}
-use Rattle.dir_rows.specs.Directory.{IsWellFormed, rows_in}
-use Rattle.dir_rows.specs.RowChanges.{AddsRow, GetsNoIndex, IsIndexedWhereSmall, KeepsIndex}
-use Rattle.dir_rows.proofs.Outside.{others_stay_lem, rows_decide_lem}
-use Rattle.fileset_model.specs.Apply.{linked as with_path}
-use Rattle.fileset_model.specs.Orders.{Name, Path, path_cmp-total, path_cmp-IsAntisymmetric}
-use Rattle.fileset_model.specs.Paths.{paths_to}
-use Rattle.fileset_model.specs.declared.fileset.FilesetSlot.{FilesetSlot}
-use Rattle.fileset_model.specs.declared.node.Node.{Node}
-use Rattle.fileset_model.specs.declared.node.Node.TheVariants.{File, Directory as DirectoryNode}
-use Rattle.fileset_model.proofs.ChangeLemmas.{linked-at}
-use Rattle.fileset_model.proofs.MapLemmas.{get-insert_other, get-insert_same}
-use Rattle.fileset_laws.specs.Valid.{IsDirectoryAt}
-use Rattle.fileset_laws.proofs.ValidLemmas.{from_some_and, some_inj, to_some_and}
-use Rattle.fileset_laws.proofs.ValidTreeLemmas.{linked-valid}
+use Rattle.plain_program.specs.domain_base.Limits.{max_links}
+use Rattle.plain_program.specs.domain_base.declared.place.Kind.{Kind}
+use Rattle.plain_program.specs.domain_base.declared.place.Kind.TheVariants as kinds
+use Rattle.plain_program.specs.domain_base.declared.place.Tag.{Tag}
+use Rattle.directory_rows.specs.page_store.Bitfiles.{Bitfile, Bitfiles, IsDirectory, count_index, linked, links_at, same_tag, with_change, with_file}
+use Rattle.directory_rows.specs.directory_pages.Rows.{found}
+use Rattle.directory_rows.specs.Directory.{IsWellFormed, rows_in}
+use Rattle.directory_rows.specs.RowChanges.{AddsRow, GetsNoIndex, IsIndexedWhereSmall, KeepsIndex}
+use Rattle.directory_rows.proofs.Outside.{others_stay_lem, rows_decide_lem}
+use Rattle.plain_program.specs.fileset_model.Apply.{linked as with_path}
+use Rattle.plain_program.specs.fileset_values.Orders.{Name, Path, path_cmp-total, path_cmp-IsAntisymmetric}
+use Rattle.plain_program.specs.fileset_model.Paths.{paths_to}
+use Rattle.plain_program.specs.fileset_model.declared.fileset.FilesetSlot.{FilesetSlot}
+use Rattle.plain_program.specs.fileset_model.declared.node.Node.{Node}
+use Rattle.plain_program.specs.fileset_model.declared.node.Node.TheVariants.{File, Directory as DirectoryNode}
+use Rattle.plain_program.proofs.OfFilesetModel.ChangeLemmas.{linked-at}
+use Rattle.plain_program.proofs.OfFilesetValues.MapLemmas.{get-insert_other, get-insert_same}
+use Rattle.plain_program.specs.legal_histories.Valid.{IsDirectoryAt}
+use Rattle.plain_program.proofs.OfLegalHistories.ValidLemmas.{from_some_and, some_inj, to_some_and}
+use Rattle.plain_program.proofs.OfLegalHistories.ValidTreeLemmas.{linked-valid}
 use Rattle.name_space.specs.Changes.{AddsLink, IndexesFollow, IsLinkPlace, IsOriginal, Links, last_name}
 use Rattle.name_space.specs.declared.link.LinkPlace.{LinkPlace}
 use Rattle.name_space.specs.Names.{IsNodeOf, Names, led_from, led_to, number_of}

@@ -10,24 +10,24 @@ use Rattle.std.specs.Cmp.{Equal-is, first_so, second_so, tied_itself}
 use Rattle.std.specs.Option.{option_and_then, option_map, option_map_or}
 use Rattle.std.specs.FinMap as map
 use Rattle.std.specs.FinMap.Entries.{below_all, find, is_sorted}
-use Rattle.domain_base.specs.declared.place.Kind.{Kind}
-use Rattle.domain_base.specs.declared.place.Kind.TheVariants.{Directory}
-use Rattle.domain_base.specs.declared.place.Tag.{Tag}
-use Rattle.page_store.specs.Bitfiles.{Bitfile, Bitfiles, IsDirectory}
-use Rattle.dir_pages.specs.declared.row.Row.{Row}
-use Rattle.dir_pages.specs.Rows.{found}
-use Rattle.dir_rows.specs.Directory.{NamesOnce, rows_in}
-use Rattle.fileset_model.specs.Fileset.{Fileset}
-use Rattle.fileset_model.specs.LooksLike.{IsShown}
-use Rattle.fileset_model.specs.Orders.{Name, Path, name_cmp, name_cmp-total, name_cmp-IsAntisymmetric, path_cmp, path_cmp-IsAntisymmetric}
-use Rattle.fileset_model.specs.Paths.{begins_with, is_directory, is_out_of_sync, is_out_of_sync_at, name_below, rows_of}
-use Rattle.fileset_model.specs.declared.fileset.FilesetSlot.{FilesetSlot}
-use Rattle.fileset_model.specs.declared.node.Node.{Node}
-use Rattle.fileset_model.specs.declared.reply.NameItem.{NameItem}
-use Rattle.fileset_model.proofs.MoveLemmas.{sorted_entries}
-use Rattle.fileset_model.proofs.RowsLemmas.{row_of}
-use Rattle.fileset_laws.proofs.ValidMoveLemmas.{begins, begins_of}
-use Rattle.sorted_entries.proofs.EntryLemmas.{entries-from_sorted, get-from_sorted}
+use Rattle.plain_program.specs.domain_base.declared.place.Kind.{Kind}
+use Rattle.plain_program.specs.domain_base.declared.place.Kind.TheVariants.{Directory}
+use Rattle.plain_program.specs.domain_base.declared.place.Tag.{Tag}
+use Rattle.directory_rows.specs.page_store.Bitfiles.{Bitfile, Bitfiles, IsDirectory}
+use Rattle.directory_rows.specs.directory_pages.declared.row.Row.{Row}
+use Rattle.directory_rows.specs.directory_pages.Rows.{found}
+use Rattle.directory_rows.specs.Directory.{NamesOnce, rows_in}
+use Rattle.plain_program.specs.fileset_model.Fileset.{Fileset}
+use Rattle.plain_program.specs.fileset_model.LooksLike.{IsShown}
+use Rattle.plain_program.specs.fileset_values.Orders.{Name, Path, name_cmp, name_cmp-total, name_cmp-IsAntisymmetric, path_cmp, path_cmp-IsAntisymmetric}
+use Rattle.plain_program.specs.fileset_model.Paths.{begins_with, is_directory, is_out_of_sync, is_out_of_sync_at, name_below, rows_of}
+use Rattle.plain_program.specs.fileset_model.declared.fileset.FilesetSlot.{FilesetSlot}
+use Rattle.plain_program.specs.fileset_model.declared.node.Node.{Node}
+use Rattle.plain_program.specs.fileset_values.declared.reply.NameItem.{NameItem}
+use Rattle.plain_program.proofs.OfFilesetModel.MoveLemmas.{sorted_entries}
+use Rattle.plain_program.proofs.OfFilesetModel.RowsLemmas.{row_of}
+use Rattle.plain_program.proofs.OfLegalHistories.ValidMoveLemmas.{begins, begins_of}
+use Rattle.plain_program.proofs.OfSortedSets.EntryLemmas.{entries-from_sorted, get-from_sorted}
 use Rattle.name_space.specs.Lists.{AreRowsOf, IsRowCount, item_of}
 use Rattle.name_space.specs.Names.{Names, is_directory_kind, led_to, number_of}
 use Rattle.name_space.proofs.Keyed.{entries_once, entry_of, found_kind, keyed_map, sorted_entries_of}

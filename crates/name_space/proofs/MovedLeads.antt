@@ -1,15 +1,15 @@
 -- Where paths lead after a row went from one directory, and one naming the same came to another.
 use Rattle.std.proofs.Common.{◌≡◌, ◌≢◌, ◌∙◌, Bool, true, false, [], ◌∷◌, ◌++◌, Option, Some, None, length, length-append, append_assoc, inl, inr, refl, sym, ap, arith, true≢false}
 use Rattle.std.specs.Option.{option_and_then}
-use Rattle.domain_base.specs.declared.place.Kind.{Kind}
-use Rattle.domain_base.specs.declared.place.Kind.TheVariants.{Directory}
-use Rattle.domain_base.specs.declared.place.Tag.{Tag}
-use Rattle.page_store.specs.Bitfiles.{Bitfiles, same_tag}
-use Rattle.dir_pages.specs.Rows.{found}
-use Rattle.dir_rows.specs.Directory.{rows_in}
-use Rattle.fileset_model.specs.Orders.{Name, Path}
-use Rattle.fileset_model.specs.Paths.{begins_with}
-use Rattle.fileset_laws.proofs.ValidMoveLemmas.{begins, begins_of}
+use Rattle.plain_program.specs.domain_base.declared.place.Kind.{Kind}
+use Rattle.plain_program.specs.domain_base.declared.place.Kind.TheVariants.{Directory}
+use Rattle.plain_program.specs.domain_base.declared.place.Tag.{Tag}
+use Rattle.directory_rows.specs.page_store.Bitfiles.{Bitfiles, same_tag}
+use Rattle.directory_rows.specs.directory_pages.Rows.{found}
+use Rattle.directory_rows.specs.Directory.{rows_in}
+use Rattle.plain_program.specs.fileset_values.Orders.{Name, Path}
+use Rattle.plain_program.specs.fileset_model.Paths.{begins_with}
+use Rattle.plain_program.proofs.OfLegalHistories.ValidMoveLemmas.{begins, begins_of}
 use Rattle.name_space.specs.Names.{led_from, led_to, root_tag}
 use Rattle.name_space.proofs.CreatedNames.{by_tag, led_as}
 use Rattle.name_space.proofs.Leads.{led-append}

@@ -2,20 +2,20 @@
 use Rattle.std.proofs.Common.{◌≡◌, ◌∙◌, ℕ, true, false, [], ◌∷◌, ◌++◌, Option, Some, None, drop, length, refl, sym, ap, subst}
 use Rattle.std.specs.Option.{option_and_then, option_map}
 use Rattle.std.specs.FinMap as map
-use Rattle.domain_base.specs.declared.place.Kind.{Kind}
-use Rattle.domain_base.specs.declared.place.Kind.TheVariants.{Directory}
-use Rattle.domain_base.specs.declared.place.Tag.{Tag}
-use Rattle.page_store.specs.Bitfiles.{Bitfile, Bitfiles, IsDirectory}
-use Rattle.dir_pages.specs.Rows.{found}
-use Rattle.dir_rows.specs.Directory.{IsWellFormed, rows_in}
-use Rattle.dir_rows.specs.Laws.{IsSameNode}
-use Rattle.dir_rows.specs.RowChanges.{AddsRow, RemovesRow}
-use Rattle.fileset_model.specs.Apply.{moved}
-use Rattle.fileset_model.specs.Orders.{Name, Path}
-use Rattle.fileset_model.specs.Paths.{begins_with, paths_to}
-use Rattle.fileset_model.specs.declared.fileset.FilesetSlot.{FilesetSlot}
-use Rattle.fileset_laws.proofs.ValidLemmas.{from_some_and, to_some_and}
-use Rattle.fileset_laws.proofs.ValidMoveLemmas.{begins}
+use Rattle.plain_program.specs.domain_base.declared.place.Kind.{Kind}
+use Rattle.plain_program.specs.domain_base.declared.place.Kind.TheVariants.{Directory}
+use Rattle.plain_program.specs.domain_base.declared.place.Tag.{Tag}
+use Rattle.directory_rows.specs.page_store.Bitfiles.{Bitfile, Bitfiles, IsDirectory}
+use Rattle.directory_rows.specs.directory_pages.Rows.{found}
+use Rattle.directory_rows.specs.Directory.{IsWellFormed, rows_in}
+use Rattle.directory_rows.specs.Laws.{IsSameNode}
+use Rattle.directory_rows.specs.RowChanges.{AddsRow, RemovesRow}
+use Rattle.plain_program.specs.fileset_model.Apply.{moved}
+use Rattle.plain_program.specs.fileset_values.Orders.{Name, Path}
+use Rattle.plain_program.specs.fileset_model.Paths.{begins_with, paths_to}
+use Rattle.plain_program.specs.fileset_model.declared.fileset.FilesetSlot.{FilesetSlot}
+use Rattle.plain_program.proofs.OfLegalHistories.ValidLemmas.{from_some_and, to_some_and}
+use Rattle.plain_program.proofs.OfLegalHistories.ValidMoveLemmas.{begins}
 use Rattle.name_space.specs.Changes.{IsOriginal}
 use Rattle.name_space.specs.Names.{IsNodeOf, Names, led_to, number_of}
 use Rattle.name_space.proofs.CreatedNames.{led_as}

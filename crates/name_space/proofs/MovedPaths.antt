@@ -6,13 +6,13 @@ use Rattle.std.specs.Ordering.{eq_by_cmp, is_eq}
 use Rattle.std.specs.Cmp.{Equal-is, IsTotalOrder, second_so, tied_itself}
 use Rattle.std.specs.FinMap as map
 use Rattle.std.specs.FinMap.Entries.{find, is_sorted}
-use Rattle.fileset_model.specs.Apply.{moved_path}
-use Rattle.fileset_model.specs.Orders.{Name, Path, path_cmp, path_cmp-total, path_cmp-IsAntisymmetric}
-use Rattle.fileset_model.specs.Paths.{begins_with}
-use Rattle.fileset_model.proofs.MoveLemmas.{sorted_entries}
-use Rattle.fileset_laws.proofs.ValidCountLemmas.{count_of, count-rekeyed, found_first, found_later}
-use Rattle.fileset_laws.proofs.ValidMoveLemmas.{begins, begins_of, moved_cases}
-use Rattle.fileset_laws.proofs.ValidTreeLemmas.{some≢none}
+use Rattle.plain_program.specs.fileset_model.Apply.{moved_path}
+use Rattle.plain_program.specs.fileset_values.Orders.{Name, Path, path_cmp, path_cmp-total, path_cmp-IsAntisymmetric}
+use Rattle.plain_program.specs.fileset_model.Paths.{begins_with}
+use Rattle.plain_program.proofs.OfFilesetModel.MoveLemmas.{sorted_entries}
+use Rattle.plain_program.proofs.OfLegalHistories.ValidCountLemmas.{count_of, count-rekeyed, found_first, found_later}
+use Rattle.plain_program.proofs.OfLegalHistories.ValidMoveLemmas.{begins, begins_of, moved_cases}
+use Rattle.plain_program.proofs.OfLegalHistories.ValidTreeLemmas.{some≢none}
 
 -- ---- entries under other keys
 

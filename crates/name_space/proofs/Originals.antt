@@ -3,22 +3,22 @@ use Rattle.std.proofs.Common.{◌≡◌, ◌≢◌, ◌∙◌, ℕ, ◌^◌, ◌
 use Rattle.std.proofs.lemmas.Bool.{and_parts, eq-eqb}
 use Rattle.std.specs.Option.{option_and_then, option_map, option_map_or}
 use Rattle.std.specs.FinMap.{get}
-use Rattle.domain_base.specs.declared.place.Kind.{Kind}
-use Rattle.domain_base.specs.declared.place.Kind.TheVariants.{Directory, File as FileKind}
-use Rattle.domain_base.specs.declared.place.Tag.{Tag}
-use Rattle.page_store.specs.Bitfiles.{Bitfile, Bitfiles, IsDirectory, same_tag}
-use Rattle.dir_rows.specs.Directory.{IsWellFormed}
-use Rattle.fileset_model.specs.Fileset.{Fileset}
-use Rattle.fileset_model.specs.LooksLike.{IsShown}
-use Rattle.fileset_model.specs.Orders.{Path}
-use Rattle.fileset_model.specs.Paths.{is_directory, is_out_of_sync, paths_to}
-use Rattle.fileset_model.specs.declared.fileset.FilesetSlot.{FilesetSlot}
-use Rattle.fileset_model.specs.declared.fileset.Role.{Role}
-use Rattle.fileset_model.specs.declared.fileset.Role.TheVariants.{Original}
-use Rattle.fileset_model.specs.declared.node.Node.{Node}
-use Rattle.fileset_model.specs.declared.node.Node.TheVariants.{File, Directory as DirectoryNode}
-use Rattle.fileset_laws.specs.Valid.{IsDirectoryAt, IsValidFileset}
-use Rattle.fileset_laws.proofs.ValidTreeLemmas.{at_directory}
+use Rattle.plain_program.specs.domain_base.declared.place.Kind.{Kind}
+use Rattle.plain_program.specs.domain_base.declared.place.Kind.TheVariants.{Directory, File as FileKind}
+use Rattle.plain_program.specs.domain_base.declared.place.Tag.{Tag}
+use Rattle.directory_rows.specs.page_store.Bitfiles.{Bitfile, Bitfiles, IsDirectory, same_tag}
+use Rattle.directory_rows.specs.Directory.{IsWellFormed}
+use Rattle.plain_program.specs.fileset_model.Fileset.{Fileset}
+use Rattle.plain_program.specs.fileset_model.LooksLike.{IsShown}
+use Rattle.plain_program.specs.fileset_values.Orders.{Path}
+use Rattle.plain_program.specs.fileset_model.Paths.{is_directory, is_out_of_sync, paths_to}
+use Rattle.plain_program.specs.fileset_model.declared.fileset.FilesetSlot.{FilesetSlot}
+use Rattle.plain_program.specs.fileset_model.declared.fileset.Role.{Role}
+use Rattle.plain_program.specs.fileset_model.declared.fileset.Role.TheVariants.{Original}
+use Rattle.plain_program.specs.fileset_model.declared.node.Node.{Node}
+use Rattle.plain_program.specs.fileset_model.declared.node.Node.TheVariants.{File, Directory as DirectoryNode}
+use Rattle.plain_program.specs.legal_histories.Valid.{IsDirectoryAt, IsValidFileset}
+use Rattle.plain_program.proofs.OfLegalHistories.ValidTreeLemmas.{at_directory}
 use Rattle.name_space.specs.Names.{IsNodeOf, Names, is_directory_kind, led_to, number_of}
 
 -- ---- tags

@@ -7,13 +7,13 @@ use Rattle.std.specs.Ordering.{eq_by_cmp, is_eq}
 use Rattle.std.specs.Cmp.{Equal-is, tied_itself}
 use Rattle.std.specs.FinMap as map
 use Rattle.std.specs.FinMap.Entries.{by_order, find, put}
-use Rattle.fileset_model.specs.Apply.{is_named_elsewhere}
-use Rattle.fileset_model.specs.Fileset.{Fileset}
-use Rattle.fileset_model.specs.Orders.{Path, path_cmp, path_cmp-total, path_cmp-IsAntisymmetric}
-use Rattle.fileset_model.specs.Paths.{paths_to}
-use Rattle.fileset_model.proofs.MapLemmas.{get-remove_other, got-remove}
-use Rattle.fileset_laws.proofs.ValidCountLemmas.{another_path, named_by, no_paths}
-use Rattle.fileset_laws.proofs.ValidLemmas.{some_inj}
+use Rattle.plain_program.specs.fileset_model.Apply.{is_named_elsewhere}
+use Rattle.plain_program.specs.fileset_model.Fileset.{Fileset}
+use Rattle.plain_program.specs.fileset_values.Orders.{Path, path_cmp, path_cmp-total, path_cmp-IsAntisymmetric}
+use Rattle.plain_program.specs.fileset_model.Paths.{paths_to}
+use Rattle.plain_program.proofs.OfFilesetValues.MapLemmas.{get-remove_other, got-remove}
+use Rattle.plain_program.proofs.OfLegalHistories.ValidCountLemmas.{another_path, named_by, no_paths}
+use Rattle.plain_program.proofs.OfLegalHistories.ValidLemmas.{some_inj}
 
 abbrev pub count_of : ℕ → List (Path × ℕ) → ℕ
 count_of k es = count_by (λ e. e.1 == k) es

@@ -6,31 +6,31 @@ use Rattle.std.specs.Ordering.{is_eq}
 use Rattle.std.specs.Option.{option_and_then, option_map, option_map_or}
 use Rattle.std.specs.List.{flat_map}
 use Rattle.std.specs.FinMap as map
-use Rattle.domain_base.specs.declared.place.Kind.{Kind}
-use Rattle.domain_base.specs.declared.place.Kind.TheVariants as kinds
-use Rattle.domain_base.specs.declared.place.Tag.{Tag}
-use Rattle.page_store.specs.Bitfiles.{Bitfile, Bitfiles, IsDirectory, same_tag}
-use Rattle.dir_pages.specs.declared.row.Row.{Row}
-use Rattle.dir_pages.specs.RowPage.{rows_of}
-use Rattle.dir_pages.specs.Rows.{found, has_name, is_named}
-use Rattle.dir_pages.proofs.Places.{is_named_so, named_is}
-use Rattle.dir_rows.specs.Directory.{IsWellFormed, NamesOnce, rows_in}
-use Rattle.dir_rows.specs.Laws.{HasSameRows, IsSameNode, LeavesOthers}
-use Rattle.dir_rows.specs.RowChanges.{RemovesRow}
-use Rattle.dir_rows.proofs.Entered.{named_found}
-use Rattle.dir_rows.proofs.Outside.{others_stay_lem, rows_decide_lem}
-use Rattle.fileset_model.specs.Apply.{is_named_elsewhere, without}
-use Rattle.fileset_model.specs.Orders.{Name, Path, path_cmp-total, path_cmp-IsAntisymmetric}
-use Rattle.fileset_model.specs.Paths.{paths_to}
-use Rattle.fileset_model.specs.declared.fileset.FilesetSlot.{FilesetSlot}
-use Rattle.fileset_model.specs.declared.fileset.Role.TheVariants.{Original}
-use Rattle.fileset_model.specs.declared.node.Node.{Node}
-use Rattle.fileset_model.specs.declared.node.Node.TheVariants.{File, Directory as DirectoryNode}
-use Rattle.fileset_model.proofs.ChangeLemmas.{left_without, without-at}
-use Rattle.fileset_model.proofs.MapLemmas.{get-remove_other}
-use Rattle.fileset_laws.specs.Valid.{IsValidFileset}
-use Rattle.fileset_laws.proofs.ValidCountLemmas.{another_path, named_by}
-use Rattle.fileset_laws.proofs.ValidLemmas.{from_some_and, some_inj, to_some_and}
+use Rattle.plain_program.specs.domain_base.declared.place.Kind.{Kind}
+use Rattle.plain_program.specs.domain_base.declared.place.Kind.TheVariants as kinds
+use Rattle.plain_program.specs.domain_base.declared.place.Tag.{Tag}
+use Rattle.directory_rows.specs.page_store.Bitfiles.{Bitfile, Bitfiles, IsDirectory, same_tag}
+use Rattle.directory_rows.specs.directory_pages.declared.row.Row.{Row}
+use Rattle.directory_rows.specs.directory_pages.RowPage.{rows_of}
+use Rattle.directory_rows.specs.directory_pages.Rows.{found, has_name, is_named}
+use Rattle.directory_rows.proofs.OfDirectoryPages.Places.{is_named_so, named_is}
+use Rattle.directory_rows.specs.Directory.{IsWellFormed, NamesOnce, rows_in}
+use Rattle.directory_rows.specs.Laws.{HasSameRows, IsSameNode, LeavesOthers}
+use Rattle.directory_rows.specs.RowChanges.{RemovesRow}
+use Rattle.directory_rows.proofs.Entered.{named_found}
+use Rattle.directory_rows.proofs.Outside.{others_stay_lem, rows_decide_lem}
+use Rattle.plain_program.specs.fileset_model.Apply.{is_named_elsewhere, without}
+use Rattle.plain_program.specs.fileset_values.Orders.{Name, Path, path_cmp-total, path_cmp-IsAntisymmetric}
+use Rattle.plain_program.specs.fileset_model.Paths.{paths_to}
+use Rattle.plain_program.specs.fileset_model.declared.fileset.FilesetSlot.{FilesetSlot}
+use Rattle.plain_program.specs.fileset_model.declared.fileset.Role.TheVariants.{Original}
+use Rattle.plain_program.specs.fileset_model.declared.node.Node.{Node}
+use Rattle.plain_program.specs.fileset_model.declared.node.Node.TheVariants.{File, Directory as DirectoryNode}
+use Rattle.plain_program.proofs.OfFilesetModel.ChangeLemmas.{left_without, without-at}
+use Rattle.plain_program.proofs.OfFilesetValues.MapLemmas.{get-remove_other}
+use Rattle.plain_program.specs.legal_histories.Valid.{IsValidFileset}
+use Rattle.plain_program.proofs.OfLegalHistories.ValidCountLemmas.{another_path, named_by}
+use Rattle.plain_program.proofs.OfLegalHistories.ValidLemmas.{from_some_and, some_inj, to_some_and}
 use Rattle.name_space.specs.Names.{IsNodeOf, Names, led_from, led_to, number_of}
 use Rattle.name_space.proofs.CreatedNames.{by_tag, led_as, same_rows}
 use Rattle.name_space.proofs.Leads.{led-name}

@@ -5,25 +5,25 @@ use Rattle.std.specs.Cmp.{Equal-is}
 use Rattle.std.specs.Cmp.Lexicographic.{lists_ties, texts_ties}
 use Rattle.std.specs.Option.{option_and_then, option_map, option_map_or}
 use Rattle.std.specs.FinMap as map
-use Rattle.domain_base.specs.declared.place.Kind.{Kind}
-use Rattle.domain_base.specs.declared.place.Kind.TheVariants as kinds
-use Rattle.domain_base.specs.declared.place.Tag.{Tag}
-use Rattle.page_store.specs.Bitfiles.{Bitfiles}
-use Rattle.dir_pages.specs.Rows.{found}
-use Rattle.dir_rows.specs.Directory.{rows_in}
-use Rattle.fileset_model.specs.Apply.{is_clone, move_checks, rename_checks, replace_checks}
-use Rattle.fileset_model.specs.Orders.{Path, name_cmp, path_cmp, path_cmp-IsAntisymmetric}
-use Rattle.fileset_model.specs.Paths.{begins_with, first_refusal, is_directory, names_one, node_at, refuse_if, same_path, target_refusal, walk_refusal}
-use Rattle.fileset_model.specs.declared.fileset.FilesetSlot.{FilesetSlot}
-use Rattle.fileset_model.specs.declared.node.Node.{Node}
-use Rattle.fileset_model.specs.declared.reply.Refusal.{Refusal}
-use Rattle.fileset_model.specs.declared.reply.Refusal.TheVariants.{IntoItself, ReadOnly}
-use Rattle.fileset_laws.proofs.ValidLemmas.{passed, passed_test, some_inj}
+use Rattle.plain_program.specs.domain_base.declared.place.Kind.{Kind}
+use Rattle.plain_program.specs.domain_base.declared.place.Kind.TheVariants as kinds
+use Rattle.plain_program.specs.domain_base.declared.place.Tag.{Tag}
+use Rattle.directory_rows.specs.page_store.Bitfiles.{Bitfiles}
+use Rattle.directory_rows.specs.directory_pages.Rows.{found}
+use Rattle.directory_rows.specs.Directory.{rows_in}
+use Rattle.plain_program.specs.fileset_model.Apply.{is_clone, move_checks, rename_checks, replace_checks}
+use Rattle.plain_program.specs.fileset_values.Orders.{Path, name_cmp, path_cmp, path_cmp-IsAntisymmetric}
+use Rattle.plain_program.specs.fileset_model.Paths.{begins_with, first_refusal, is_directory, names_one, node_at, refuse_if, same_path, target_refusal, walk_refusal}
+use Rattle.plain_program.specs.fileset_model.declared.fileset.FilesetSlot.{FilesetSlot}
+use Rattle.plain_program.specs.fileset_model.declared.node.Node.{Node}
+use Rattle.plain_program.specs.fileset_values.declared.reply.Refusal.{Refusal}
+use Rattle.plain_program.specs.fileset_values.declared.reply.Refusal.TheVariants.{IntoItself, ReadOnly}
+use Rattle.plain_program.proofs.OfLegalHistories.ValidLemmas.{passed, passed_test, some_inj}
 use Rattle.name_space.specs.Changes.{AreLooked, IsOriginal, last_name, leaf_checks, target_checks}
 use Rattle.name_space.specs.Names.{is_directory_kind, led_to, number_of}
 use Rattle.name_space.specs.declared.spot.Spot.{Spot}
 use Rattle.name_space.proofs.Originals.{is_in, number_at, one_tag, path_at}
-use Rattle.plain_filesets.specs.Stops.{Refuses}
+use Rattle.plain_program.specs.Stops.{Refuses}
 use Rattle.name_space.proofs.Spots.{directory_is, led_path, refused_more}
 
 same_of : (p q : Path) → same_path p q ≡ true → p ≡ q

@@ -2,24 +2,24 @@
 use Rattle.std.proofs.Common.{◌≡◌, ◌≢◌, ◌∙◌, ◌-◌, ◌≤◌, Bool, true, false, cond, not, is_some, [], ◌∷◌, ◌++◌, Option, Some, None, IfSome, IsSome, length, length-take, take, inl, inr, refl, sym, ap, subst, arith, true≢false}
 use Rattle.std.specs.Option.{option_and_then, option_map}
 use Rattle.std.specs.FinMap as map
-use Rattle.domain_base.specs.declared.place.Kind.{Kind}
-use Rattle.domain_base.specs.declared.place.Kind.TheVariants.{Directory}
-use Rattle.domain_base.specs.declared.place.Tag.{Tag}
-use Rattle.page_store.specs.Bitfiles.{Bitfile, Bitfiles, IsBitfile, IsDirectory, count_index}
-use Rattle.dir_pages.specs.Rows.{found, is_named}
-use Rattle.dir_rows.specs.Directory.{IsWellFormed, rows_in}
-use Rattle.dir_rows.specs.RowChanges.{RemovesRow}
-use Rattle.dir_rows.proofs.Entered.{named_found}
-use Rattle.dir_rows.proofs.Outside.{others_stay_lem, rows_decide_lem}
-use Rattle.fileset_model.specs.Apply.{is_named_elsewhere, move_checks, moved, without}
-use Rattle.fileset_model.specs.Orders.{Name, Path}
-use Rattle.fileset_model.specs.Paths.{begins_with, first_refusal}
-use Rattle.fileset_model.specs.declared.fileset.FilesetSlot.{FilesetSlot}
-use Rattle.fileset_model.proofs.ChangeLemmas.{without-missing}
-use Rattle.fileset_laws.specs.Valid.{IsDirectoryAt}
-use Rattle.fileset_laws.proofs.ValidMoveLemmas.{moved-valid}
-use Rattle.fileset_laws.proofs.ValidLemmas.{from_some_and, some_inj, to_some_and}
-use Rattle.fileset_laws.proofs.ValidTreeLemmas.{nothing_below}
+use Rattle.plain_program.specs.domain_base.declared.place.Kind.{Kind}
+use Rattle.plain_program.specs.domain_base.declared.place.Kind.TheVariants.{Directory}
+use Rattle.plain_program.specs.domain_base.declared.place.Tag.{Tag}
+use Rattle.directory_rows.specs.page_store.Bitfiles.{Bitfile, Bitfiles, IsBitfile, IsDirectory, count_index}
+use Rattle.directory_rows.specs.directory_pages.Rows.{found, is_named}
+use Rattle.directory_rows.specs.Directory.{IsWellFormed, rows_in}
+use Rattle.directory_rows.specs.RowChanges.{RemovesRow}
+use Rattle.directory_rows.proofs.Entered.{named_found}
+use Rattle.directory_rows.proofs.Outside.{others_stay_lem, rows_decide_lem}
+use Rattle.plain_program.specs.fileset_model.Apply.{is_named_elsewhere, move_checks, moved, without}
+use Rattle.plain_program.specs.fileset_values.Orders.{Name, Path}
+use Rattle.plain_program.specs.fileset_model.Paths.{begins_with, first_refusal}
+use Rattle.plain_program.specs.fileset_model.declared.fileset.FilesetSlot.{FilesetSlot}
+use Rattle.plain_program.proofs.OfFilesetModel.ChangeLemmas.{without-missing}
+use Rattle.plain_program.specs.legal_histories.Valid.{IsDirectoryAt}
+use Rattle.plain_program.proofs.OfLegalHistories.ValidMoveLemmas.{moved-valid}
+use Rattle.plain_program.proofs.OfLegalHistories.ValidLemmas.{from_some_and, some_inj, to_some_and}
+use Rattle.plain_program.proofs.OfLegalHistories.ValidTreeLemmas.{nothing_below}
 use Rattle.name_space.specs.Changes.{AreLooked, Checks, IndexesFollow, IsOriginal, MovesRow, Removes, Renames, TakesName, last_name}
 use Rattle.name_space.specs.Names.{Names, led_to, number_of}
 use Rattle.name_space.specs.Walks.{IsWayTo}

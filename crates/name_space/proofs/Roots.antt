@@ -3,23 +3,23 @@ use Rattle.std.proofs.Common.{◌≡◌, ◌∙◌, ℕ, ◌^◌, ◌<◌, false
 use Rattle.std.specs.Cmp.{nat_cmp_total}
 use Rattle.std.specs.Option.{option_map}
 use Rattle.std.specs.FinMap as map
-use Rattle.domain_base.specs.declared.place.Kind.{Kind}
-use Rattle.domain_base.specs.declared.place.Kind.TheVariants.{Directory}
-use Rattle.domain_base.specs.declared.place.Tag.{Tag}
-use Rattle.page_store.specs.Bitfiles.{Bitfile, Bitfiles, IsDirectory, new_file, same_tag}
-use Rattle.dir_rows.specs.Directory.{IsWellFormed}
-use Rattle.dir_rows.proofs.Outside.{empty_is_well_formed_lem}
-use Rattle.fileset_model.specs.Apply.{empty_fileset}
-use Rattle.fileset_model.specs.Fileset.{Fileset}
-use Rattle.fileset_model.specs.Orders.{Path, path_cmp, path_cmp-total, path_cmp-IsAntisymmetric}
-use Rattle.fileset_model.specs.Paths.{paths_to}
-use Rattle.fileset_model.specs.declared.fileset.FilesetSlot.{FilesetSlot}
-use Rattle.fileset_model.specs.declared.fileset.Role.TheVariants.{Original}
-use Rattle.fileset_model.specs.declared.node.Node.TheVariants.{Directory as DirectoryNode}
-use Rattle.fileset_model.proofs.MapLemmas.{get-insert_other, get-insert_same}
-use Rattle.fileset_model.proofs.MoveLemmas.{entries-empty}
-use Rattle.fileset_laws.proofs.ValidLemmas.{some_inj, to_some_and}
-use Rattle.fileset_laws.proofs.ValidTreeLemmas.{empty_fileset-valid}
+use Rattle.plain_program.specs.domain_base.declared.place.Kind.{Kind}
+use Rattle.plain_program.specs.domain_base.declared.place.Kind.TheVariants.{Directory}
+use Rattle.plain_program.specs.domain_base.declared.place.Tag.{Tag}
+use Rattle.directory_rows.specs.page_store.Bitfiles.{Bitfile, Bitfiles, IsDirectory, new_file, same_tag}
+use Rattle.directory_rows.specs.Directory.{IsWellFormed}
+use Rattle.directory_rows.proofs.Outside.{empty_is_well_formed_lem}
+use Rattle.plain_program.specs.fileset_model.Apply.{empty_fileset}
+use Rattle.plain_program.specs.fileset_model.Fileset.{Fileset}
+use Rattle.plain_program.specs.fileset_values.Orders.{Path, path_cmp, path_cmp-total, path_cmp-IsAntisymmetric}
+use Rattle.plain_program.specs.fileset_model.Paths.{paths_to}
+use Rattle.plain_program.specs.fileset_model.declared.fileset.FilesetSlot.{FilesetSlot}
+use Rattle.plain_program.specs.fileset_model.declared.fileset.Role.TheVariants.{Original}
+use Rattle.plain_program.specs.fileset_model.declared.node.Node.TheVariants.{Directory as DirectoryNode}
+use Rattle.plain_program.proofs.OfFilesetValues.MapLemmas.{get-insert_other, get-insert_same}
+use Rattle.plain_program.proofs.OfFilesetModel.MoveLemmas.{entries-empty}
+use Rattle.plain_program.proofs.OfLegalHistories.ValidLemmas.{some_inj, to_some_and}
+use Rattle.plain_program.proofs.OfLegalHistories.ValidTreeLemmas.{empty_fileset-valid}
 use Rattle.name_space.specs.Changes.{IsOriginal}
 use Rattle.name_space.specs.Laws.{RootIsOriginal}
 use Rattle.name_space.specs.Names.{IsNodeOf, led_to, number_of, root_tag}

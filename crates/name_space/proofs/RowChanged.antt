@@ -1,13 +1,13 @@
 -- Where paths lead after one name of one directory got another row, or lost its row.
 use Rattle.std.proofs.Common.{◌≡◌, ◌≢◌, ◌∙◌, Bool, true, false, [], ◌∷◌, ◌++◌, Option, Some, None, length, length-append, append_assoc, append-nil, refl, sym, ap, arith}
 use Rattle.std.specs.Option.{option_and_then}
-use Rattle.domain_base.specs.declared.place.Kind.{Kind}
-use Rattle.domain_base.specs.declared.place.Kind.TheVariants.{Directory}
-use Rattle.domain_base.specs.declared.place.Tag.{Tag}
-use Rattle.page_store.specs.Bitfiles.{Bitfiles, same_tag}
-use Rattle.dir_pages.specs.Rows.{found}
-use Rattle.dir_rows.specs.Directory.{rows_in}
-use Rattle.fileset_model.specs.Orders.{Name, Path}
+use Rattle.plain_program.specs.domain_base.declared.place.Kind.{Kind}
+use Rattle.plain_program.specs.domain_base.declared.place.Kind.TheVariants.{Directory}
+use Rattle.plain_program.specs.domain_base.declared.place.Tag.{Tag}
+use Rattle.directory_rows.specs.page_store.Bitfiles.{Bitfiles, same_tag}
+use Rattle.directory_rows.specs.directory_pages.Rows.{found}
+use Rattle.directory_rows.specs.Directory.{rows_in}
+use Rattle.plain_program.specs.fileset_values.Orders.{Name, Path}
 use Rattle.name_space.specs.Names.{led_from, led_to, root_tag}
 use Rattle.name_space.proofs.Leads.{led-append, led-name}
 use Rattle.name_space.proofs.Originals.{tags_same}

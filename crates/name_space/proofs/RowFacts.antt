@@ -1,16 +1,16 @@
 -- What a row more or less leaves of a directory's rows, and of all files and directories.
 use Rattle.std.proofs.Common.{◌≡◌, ◌≢◌, ◌∙◌, false, ◌++◌, Option, Some, None, IsSome, IsSomeAnd, is_some, refl, sym, ap, subst}
-use Rattle.domain_base.specs.declared.place.Kind.TheVariants as kinds
-use Rattle.domain_base.specs.declared.place.Tag.{Tag}
-use Rattle.page_store.specs.Bitfiles.{Bitfile, Bitfiles, IsDirectory, count_index, same_tag}
-use Rattle.dir_pages.specs.declared.row.Row.{Row}
-use Rattle.dir_pages.specs.Rows.{found}
-use Rattle.dir_rows.specs.Directory.{IsWellFormed, NamesOnce, rows_in}
-use Rattle.dir_rows.specs.Laws.{IsSameNode, LeavesOthers}
-use Rattle.dir_rows.specs.RowChanges.{AddsRow, OnlyDirectory, RemovesRow}
-use Rattle.dir_rows.proofs.Outside.{others_stay_lem, rows_decide_lem}
-use Rattle.fileset_model.specs.Orders.{Name}
-use Rattle.fileset_laws.proofs.ValidLemmas.{from_some_and, some_inj, to_some_and}
+use Rattle.plain_program.specs.domain_base.declared.place.Kind.TheVariants as kinds
+use Rattle.plain_program.specs.domain_base.declared.place.Tag.{Tag}
+use Rattle.directory_rows.specs.page_store.Bitfiles.{Bitfile, Bitfiles, IsDirectory, count_index, same_tag}
+use Rattle.directory_rows.specs.directory_pages.declared.row.Row.{Row}
+use Rattle.directory_rows.specs.directory_pages.Rows.{found}
+use Rattle.directory_rows.specs.Directory.{IsWellFormed, NamesOnce, rows_in}
+use Rattle.directory_rows.specs.Laws.{IsSameNode, LeavesOthers}
+use Rattle.directory_rows.specs.RowChanges.{AddsRow, OnlyDirectory, RemovesRow}
+use Rattle.directory_rows.proofs.Outside.{others_stay_lem, rows_decide_lem}
+use Rattle.plain_program.specs.fileset_values.Orders.{Name}
+use Rattle.plain_program.proofs.OfLegalHistories.ValidLemmas.{from_some_and, some_inj, to_some_and}
 use Rattle.name_space.proofs.CreatedNames.{by_tag, same_count, same_rows}
 use Rattle.name_space.proofs.Leaves.{found_new, found_past}
 use Rattle.name_space.proofs.Removed.{alone_here, not_named}

@@ -3,18 +3,18 @@ use Rattle.std.proofs.Common.{◌≡◌, ◌∙◌, ◌-◌, ◌≤◌, false, n
 use Rattle.std.proofs.lemmas.List.{get_or_default}
 use Rattle.std.specs.Option.{option_and_then, option_map_or}
 use Rattle.std.specs.FinMap as map
-use Rattle.domain_base.specs.declared.place.Kind.{Kind}
-use Rattle.domain_base.specs.declared.place.Tag.{Tag}
-use Rattle.page_store.specs.Bitfiles.{Bitfiles}
-use Rattle.dir_pages.specs.Rows.{found}
-use Rattle.dir_rows.specs.Directory.{IsWellFormed, rows_in}
-use Rattle.fileset_model.specs.Orders.{Path}
-use Rattle.fileset_model.specs.Paths.{directory_here, file_here, first_refusal, is_directory, node_at, refuse_if, walk_refusal}
-use Rattle.fileset_model.specs.declared.fileset.FilesetSlot.{FilesetSlot}
-use Rattle.fileset_model.specs.declared.node.Node.{Node}
-use Rattle.fileset_model.specs.declared.reply.Refusal.{Refusal}
-use Rattle.fileset_model.specs.declared.reply.Refusal.TheVariants.{IsDirectory, NoPath, NotDirectory}
-use Rattle.fileset_laws.proofs.ValidLemmas.{as_original}
+use Rattle.plain_program.specs.domain_base.declared.place.Kind.{Kind}
+use Rattle.plain_program.specs.domain_base.declared.place.Tag.{Tag}
+use Rattle.directory_rows.specs.page_store.Bitfiles.{Bitfiles}
+use Rattle.directory_rows.specs.directory_pages.Rows.{found}
+use Rattle.directory_rows.specs.Directory.{IsWellFormed, rows_in}
+use Rattle.plain_program.specs.fileset_values.Orders.{Path}
+use Rattle.plain_program.specs.fileset_model.Paths.{directory_here, file_here, first_refusal, is_directory, node_at, refuse_if, walk_refusal}
+use Rattle.plain_program.specs.fileset_model.declared.fileset.FilesetSlot.{FilesetSlot}
+use Rattle.plain_program.specs.fileset_model.declared.node.Node.{Node}
+use Rattle.plain_program.specs.fileset_values.declared.reply.Refusal.{Refusal}
+use Rattle.plain_program.specs.fileset_values.declared.reply.Refusal.TheVariants.{IsDirectory, NoPath, NotDirectory}
+use Rattle.plain_program.proofs.OfLegalHistories.ValidLemmas.{as_original}
 use Rattle.name_space.specs.Changes.{Checks, HasOriginal, IsOriginal, IsSpot, last_name, target_checks}
 use Rattle.name_space.specs.Names.{HasNames, is_directory_kind, led_to}
 use Rattle.name_space.specs.Walks.{IsWayTo}

@@ -3,21 +3,21 @@ use Rattle.std.proofs.Common.{◌≡◌, ◌≢◌, ◌∙◌, ℕ, ◌+◌, ◌
 use Rattle.std.proofs.lemmas.Bool.{cases_lt, eq-eqb}
 use Rattle.std.specs.Option.{option_and_then, option_map, option_map_or}
 use Rattle.std.specs.FinMap as map
-use Rattle.domain_base.specs.declared.place.Kind.{Kind}
-use Rattle.domain_base.specs.declared.place.Kind.TheVariants as kinds
-use Rattle.domain_base.specs.declared.place.Tag.{Tag}
-use Rattle.page_store.specs.Bitfiles.{Bitfile, Bitfiles, IsBitfile, count_index, linked, links_at, same_tag, with_file}
-use Rattle.dir_pages.specs.Rows.{found}
-use Rattle.dir_rows.specs.Directory.{all_rows, rows_in}
-use Rattle.dir_rows.specs.Laws.{HasSameRows}
-use Rattle.dir_rows.proofs.Outside.{others_stay_lem}
-use Rattle.fileset_model.specs.Apply.{is_named_elsewhere}
-use Rattle.fileset_model.specs.Fileset.{Fileset}
-use Rattle.fileset_model.specs.Orders.{Name, Path}
-use Rattle.fileset_model.specs.Paths.{first_refusal, paths_to}
-use Rattle.fileset_model.specs.declared.fileset.FilesetSlot.{FilesetSlot}
-use Rattle.fileset_laws.proofs.ValidLemmas.{from_some_and, to_some_and}
-use Rattle.fileset_laws.proofs.ValidTreeLemmas.{without-valid}
+use Rattle.plain_program.specs.domain_base.declared.place.Kind.{Kind}
+use Rattle.plain_program.specs.domain_base.declared.place.Kind.TheVariants as kinds
+use Rattle.plain_program.specs.domain_base.declared.place.Tag.{Tag}
+use Rattle.directory_rows.specs.page_store.Bitfiles.{Bitfile, Bitfiles, IsBitfile, count_index, linked, links_at, same_tag, with_file}
+use Rattle.directory_rows.specs.directory_pages.Rows.{found}
+use Rattle.directory_rows.specs.Directory.{all_rows, rows_in}
+use Rattle.directory_rows.specs.Laws.{HasSameRows}
+use Rattle.directory_rows.proofs.Outside.{others_stay_lem}
+use Rattle.plain_program.specs.fileset_model.Apply.{is_named_elsewhere}
+use Rattle.plain_program.specs.fileset_model.Fileset.{Fileset}
+use Rattle.plain_program.specs.fileset_values.Orders.{Name, Path}
+use Rattle.plain_program.specs.fileset_model.Paths.{first_refusal, paths_to}
+use Rattle.plain_program.specs.fileset_model.declared.fileset.FilesetSlot.{FilesetSlot}
+use Rattle.plain_program.proofs.OfLegalHistories.ValidLemmas.{from_some_and, to_some_and}
+use Rattle.plain_program.proofs.OfLegalHistories.ValidTreeLemmas.{without-valid}
 use Rattle.name_space.specs.Changes.{Checks, DropsLink, IsOriginal, Removes, TakesName, last_name}
 use Rattle.name_space.specs.Names.{led_to, number_of}
 use Rattle.name_space.specs.Walks.{IsWayTo}

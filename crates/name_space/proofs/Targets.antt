@@ -2,18 +2,18 @@
 use Rattle.std.proofs.Common.{◌≡◌, ◌∙◌, ℕ, ◌+◌, ◌-◌, Bool, true, false, not, is_some, [], ◌∷◌, Option, Some, None, length, take, take_all, get_or, refl, sym, ap, subst, arith}
 use Rattle.std.specs.Option.{option_and_then, option_map}
 use Rattle.std.specs.FinMap.{contains_key}
-use Rattle.domain_base.specs.declared.place.Kind.{Kind}
-use Rattle.domain_base.specs.declared.place.Tag.{Tag}
-use Rattle.page_store.specs.Bitfiles.{Bitfiles}
-use Rattle.dir_pages.specs.Rows.{found}
-use Rattle.dir_rows.specs.Directory.{rows_in}
-use Rattle.fileset_model.specs.Apply.{path_taken}
-use Rattle.fileset_model.specs.LooksLike.{IsShown}
-use Rattle.fileset_model.specs.Orders.{Name, Path}
-use Rattle.fileset_model.specs.Paths.{first_refusal, refuse_if, target_refusal, walk_refusal}
-use Rattle.fileset_model.specs.declared.fileset.FilesetSlot.{FilesetSlot}
-use Rattle.fileset_model.specs.declared.reply.Refusal.{Refusal}
-use Rattle.fileset_model.specs.declared.reply.Refusal.TheVariants.{Exists, NoPath}
+use Rattle.plain_program.specs.domain_base.declared.place.Kind.{Kind}
+use Rattle.plain_program.specs.domain_base.declared.place.Tag.{Tag}
+use Rattle.directory_rows.specs.page_store.Bitfiles.{Bitfiles}
+use Rattle.directory_rows.specs.directory_pages.Rows.{found}
+use Rattle.directory_rows.specs.Directory.{rows_in}
+use Rattle.plain_program.specs.fileset_model.Apply.{path_taken}
+use Rattle.plain_program.specs.fileset_model.LooksLike.{IsShown}
+use Rattle.plain_program.specs.fileset_values.Orders.{Name, Path}
+use Rattle.plain_program.specs.fileset_model.Paths.{first_refusal, refuse_if, target_refusal, walk_refusal}
+use Rattle.plain_program.specs.fileset_model.declared.fileset.FilesetSlot.{FilesetSlot}
+use Rattle.plain_program.specs.fileset_values.declared.reply.Refusal.{Refusal}
+use Rattle.plain_program.specs.fileset_values.declared.reply.Refusal.TheVariants.{Exists, NoPath}
 use Rattle.name_space.specs.Changes.{free_checks}
 use Rattle.name_space.specs.Names.{Names, led_to, number_of}
 use Rattle.name_space.specs.Walks.{IsWayTo}

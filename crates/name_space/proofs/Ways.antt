@@ -3,19 +3,19 @@ use Rattle.std.proofs.Common.{◌≡◌, ◌∙◌, ℕ, ◌+◌, ◌<◌, ◌�
 use Rattle.std.proofs.lemmas.List.{take-take}
 use Rattle.std.specs.Option.{option_and_then, option_map, option_map_or}
 use Rattle.std.specs.FinMap.{get}
-use Rattle.domain_base.specs.declared.place.Kind.{Kind}
-use Rattle.domain_base.specs.declared.place.Kind.TheVariants.{Directory}
-use Rattle.domain_base.specs.declared.place.Tag.{Tag}
-use Rattle.page_store.specs.Bitfiles.{Bitfile, Bitfiles}
-use Rattle.fileset_model.specs.LooksLike.{IsShown}
-use Rattle.dir_pages.specs.Rows.{found}
-use Rattle.dir_rows.specs.Directory.{rows_in}
-use Rattle.fileset_model.specs.Orders.{Name, Path}
-use Rattle.fileset_model.specs.Paths.{directory_refusal, first_refusal, is_directory, is_out_of_sync, is_out_of_sync_at, refuse_if}
-use Rattle.fileset_model.specs.declared.fileset.FilesetSlot.{FilesetSlot}
-use Rattle.fileset_model.specs.declared.node.Node.{Node}
-use Rattle.fileset_model.specs.declared.reply.Refusal.{Refusal}
-use Rattle.fileset_model.specs.declared.reply.Refusal.TheVariants.{NoPath, NotDirectory, OutOfSync}
+use Rattle.plain_program.specs.domain_base.declared.place.Kind.{Kind}
+use Rattle.plain_program.specs.domain_base.declared.place.Kind.TheVariants.{Directory}
+use Rattle.plain_program.specs.domain_base.declared.place.Tag.{Tag}
+use Rattle.directory_rows.specs.page_store.Bitfiles.{Bitfile, Bitfiles}
+use Rattle.plain_program.specs.fileset_model.LooksLike.{IsShown}
+use Rattle.directory_rows.specs.directory_pages.Rows.{found}
+use Rattle.directory_rows.specs.Directory.{rows_in}
+use Rattle.plain_program.specs.fileset_values.Orders.{Name, Path}
+use Rattle.plain_program.specs.fileset_model.Paths.{directory_refusal, first_refusal, is_directory, is_out_of_sync, is_out_of_sync_at, refuse_if}
+use Rattle.plain_program.specs.fileset_model.declared.fileset.FilesetSlot.{FilesetSlot}
+use Rattle.plain_program.specs.fileset_model.declared.node.Node.{Node}
+use Rattle.plain_program.specs.fileset_values.declared.reply.Refusal.{Refusal}
+use Rattle.plain_program.specs.fileset_values.declared.reply.Refusal.TheVariants.{NoPath, NotDirectory, OutOfSync}
 use Rattle.name_space.specs.Names.{Names, is_directory_kind, led_to, number_of, root_tag}
 use Rattle.name_space.specs.Walks.{IsClear, IsWayTo}
 use Rattle.name_space.proofs.Leads.{led-more}

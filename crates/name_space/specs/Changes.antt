@@ -2,28 +2,28 @@
 use Rattle.std.specs.Prelude.{◌≡◌, ◌==◌, ◌+◌, ◌-◌, ◌<◌, ◌≤◌, ℕ, Bool, true, false, not, List, [], ◌∷◌, Option, Some, None, IsSome, Result, Ok, Err, length, get_or, take, if◌then◌else◌}
 use Rattle.std.specs.Option.{option_and_then, option_map}
 use Rattle.std.specs.FinMap.{get, empty}
-use Rattle.domain_base.specs.Limits.{max_links}
-use Rattle.domain_base.specs.Counts.{HasRisen}
-use Rattle.domain_base.specs.declared.place.Kind.{Kind}
-use Rattle.domain_base.specs.declared.place.Kind.TheVariants as kind
-use Rattle.domain_base.specs.declared.place.Tag.{Tag}
-use Rattle.page_store.specs.Bitfiles.{Bitfile, Bitfiles, count_index, linked, links_at, same_tag, with_change, with_file, without_file}
-use Rattle.page_store.specs.declared.fault.StoreFault.{StoreFault}
-use Rattle.page_store.specs.declared.fault.StoreFault.TheVariants as store
-use Rattle.dir_pages.specs.Rows.{found, is_row_name}
-use Rattle.dir_rows.specs.Directory.{rows_in}
-use Rattle.dir_rows.specs.RowChanges.{AddsRow, GetsNoIndex, IsIndexedWhereSmall, KeepsIndex, RemovesRow, adding_changes, removing_changes}
-use Rattle.fileset_model.specs.Apply.{is_named_elsewhere, link_checks, linked as with_path, not_empty, path_taken, rename_checks, renamed, with_node, without}
-use Rattle.fileset_model.specs.Fileset.{Fileset}
-use Rattle.fileset_model.specs.Orders.{Name, Path}
-use Rattle.fileset_model.specs.Paths.{directory_here, file_here, first_refusal, is_directory, names_one, node_at, refuse_if, target_refusal, walk_refusal}
-use Rattle.fileset_model.specs.declared.fileset.FilesetSlot.{FilesetSlot}
-use Rattle.fileset_model.specs.declared.fileset.Role.TheVariants.{Original}
-use Rattle.fileset_model.specs.declared.node.Node.{Node}
-use Rattle.fileset_model.specs.declared.node.Node.TheVariants.{File, Directory}
-use Rattle.fileset_model.specs.declared.reply.Refusal.{Refusal}
-use Rattle.fileset_model.specs.declared.reply.Refusal.TheVariants.{IsDirectory, NotDirectory, NotEmpty}
-use Rattle.fileset_laws.specs.Valid.{IsValidFileset}
+use Rattle.plain_program.specs.domain_base.Limits.{max_links}
+use Rattle.plain_program.specs.domain_base.Counts.{HasRisen}
+use Rattle.plain_program.specs.domain_base.declared.place.Kind.{Kind}
+use Rattle.plain_program.specs.domain_base.declared.place.Kind.TheVariants as kind
+use Rattle.plain_program.specs.domain_base.declared.place.Tag.{Tag}
+use Rattle.directory_rows.specs.page_store.Bitfiles.{Bitfile, Bitfiles, count_index, linked, links_at, same_tag, with_change, with_file, without_file}
+use Rattle.directory_rows.specs.page_store.declared.fault.StoreFault.{StoreFault}
+use Rattle.directory_rows.specs.page_store.declared.fault.StoreFault.TheVariants as store
+use Rattle.directory_rows.specs.directory_pages.Rows.{found, is_row_name}
+use Rattle.directory_rows.specs.Directory.{rows_in}
+use Rattle.directory_rows.specs.RowChanges.{AddsRow, GetsNoIndex, IsIndexedWhereSmall, KeepsIndex, RemovesRow, adding_changes, removing_changes}
+use Rattle.plain_program.specs.fileset_model.Apply.{is_named_elsewhere, link_checks, linked as with_path, not_empty, path_taken, rename_checks, renamed, with_node, without}
+use Rattle.plain_program.specs.fileset_model.Fileset.{Fileset}
+use Rattle.plain_program.specs.fileset_values.Orders.{Name, Path}
+use Rattle.plain_program.specs.fileset_model.Paths.{directory_here, file_here, first_refusal, is_directory, names_one, node_at, refuse_if, target_refusal, walk_refusal}
+use Rattle.plain_program.specs.fileset_model.declared.fileset.FilesetSlot.{FilesetSlot}
+use Rattle.plain_program.specs.fileset_model.declared.fileset.Role.TheVariants.{Original}
+use Rattle.plain_program.specs.fileset_model.declared.node.Node.{Node}
+use Rattle.plain_program.specs.fileset_model.declared.node.Node.TheVariants.{File, Directory}
+use Rattle.plain_program.specs.fileset_values.declared.reply.Refusal.{Refusal}
+use Rattle.plain_program.specs.fileset_values.declared.reply.Refusal.TheVariants.{IsDirectory, NotDirectory, NotEmpty}
+use Rattle.plain_program.specs.legal_histories.Valid.{IsValidFileset}
 use Rattle.name_space.specs.Names.{Names, is_directory_kind, led_to, number_of}
 use Rattle.name_space.specs.Walks.{IsWalked, IsWayTo}
 use Rattle.name_space.specs.declared.create.Created.{Created}

@@ -1,17 +1,17 @@
 -- Laws of the fileset that a set's rows make.
 use Rattle.std.specs.Prelude.{◌≡◌, ℕ, Option, Some, None, if◌then◌else◌}
 use Rattle.std.specs.FinMap.{get, empty}
-use Rattle.domain_base.specs.declared.place.Kind.TheVariants as kind
-use Rattle.domain_base.specs.declared.place.Tag.{Tag}
-use Rattle.page_store.specs.Bitfiles.{Bitfiles, new_file, same_tag}
-use Rattle.fileset_model.specs.Apply.{empty_fileset, with_change}
-use Rattle.fileset_model.specs.Fileset.{Fileset}
-use Rattle.fileset_model.specs.Orders.{Name, Path}
-use Rattle.fileset_model.specs.declared.fileset.FilesetSlot.{FilesetSlot}
-use Rattle.fileset_model.specs.declared.fileset.Role.TheVariants.{Original, CloneOf}
-use Rattle.fileset_model.specs.declared.node.Node.{Node}
-use Rattle.fileset_model.specs.declared.node.Node.TheVariants.{File, Directory}
-use Rattle.fileset_laws.specs.Valid.{IsValidFileset, IsValidSlot}
+use Rattle.plain_program.specs.domain_base.declared.place.Kind.TheVariants as kind
+use Rattle.plain_program.specs.domain_base.declared.place.Tag.{Tag}
+use Rattle.directory_rows.specs.page_store.Bitfiles.{Bitfiles, new_file, same_tag}
+use Rattle.plain_program.specs.fileset_model.Apply.{empty_fileset, with_change}
+use Rattle.plain_program.specs.fileset_model.Fileset.{Fileset}
+use Rattle.plain_program.specs.fileset_values.Orders.{Name, Path}
+use Rattle.plain_program.specs.fileset_model.declared.fileset.FilesetSlot.{FilesetSlot}
+use Rattle.plain_program.specs.fileset_model.declared.fileset.Role.TheVariants.{Original, CloneOf}
+use Rattle.plain_program.specs.fileset_model.declared.node.Node.{Node}
+use Rattle.plain_program.specs.fileset_model.declared.node.Node.TheVariants.{File, Directory}
+use Rattle.plain_program.specs.legal_histories.Valid.{IsValidFileset, IsValidSlot}
 use Rattle.name_space.specs.Changes.{IsOriginal}
 use Rattle.name_space.specs.Names.{Names, number_of, root_tag}
 

@@ -1,14 +1,14 @@
 -- What the directory at a path lists.
 use Rattle.std.specs.Prelude.{◌≡◌, ℕ, List, Some, length}
-use Rattle.domain_base.specs.declared.place.Kind.TheVariants.{Directory}
-use Rattle.domain_base.specs.declared.place.Tag.{Tag}
-use Rattle.page_store.specs.Bitfiles.{Bitfiles}
-use Rattle.dir_pages.specs.declared.row.Row.{Row}
-use Rattle.fileset_model.specs.LooksLike.{IsShown}
-use Rattle.fileset_model.specs.Orders.{Path}
-use Rattle.fileset_model.specs.Paths.{rows_of}
-use Rattle.fileset_model.specs.declared.fileset.FilesetSlot.{FilesetSlot}
-use Rattle.fileset_model.specs.declared.reply.NameItem.{NameItem}
+use Rattle.plain_program.specs.domain_base.declared.place.Kind.TheVariants.{Directory}
+use Rattle.plain_program.specs.domain_base.declared.place.Tag.{Tag}
+use Rattle.directory_rows.specs.page_store.Bitfiles.{Bitfiles}
+use Rattle.directory_rows.specs.directory_pages.declared.row.Row.{Row}
+use Rattle.plain_program.specs.fileset_model.LooksLike.{IsShown}
+use Rattle.plain_program.specs.fileset_values.Orders.{Path}
+use Rattle.plain_program.specs.fileset_model.Paths.{rows_of}
+use Rattle.plain_program.specs.fileset_model.declared.fileset.FilesetSlot.{FilesetSlot}
+use Rattle.plain_program.specs.fileset_values.declared.reply.NameItem.{NameItem}
 use Rattle.name_space.specs.Names.{is_directory_kind, led_to}
 
 -- what a list shows of a row

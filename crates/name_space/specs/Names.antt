@@ -3,20 +3,20 @@
 use Rattle.std.specs.Prelude.{◌≡◌, ◌+◌, ◌*◌, ◌^◌, ◌<◌, ℕ, Bool, true, false, not, is_some, [], ◌∷◌, Option, Some, IsSomeAnd}
 use Rattle.std.specs.Option.{option_and_then, option_map}
 use Rattle.std.specs.FinMap.{get}
-use Rattle.domain_base.specs.declared.place.Kind.{Kind}
-use Rattle.domain_base.specs.declared.place.Kind.TheVariants as kind
-use Rattle.domain_base.specs.declared.place.Tag.{Tag}
-use Rattle.page_store.specs.Bitfiles.{Bitfile, Bitfiles, IsDirectory}
-use Rattle.dir_pages.specs.Rows.{found}
-use Rattle.dir_rows.specs.Directory.{IsWellFormed, rows_in}
-use Rattle.fileset_model.specs.LooksLike.{IsShown}
-use Rattle.fileset_model.specs.Orders.{Path}
-use Rattle.fileset_model.specs.Paths.{is_directory, is_out_of_sync, paths_to}
-use Rattle.fileset_model.specs.declared.fileset.FilesetSlot.{FilesetSlot}
-use Rattle.fileset_model.specs.declared.fileset.Role.TheVariants.{Original}
-use Rattle.fileset_model.specs.declared.node.Node.{Node}
-use Rattle.fileset_model.specs.declared.node.Node.TheVariants.{File, Directory}
-use Rattle.fileset_laws.specs.Valid.{IsValidSlot}
+use Rattle.plain_program.specs.domain_base.declared.place.Kind.{Kind}
+use Rattle.plain_program.specs.domain_base.declared.place.Kind.TheVariants as kind
+use Rattle.plain_program.specs.domain_base.declared.place.Tag.{Tag}
+use Rattle.directory_rows.specs.page_store.Bitfiles.{Bitfile, Bitfiles, IsDirectory}
+use Rattle.directory_rows.specs.directory_pages.Rows.{found}
+use Rattle.directory_rows.specs.Directory.{IsWellFormed, rows_in}
+use Rattle.plain_program.specs.fileset_model.LooksLike.{IsShown}
+use Rattle.plain_program.specs.fileset_values.Orders.{Path}
+use Rattle.plain_program.specs.fileset_model.Paths.{is_directory, is_out_of_sync, paths_to}
+use Rattle.plain_program.specs.fileset_model.declared.fileset.FilesetSlot.{FilesetSlot}
+use Rattle.plain_program.specs.fileset_model.declared.fileset.Role.TheVariants.{Original}
+use Rattle.plain_program.specs.fileset_model.declared.node.Node.{Node}
+use Rattle.plain_program.specs.fileset_model.declared.node.Node.TheVariants.{File, Directory}
+use Rattle.plain_program.specs.legal_histories.Valid.{IsValidSlot}
 
 -- the number that a tag is in the fileset
 abbrev pub number_of : Tag → ℕ

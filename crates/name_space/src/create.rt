@@ -1,20 +1,17 @@
 //! New files and directories at paths.
 ghost use Rattle.std.specs.Prelude.{◌≡◌, ◌+◌, ◌<◌, ◌≤◌, ◌^◌, false, true, None, IfErr, IfOk, OnErr, length};
-ghost use Rattle.page_store.specs.Bitfiles.{IsCounted, new_file, with_file};
-ghost use Rattle.dir_pages.specs.Rows.{found, is_row_name};
-ghost use Rattle.dir_rows.specs.Directory.{IsWellFormed, rows_in};
-ghost use Rattle.dir_rows.specs.RowChanges.{AddsRow};
-ghost use Rattle.fileset_model.specs.declared.fileset.FilesetSlot.{FilesetSlot};
+ghost use Rattle.directory_rows.specs.page_store.Bitfiles.{IsCounted, new_file, with_file};
+ghost use Rattle.directory_rows.specs.directory_pages.Rows.{found, is_row_name};
+ghost use Rattle.directory_rows.specs.Directory.{IsWellFormed, rows_in};
+ghost use Rattle.directory_rows.specs.RowChanges.{AddsRow};
+ghost use Rattle.plain_program.specs.fileset_model.declared.fileset.FilesetSlot.{FilesetSlot};
 ghost use Rattle.name_space.specs.Changes.{Creates, HasOriginal, IfRefused, IsFaultOf, IsFreePlace, IsMade, IsOriginal, creating_changes, free_checks, last_name, new_node};
 ghost use Rattle.name_space.specs.Names.{HasNames, Names};
 
 use crate::fault::NameFault;
 use crate::walking::walk;
-use bitfile_set::BitfileSet;
-use dir_rows::{add_row, find_row};
-use domain_base::{Kind, Tag};
-use fileset_model::{Path, Refusal};
-use page_store::StoreFault;
+use directory_rows::{BitfileSet, StoreFault, add_row, find_row};
+use plain_program::{Kind, Path, Refusal, Tag};
 use std::alloc::Global;
 
 /// A file or directory that was made.
@@ -83,7 +80,7 @@ fn make_row<S: BitfileSet>(
     }
 }
 
-/// Makes a file or a directory at a path. The Parent of a directory is the answer's `dir`, which
+/// Makes a file or a directory at a path. The Parent of a directory is the returned `dir`, which
 /// the caller records. After NoPage or OutOfMemory the set may hold some of this.
 pub fn create_at<S: BitfileSet>(
     set: &mut S,

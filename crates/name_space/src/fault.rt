@@ -1,15 +1,15 @@
 //! Why a call that changes names may fail.
 ghost use Rattle.std.specs.Prelude.{◌≡◌};
 
-use fileset_model::Refusal;
-use page_store::StoreFault;
+use directory_rows::StoreFault;
+use plain_program::Refusal;
 use std::error::Error;
 use std::fmt;
 
 /// Why a call that changes names failed.
 #[derive(Clone, Copy, Debug)]
 pub enum NameFault {
-    /// The rules of names forbid it as things stand; the set is as it was.
+    /// The rules of names forbid it as things stand. The set is as it was.
     Refused(Refusal),
     /// The set ran out of pages on the way. What the call had changed so far may stand.
     NoPage,

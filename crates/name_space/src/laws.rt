@@ -6,8 +6,8 @@ pub fn root_is_original()
     ensures { RootIsOriginal }
 {}
 
-/// What files hold, their sizes and flags, and the limits of owners are no part of names: where
-/// only these change, a set's rows make the changed fileset.
+/// What files hold, their sizes and flags, and the limits of owners are no part of names: if only
+/// these change, a set's rows make the changed fileset.
 pub fn bytes_are_free()
     ensures { BytesAreFree }
 {}

@@ -1,33 +1,30 @@
 //! Further paths of files.
 ghost use Rattle.std.specs.Prelude.{◌≡◌, ◌+◌, ◌<◌, ◌≤◌, true, None, IfErr, IfOk, IsSome, OnOk, length};
-ghost use Rattle.domain_base.specs.Limits.{max_links};
-ghost use Rattle.page_store.specs.Bitfiles.{IsCounted, links_at};
-ghost use Rattle.dir_pages.specs.Rows.{found, is_row_name};
-ghost use Rattle.dir_rows.specs.Directory.{IsWellFormed, rows_in};
-ghost use Rattle.fileset_model.specs.Apply.{link_checks};
-ghost use Rattle.fileset_model.specs.declared.fileset.FilesetSlot.{FilesetSlot};
+ghost use Rattle.plain_program.specs.domain_base.Limits.{max_links};
+ghost use Rattle.directory_rows.specs.page_store.Bitfiles.{IsCounted, links_at};
+ghost use Rattle.directory_rows.specs.directory_pages.Rows.{found, is_row_name};
+ghost use Rattle.directory_rows.specs.Directory.{IsWellFormed, rows_in};
+ghost use Rattle.plain_program.specs.fileset_model.Apply.{link_checks};
+ghost use Rattle.plain_program.specs.fileset_model.declared.fileset.FilesetSlot.{FilesetSlot};
 ghost use Rattle.name_space.specs.Changes.{AddsLink, HasOriginal, IfRefused, IsFaultOf, IsLinkPlace, IsOriginal, Links, last_name, linking_changes};
 
 use crate::create::{free_place, last_name};
 use crate::fault::NameFault;
 use crate::spot::leaf_spot;
-use bitfile_set::BitfileSet;
-use dir_rows::add_row;
-use domain_base::limits::MAX_LINKS;
-use domain_base::{Kind, Tag};
-use fileset_model::{Path, Refusal};
-use page_store::StoreFault;
+use directory_rows::{BitfileSet, StoreFault, add_row};
+use plain_program::limits::MAX_LINKS;
+use plain_program::{Kind, Path, Refusal, Tag};
 use std::alloc::Global;
 
-/// A file that gets a row more, and the directory that gets the row.
+/// A file that gets one more row, and the directory that gets the row.
 #[derive(Clone, Copy)]
 pub(crate) struct LinkPlace {
     tag: Tag,
     dir: Tag,
 }
 
-/// The file at a path and the directory of a free one, where the file can have one path more; or
-/// what is refused.
+/// The file at a path and the directory of a free path, if the file can have one more path, or what
+/// is refused.
 fn link_place<S: BitfileSet>(set: &S, path: &Path, to: &Path) -> Result<LinkPlace, Refusal>
     requires names { HasOriginal (S.files set.now) }
     requires some { 1 ≤ length path.now }
@@ -77,7 +74,7 @@ fn add_link<S: BitfileSet>(
     }
 }
 
-/// Lets a second path lead to the file at the first, and answers its tag. After NoPage or
+/// Makes a second path lead to the file at the first, and returns its tag. After NoPage or
 /// OutOfMemory the set may hold some of this.
 pub fn link_at<S: BitfileSet>(
     set: &mut S,

@@ -1,17 +1,15 @@
-//! What a directory lists.
+//! The rows that a list of a directory shows.
 ghost use Rattle.std.specs.Prelude.{◌≡◌, IfOk, map};
-ghost use Rattle.page_store.specs.Bitfiles.{IsDirectory};
-ghost use Rattle.fileset_model.specs.declared.fileset.FilesetSlot.{FilesetSlot};
+ghost use Rattle.directory_rows.specs.page_store.Bitfiles.{IsDirectory};
+ghost use Rattle.plain_program.specs.fileset_model.declared.fileset.FilesetSlot.{FilesetSlot};
 ghost use Rattle.name_space.specs.Lists.{AreRowsOf, IsRowCount, item_of};
 ghost use Rattle.name_space.specs.Names.{HasNames, Names};
 
-use bitfile_set::BitfileSet;
-use dir_pages::{Row, RowList};
-use domain_base::{Kind, OutOfMemory, Tag};
-use fileset_model::{Name, NameItem, NameList};
+use directory_rows::{BitfileSet, Row, RowList};
+use plain_program::{Kind, Name, NameItem, NameList, OutOfMemory, Tag};
 use std::alloc::Global;
 
-/// What a list shows of a row.
+/// The row of a list for a row of a directory.
 fn item_of(row: Row) -> NameItem
     ensures { result ≡ item_of row }
 {
@@ -24,7 +22,7 @@ fn item_of(row: Row) -> NameItem
     }
 }
 
-/// What a list shows of rows, one after another.
+/// The rows of a list for the rows of directories, one after another.
 fn items_of(alloc: Global, rows: RowList) -> Result<NameList, OutOfMemory>
     ensures { IfOk result (λ list. list ≡ map item_of rows) }
 {
@@ -43,7 +41,7 @@ pub fn list_rows<S: BitfileSet>(set: &S, alloc: Global, dir: Tag) -> Result<Name
     ensures { IfOk result (λ list. (slot : FilesetSlot) → Names (S.files set.now) slot
         → AreRowsOf (S.files set.now) slot dir list) }
 {
-    let rows = dir_rows::list_rows(set, alloc, dir)?;
+    let rows = directory_rows::list_rows(set, alloc, dir)?;
     items_of(alloc, rows)
 }
 
@@ -54,5 +52,5 @@ pub fn row_count<S: BitfileSet>(set: &S, dir: Tag) -> u32
     ensures { (slot : FilesetSlot) → Names (S.files set.now) slot
         → IsRowCount (S.files set.now) slot dir result }
 {
-    dir_rows::row_count(set, dir)
+    directory_rows::row_count(set, dir)
 }

@@ -1,13 +1,13 @@
-//! Paths that become others.
+//! Renaming paths.
 ghost use Rattle.std.specs.Prelude.{◌≡◌, ◌≢◌, ◌+◌, ◌≤◌, true, [], Some, None, IfErr, IfOk, OnOk, length};
-ghost use Rattle.page_store.specs.Bitfiles.{IsCounted};
-ghost use Rattle.dir_pages.specs.Rows.{found, is_row_name};
-ghost use Rattle.dir_rows.specs.Directory.{IsWellFormed, rows_in};
-ghost use Rattle.dir_rows.specs.RowChanges.{adding_changes, removing_changes};
-ghost use Rattle.fileset_model.specs.Apply.{move_checks, rename_checks};
-ghost use Rattle.fileset_model.specs.Paths.{first_refusal};
-ghost use Rattle.fileset_model.specs.declared.fileset.FilesetSlot.{FilesetSlot};
-ghost use Rattle.plain_filesets.specs.Stops.{Refuses};
+ghost use Rattle.directory_rows.specs.page_store.Bitfiles.{IsCounted};
+ghost use Rattle.directory_rows.specs.directory_pages.Rows.{found, is_row_name};
+ghost use Rattle.directory_rows.specs.Directory.{IsWellFormed, rows_in};
+ghost use Rattle.directory_rows.specs.RowChanges.{adding_changes, removing_changes};
+ghost use Rattle.plain_program.specs.fileset_model.Apply.{move_checks, rename_checks};
+ghost use Rattle.plain_program.specs.fileset_model.Paths.{first_refusal};
+ghost use Rattle.plain_program.specs.fileset_model.declared.fileset.FilesetSlot.{FilesetSlot};
+ghost use Rattle.plain_program.specs.Stops.{Refuses};
 ghost use Rattle.name_space.specs.Changes.{AreLooked, HasOriginal, IfRefused, IsFaultOf, IsOriginal, MovesRow, Renames, last_name, renaming_changes};
 
 use crate::create::last_name;
@@ -15,14 +15,11 @@ use crate::fault::NameFault;
 use crate::spot::{Spot, check_leaf, spot_of};
 use crate::unlink::take_name;
 use crate::walking::walk;
-use bitfile_set::BitfileSet;
-use dir_rows::{add_row, find_row, remove_row};
-use domain_base::{Kind, Tag};
-use fileset_model::{Path, Refusal};
-use page_store::StoreFault;
+use directory_rows::{BitfileSet, StoreFault, add_row, find_row, remove_row};
+use plain_program::{Kind, Path, Refusal, Tag};
 use std::alloc::Global;
 
-/// What came of a rename.
+/// What a rename resulted in.
 #[derive(Clone, Copy)]
 pub struct Renamed {
     /// The tag of what stands at the second path now.
@@ -31,12 +28,12 @@ pub struct Renamed {
     pub kind: Kind,
     /// The directory that it stands in now, which is the Parent of a directory.
     pub dir: Tag,
-    /// The tag of what stood at the second path before, where it is gone, since that was its last
+    /// The tag of what stood at the second path before, if it is gone because that was its last
     /// path.
     pub replaced: Option<Tag>,
 }
 
-/// Removes a row, and adds one that names the same.
+/// Removes a row, and adds another one that names the same thing.
 fn move_row<S: BitfileSet>(
     set: &mut S,
     alloc: Global,
@@ -99,7 +96,7 @@ fn rename_free<S: BitfileSet>(
     }
 }
 
-/// What is refused of a rename to a path at which something else stands.
+/// What is refused of a rename to a path where something else stands.
 fn check_onto<S: BitfileSet>(
     set: &S,
     path: &Path,
@@ -120,7 +117,7 @@ fn check_onto<S: BitfileSet>(
     check_leaf(set, other, spot.kind)
 }
 
-/// Takes away what a row names, and lets the row name something else in its place.
+/// Takes away what a row names, and makes the row name something else instead.
 fn replace<S: BitfileSet>(
     set: &mut S,
     alloc: Global,
@@ -222,9 +219,9 @@ fn rename_into<S: BitfileSet>(
     }
 }
 
-/// Lets what stands at a path, with all below it, stand at another: a file in place of a file
-/// there, a directory in place of a directory without rows. Where both paths lead to one file or
-/// directory nothing changes. The Parent of a directory that moved is the answer's `dir`, which the
+/// Moves what stands at a path, with all below it, to another path: a file in place of a file
+/// there, a directory in place of a directory without rows. If both paths lead to one file or
+/// directory nothing changes. The Parent of a directory that moved is the returned `dir`, which the
 /// caller records. After NoPage or OutOfMemory the set may hold some of this.
 pub fn rename_at<S: BitfileSet>(
     set: &mut S,

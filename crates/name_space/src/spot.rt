@@ -1,17 +1,15 @@
 //! The rows to which paths lead.
 ghost use Rattle.std.specs.Prelude.{◌≡◌, ◌==◌, ◌≤◌, IfOk, [], length};
-ghost use Rattle.domain_base.specs.declared.place.Kind.TheVariants.{Directory};
-ghost use Rattle.dir_rows.specs.Directory.{IsWellFormed, rows_in};
-ghost use Rattle.fileset_model.specs.declared.fileset.FilesetSlot.{FilesetSlot};
-ghost use Rattle.plain_filesets.specs.Stops.{Refuses};
+ghost use Rattle.plain_program.specs.domain_base.declared.place.Kind.TheVariants.{Directory};
+ghost use Rattle.directory_rows.specs.Directory.{IsWellFormed, rows_in};
+ghost use Rattle.plain_program.specs.fileset_model.declared.fileset.FilesetSlot.{FilesetSlot};
+ghost use Rattle.plain_program.specs.Stops.{Refuses};
 ghost use Rattle.name_space.specs.Changes.{HasOriginal, IsOriginal, IsSpot, leaf_refusal, taking_checks, target_checks};
 
 use crate::create::last_name;
 use crate::walking::walk;
-use bitfile_set::BitfileSet;
-use dir_rows::{find_row, is_empty};
-use domain_base::{Kind, Tag};
-use fileset_model::{Path, Refusal};
+use directory_rows::{BitfileSet, find_row, is_empty};
+use plain_program::{Kind, Path, Refusal, Tag};
 
 /// The row to which a path leads: the directory that it stands in, and the tag and kind of what it
 /// names.

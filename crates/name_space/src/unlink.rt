@@ -1,33 +1,30 @@
-//! Paths that go.
+//! Removing paths.
 ghost use Rattle.std.specs.Prelude.{◌≡◌, ◌≢◌, ◌+◌, ◌≤◌, true, Some, IfErr, IfOk, IsSome, length};
-ghost use Rattle.page_store.specs.declared.fault.StoreFault.TheVariants.{OutOfMemory as NoMemory};
-ghost use Rattle.page_store.specs.Bitfiles.{IsCounted};
-ghost use Rattle.dir_pages.specs.Rows.{found};
-ghost use Rattle.dir_rows.specs.Directory.{IsWellFormed, rows_in};
-ghost use Rattle.fileset_model.specs.declared.fileset.FilesetSlot.{FilesetSlot};
+ghost use Rattle.directory_rows.specs.page_store.declared.fault.StoreFault.TheVariants.{OutOfMemory as NoMemory};
+ghost use Rattle.directory_rows.specs.page_store.Bitfiles.{IsCounted};
+ghost use Rattle.directory_rows.specs.directory_pages.Rows.{found};
+ghost use Rattle.directory_rows.specs.Directory.{IsWellFormed, rows_in};
+ghost use Rattle.plain_program.specs.fileset_model.declared.fileset.FilesetSlot.{FilesetSlot};
 ghost use Rattle.name_space.specs.declared.fault.NameFault.TheVariants.{NoPage as IsNoPage};
 ghost use Rattle.name_space.specs.Changes.{DropsLink, HasOriginal, IfRefused, IsFaultOf, IsOriginal, Removes, TakesName, rmdir_checks, taking_checks, unlink_checks, unlinking_changes};
 
 use crate::create::last_name;
 use crate::fault::NameFault;
 use crate::spot::{Spot, leaf_spot};
-use bitfile_set::BitfileSet;
-use dir_rows::remove_row;
-use domain_base::{Kind, Tag};
-use fileset_model::Path;
-use page_store::StoreFault;
+use directory_rows::{BitfileSet, StoreFault, remove_row};
+use plain_program::{Kind, Path, Tag};
 use std::alloc::Global;
 
-/// What came of a file one of whose paths was removed.
+/// What became of a file when one of its paths was removed.
 #[derive(Clone, Copy)]
 pub struct Unlinked {
     /// The tag of the file.
     pub tag: Tag,
-    /// Whether the file is gone, since that was its last path. Else it has one link less.
+    /// Whether the file is gone because that was its last path. Otherwise it has one link less.
     pub gone: bool,
 }
 
-/// Takes one link of a file or directory away, and with the last link all of it. Answers whether it
+/// Takes one link of a file or directory away, and with the last link all of it. Returns whether it
 /// is gone.
 fn drop_link<S: BitfileSet>(set: &mut S, alloc: Global, tag: Tag) -> Result<bool, StoreFault>
     requires there { IsSome (S.files set.old tag) }
@@ -52,7 +49,7 @@ fn drop_link<S: BitfileSet>(set: &mut S, alloc: Global, tag: Tag) -> Result<bool
     }
 }
 
-/// Removes a row, and the link that it was. Answers whether what it named is gone.
+/// Removes a row, and the link that it was. Returns whether what it named is gone.
 pub(crate) fn take_name<S: BitfileSet>(
     set: &mut S,
     alloc: Global,
@@ -133,7 +130,7 @@ pub fn unlink_at<S: BitfileSet>(
     take_path(set, alloc, path, Kind::File)
 }
 
-/// Removes a directory without rows, and answers its tag. After NoPage or OutOfMemory the set may
+/// Removes a directory without rows, and returns its tag. After NoPage or OutOfMemory the set may
 /// hold some of this.
 pub fn rmdir_at<S: BitfileSet>(set: &mut S, alloc: Global, path: &Path) -> Result<Tag, NameFault>
     requires names { HasOriginal (S.files set.old) }

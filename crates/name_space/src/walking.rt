@@ -1,14 +1,12 @@
 //! The way along a path, row by row from the root on.
 ghost use Rattle.std.specs.Prelude.{◌≡◌, ◌+◌, ◌<◌, ◌≤◌, None, length};
-ghost use Rattle.fileset_model.specs.Paths.{walk_refusal};
-ghost use Rattle.fileset_model.specs.declared.fileset.FilesetSlot.{FilesetSlot};
+ghost use Rattle.plain_program.specs.fileset_model.Paths.{walk_refusal};
+ghost use Rattle.plain_program.specs.fileset_model.declared.fileset.FilesetSlot.{FilesetSlot};
 ghost use Rattle.name_space.specs.Names.{HasNames, Names};
 ghost use Rattle.name_space.specs.Walks.{IsAtDirectory, IsClear, IsTarget, IsWalked, IsWayTo};
 
-use bitfile_set::BitfileSet;
-use dir_rows::find_row;
-use domain_base::{Kind, Tag};
-use fileset_model::{Name, Path, Refusal};
+use directory_rows::{BitfileSet, find_row};
+use plain_program::{Kind, Name, Path, Refusal, Tag};
 
 /// The tag of the root directory.
 const ROOT: Tag = Tag { slot: 1, seq: 1 };
@@ -84,8 +82,8 @@ fn last_row<S: BitfileSet>(
     }
 }
 
-/// The tag and kind of what stands at a path, or the first refusal on the way to it, and no-path
-/// where the last name has no row. The path of the root has no names.
+/// The tag and kind of what stands at a path, or the first refusal on the way to it, or no-path if
+/// the last name has no row. The path of the root has no names.
 pub fn target<S: BitfileSet>(set: &S, path: &Path) -> Result<(Tag, Kind), Refusal>
     requires { HasNames (S.files set.now) }
     ensures { (slot : FilesetSlot) → Names (S.files set.now) slot

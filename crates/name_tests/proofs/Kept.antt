@@ -1,17 +1,17 @@
 -- What a call on names leaves.
 use Rattle.std.proofs.Common.{◌≡◌, ℕ, Some, Result, OnOk, sym, subst}
 use Rattle.std.proofs.lemmas.Result.{on_ok_weaker}
-use Rattle.domain_base.specs.declared.place.Kind.TheVariants.{Directory}
-use Rattle.domain_base.specs.declared.place.Tag.{Tag}
-use Rattle.page_store.specs.Bitfiles.{Bitfile, Bitfiles, IsDirectory}
-use Rattle.fileset_model.specs.Orders.{Path}
-use Rattle.fileset_model.specs.declared.fileset.FilesetSlot.{FilesetSlot}
-use Rattle.fileset_laws.proofs.ValidLemmas.{to_some_and}
-use Rattle.name_space.specs.Changes.{Checks, HasOriginal, IsFaultOf, IsOriginal}
-use Rattle.name_space.specs.Names.{led_to}
-use Rattle.name_space.proofs.Originals.{is_in}
-use Rattle.name_space.specs.declared.fault.NameFault.{NameFault}
-use Rattle.name_space.specs.declared.fault.NameFault.TheVariants.{Refused, NoPage, OutOfMemory}
+use Rattle.fileset_lending.specs.domain_base.declared.place.Kind.TheVariants.{Directory}
+use Rattle.fileset_lending.specs.domain_base.declared.place.Tag.{Tag}
+use Rattle.fileset_lending.specs.page_store.Bitfiles.{Bitfile, Bitfiles, IsDirectory}
+use Rattle.fileset_lending.specs.fileset_values.Orders.{Path}
+use Rattle.fileset_lending.specs.fileset_model.declared.fileset.FilesetSlot.{FilesetSlot}
+use Rattle.fileset_lending.proofs.OfLegalHistories.ValidLemmas.{to_some_and}
+use Rattle.fileset_lending.specs.name_space.Changes.{Checks, HasOriginal, IsFaultOf, IsOriginal}
+use Rattle.fileset_lending.specs.name_space.Names.{led_to}
+use Rattle.fileset_lending.proofs.OfNameSpace.Originals.{is_in}
+use Rattle.fileset_lending.specs.name_space.declared.fault.NameFault.{NameFault}
+use Rattle.fileset_lending.specs.name_space.declared.fault.NameFault.TheVariants.{Refused, NoPage, OutOfMemory}
 use Rattle.name_tests.specs.Faults.{IsRefusal}
 
 unchanged : (checks : Checks) (old new : Bitfiles) (before after : ℕ) (fault : NameFault) → IsRefusal fault → IsFaultOf checks old new before after fault → new ≡ old

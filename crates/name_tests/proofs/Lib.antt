@@ -1,2 +1,4 @@
 pub mod Kept
 pub mod Losses
+pub mod Directories
+mod Alone

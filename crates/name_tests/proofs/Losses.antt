@@ -3,15 +3,15 @@ use Rattle.std.proofs.Common.{◌≡◌, ◌≢◌, ◌∙◌, inl, Bool, true, 
 use Rattle.std.specs.Cmp.{nat_cmp_total}
 use Rattle.std.specs.Ordering.{nat_cmp}
 use Rattle.std.specs.FinMap as map
-use Rattle.domain_base.specs.declared.place.Tag.{Tag}
-use Rattle.page_store.specs.Bitfiles.{Bitfile, Bitfiles, same_tag, without_file}
-use Rattle.fileset_model.specs.declared.fileset.NumberSet.{NumberSet}
-use Rattle.fileset_model.proofs.MapLemmas.{get-insert_other, get-insert_same}
-use Rattle.name_space.specs.Changes.{HasOriginal}
-use Rattle.name_space.specs.Names.{HasNames, number_of}
-use Rattle.name_space.proofs.Originals.{one_tag, tags_differ, tags_same}
-use Rattle.name_laws.specs.Views.{clone_without}
-use Rattle.name_laws.proofs.Views.{view_names_lem}
+use Rattle.fileset_lending.specs.domain_base.declared.place.Tag.{Tag}
+use Rattle.fileset_lending.specs.page_store.Bitfiles.{Bitfile, Bitfiles, same_tag, without_file}
+use Rattle.fileset_lending.specs.fileset_model.declared.fileset.NumberSet.{NumberSet}
+use Rattle.fileset_lending.proofs.OfFilesetValues.MapLemmas.{get-insert_other, get-insert_same}
+use Rattle.fileset_lending.specs.name_space.Changes.{HasOriginal}
+use Rattle.fileset_lending.specs.name_space.Names.{HasNames, number_of}
+use Rattle.fileset_lending.proofs.OfNameSpace.Originals.{one_tag, tags_differ, tags_same}
+use Rattle.fileset_lending.specs.name_space.Views.{clone_without}
+use Rattle.fileset_lending.proofs.OfNameSpace.Views.{view_names_lem}
 
 module _ (files : Bitfiles) (has : HasOriginal files) (lost : Tag) (file : Bitfile) (there : files lost ≡ Some file) where
   abbrev out : NumberSet

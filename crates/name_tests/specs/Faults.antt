@@ -1,6 +1,6 @@
 -- Faults of calls on names.
-use Rattle.name_space.specs.declared.fault.NameFault.{NameFault}
-use Rattle.name_space.specs.declared.fault.NameFault.TheVariants.{Refused, NoPage, OutOfMemory}
+use Rattle.fileset_lending.specs.name_space.declared.fault.NameFault.{NameFault}
+use Rattle.fileset_lending.specs.name_space.declared.fault.NameFault.TheVariants.{Refused, NoPage, OutOfMemory}
 
 -- the call was refused
 abbrev pub IsRefusal : NameFault → Type 0

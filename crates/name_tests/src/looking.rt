@@ -1,15 +1,13 @@
 //! How many pages are looked at along a path.
 ghost use Rattle.std.specs.Prelude.{◌≤◌, length};
-ghost use Rattle.name_space.specs.Names.{HasNames};
+ghost use Rattle.fileset_lending.specs.name_space.Names.{HasNames};
 
 use crate::many::{nested, nesting};
 use crate::reading::path;
 use crate::runs::answers_all;
 use crate::steps::{empty_set, is_good};
-use bitfile_set::BitfileSet;
-use fileset_model::Path;
-use name_space::{target, walk};
-use row_tests::Looks;
+use directory_tests::Looks;
+use fileset_lending::{BitfileSet, Path, target, walk};
 use std::alloc::Global;
 use std::test::Fail;
 

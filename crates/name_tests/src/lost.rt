@@ -1,14 +1,11 @@
 //! Walks in a set that has lost a directory, as a clone loses one that is out of sync.
 ghost use Rattle.std.specs.Prelude.{OnOk};
-ghost use Rattle.name_space.specs.Changes.{HasOriginal};
-ghost use Rattle.name_space.specs.Names.{HasNames};
+ghost use Rattle.fileset_lending.specs.name_space.Changes.{HasOriginal};
+ghost use Rattle.fileset_lending.specs.name_space.Names.{HasNames};
 
 use crate::reading::path;
 use crate::steps::{create, empty_set, is_good};
-use bitfile_set::BitfileSet;
-use domain_base::Kind;
-use fileset_model::{Path, Refusal};
-use name_space::{target, walk};
+use fileset_lending::{BitfileSet, Kind, Path, Refusal, target, walk};
 use std::alloc::Global;
 use std::test::Fail;
 

@@ -1,7 +1,7 @@
 //! Tables of many rows.
 
 use crate::reading::{Row, Verb};
-use domain_base::OutOfMemory;
+use fileset_lending::OutOfMemory;
 use std::alloc::Global;
 
 /// Paths of the numbers below a count.

@@ -1,7 +1,8 @@
 //! Rows of tables: a command on names, and what is answered.
 
-use domain_base::OutOfMemory;
-use fileset_model::{Command, FilesetName, Name, NameList, Path, Place, Refusal, Reply};
+use fileset_lending::{
+    Command, FilesetName, Name, NameList, OutOfMemory, Path, Place, Refusal, Reply,
+};
 use std::alloc::Global;
 
 /// What a command does.

@@ -1,14 +1,10 @@
 //! Tables of commands, given to a set of files and to plain filesets.
 ghost use Rattle.std.specs.Prelude.{OnOk};
-ghost use Rattle.name_space.specs.Changes.{HasOriginal};
+ghost use Rattle.fileset_lending.specs.name_space.Changes.{HasOriginal};
 
 use crate::reading::{Row, command, home, said};
 use crate::steps::{answer, empty_set};
-use bitfile_set::BitfileSet;
-use domain_base::OutOfMemory;
-use fileset_model::{Command, Filesets, Reply};
-use page_store::StoreFault;
-use plain_filesets::apply;
+use fileset_lending::{BitfileSet, Command, Filesets, OutOfMemory, Reply, StoreFault, apply};
 use std::alloc::Global;
 
 /// Plain filesets with one that is empty.

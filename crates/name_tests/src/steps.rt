@@ -1,18 +1,13 @@
 //! Commands on names, given to a set of files.
 ghost use Rattle.std.specs.Prelude.{◌≡◌, ◌≤◌, true, IfOk, OnOk, length};
-ghost use Rattle.dir_pages.specs.Rows.{is_row_name};
-ghost use Rattle.name_space.specs.Changes.{HasOriginal, last_name};
+ghost use Rattle.fileset_lending.specs.directory_pages.Rows.{is_row_name};
+ghost use Rattle.fileset_lending.specs.name_space.Changes.{HasOriginal, last_name};
 ghost use Rattle.name_tests.specs.Faults.{IsRefusal};
 
-use bitfile_set::BitfileSet;
-use dir_pages::is_row_name;
-use domain_base::{Kind, OutOfMemory};
-use fileset_model::{Command, Path, Refusal, Reply};
-use memory_store::MemoryBitfiles;
-use name_space::{
-    NameFault, create_at, link_at, list_rows, rename_at, rmdir_at, target, unlink_at,
+use fileset_lending::{
+    BitfileSet, Command, Kind, MemoryBitfiles, NameFault, OutOfMemory, Path, Refusal, Reply,
+    StoreFault, create_at, is_row_name, link_at, list_rows, rename_at, rmdir_at, target, unlink_at,
 };
-use page_store::StoreFault;
 use std::alloc::Global;
 
 /// The root directory alone, with no row. The numbers are those of the changing calls that find no

@@ -7,10 +7,7 @@ use crate::commands::{
 use crate::many::{linking, making, nested, nesting, numbered, wide};
 use crate::reading::{Row, Verb};
 use crate::runs::run;
-use domain_base::OutOfMemory;
-use fileset_model::Refusal;
-use name_space::NameFault;
-use page_store::StoreFault;
+use fileset_lending::{NameFault, OutOfMemory, Refusal, StoreFault};
 use std::alloc::Global;
 use std::test::Fail;
 

@@ -2,10 +2,10 @@
 use Rattle.std.proofs.Common.{rules, Result, Ok, Err, OnOk, ◌≡◌, ◌==◌, ◌&&◌, ◌∙◌, ◌^◌, ◌<◌, ◌≤◌, ℕ, Bool, true, false, List, Option, Some, None, length, nat_lt, if◌then◌else◌, eqb-true, refl, sym, ap, subst, arith}
 use Rattle.std.specs.Option.{option_map}
 use mathlib.Core.Bool.{false≢true}
-use Rattle.domain_base.specs.declared.page.Page.{Page}
-use Rattle.domain_base.specs.declared.place.Home.{Home}
+use Rattle.page_store.specs.domain_base.declared.page.Page.{Page}
+use Rattle.page_store.specs.domain_base.declared.place.Home.{Home}
 use Rattle.page_store.specs.Pages.{same_home}
-use Rattle.numbered_values.specs.Homes.{number_of}
+use Rattle.page_store.specs.sorted_sets.Homes.{number_of}
 use Rattle.page_cache.specs.declared.cache.PageCache.{PageCache}
 use Rattle.page_cache.specs.declared.frame.Frame.{Frame}
 use Rattle.page_cache.specs.Frames.{Frames, cleaned, group_of, groups, placed, with_frame, without_number}

@@ -2,9 +2,9 @@
 use Rattle.std.proofs.Common.{◌≡◌, ◌==◌, ◌∙◌, ◌⊎◌, ◌^◌, ◌<◌, ◌≤◌, ℕ, suc, true, false, List, [], ◌∷◌, Option, Some, None, IfSome, IsSome, slice_get, nat_lt, if◌then◌else◌, eqb-true, refl, sym, ap, subst, arith}
 use Rattle.std.specs.Option.{option_map}
 use mathlib.Core.Bool.{false≢true}
-use Rattle.domain_base.specs.declared.place.Home.{Home}
-use Rattle.numbered_values.specs.Homes.{number_of}
-use Rattle.numbered_values.specs.Rising.{IsRising, value_at}
+use Rattle.page_store.specs.domain_base.declared.place.Home.{Home}
+use Rattle.page_store.specs.sorted_sets.Homes.{number_of}
+use Rattle.page_store.specs.sorted_sets.Rising.{IsRising, value_at}
 use Rattle.page_cache.specs.Frames.{IsFirst, group_of, groups}
 use Rattle.page_cache.specs.Entries.{Entries, frame_at, frames_in, groups_in}
 use Rattle.page_cache.specs.Queues.{IsQueueOf, place_at, place_of}

@@ -2,9 +2,9 @@
 use Rattle.std.proofs.Common.{◌≡◌, ◌==◌, ◌∙◌, ◌^◌, ◌<◌, ℕ, true, false, List, Option, Some, None, IsSome, is_some, if◌then◌else◌, eqb-true, refl, sym, ap, subst, arith}
 use Rattle.std.specs.Option.{ForSome}
 use mathlib.Core.Bool.{false≢true}
-use Rattle.domain_base.specs.declared.place.Home.{Home}
-use Rattle.numbered_values.specs.Homes.{number_of}
-use Rattle.numbered_values.specs.Rising.{value_at}
+use Rattle.page_store.specs.domain_base.declared.place.Home.{Home}
+use Rattle.page_store.specs.sorted_sets.Homes.{number_of}
+use Rattle.page_store.specs.sorted_sets.Rising.{value_at}
 use Rattle.page_cache.specs.Queues.{Enters, Groups, IsQueueOf, Leaves, is_place, place_at, place_of, with_group}
 
 pub some_none : {X : Type 0} (x : X) → None ≡ Some x → ⊥

@@ -1,10 +1,10 @@
 -- Single places of a queue.
 use Rattle.std.proofs.Common.{◌≡◌, ◌∙◌, ℕ, List, Some, None, set, sym, arith}
 use Rattle.std.specs.List.{insert, remove}
-use Rattle.domain_base.specs.declared.place.Home.{Home}
-use Rattle.numbered_values.specs.Homes.{number_of}
-use Rattle.numbered_values.specs.Rising.{IsGapFor, IsPlaceOf, IsRising, value_at}
-use Rattle.numbered_values.proofs.Search.{drops_at_place, drops_in_gap, sets_at_place, sets_in_gap, value_at_place}
+use Rattle.page_store.specs.domain_base.declared.place.Home.{Home}
+use Rattle.page_store.specs.sorted_sets.Homes.{number_of}
+use Rattle.page_store.specs.sorted_sets.Rising.{IsGapFor, IsPlaceOf, IsRising, value_at}
+use Rattle.page_store.proofs.OfSortedSets.Search.{drops_at_place, drops_in_gap, sets_at_place, sets_in_gap, value_at_place}
 use Rattle.page_cache.specs.Queues.{Enters, Leaves, place_at}
 
 none_some : (home : Home) → None ≡ Some home → ⊥

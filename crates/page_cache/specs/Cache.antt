@@ -1,7 +1,7 @@
 -- What a cache keeps, and what a call makes of it.
 use Rattle.std.specs.Prelude.{◌≡◌, ◌+◌, ◌++◌, ℕ, List, [], ◌∷◌, Option, Some, None, length, vec_len}
-use Rattle.domain_base.specs.declared.place.Home.{Home}
-use Rattle.numbered_values.specs.Homes.{number_of}
+use Rattle.page_store.specs.domain_base.declared.place.Home.{Home}
+use Rattle.page_store.specs.sorted_sets.Homes.{number_of}
 use Rattle.page_cache.specs.declared.cache.PageCache.{PageCache}
 use Rattle.page_cache.specs.declared.frame.Frame.{Frame}
 use Rattle.page_cache.specs.Entries.{clean_in, frames_in, one_for}

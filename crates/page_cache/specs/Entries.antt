@@ -3,7 +3,7 @@ use Rattle.std.specs.Prelude.{◌≡◌, ◌==◌, ◌+◌, ◌++◌, ◌^◌, �
 use Rattle.std.specs.Map.{lookup}
 use Rattle.std.specs.Option.{option_and_then}
 use Rattle.lru.specs.LruCache.{last_entry}
-use Rattle.numbered_values.specs.Homes.{number_of}
+use Rattle.page_store.specs.sorted_sets.Homes.{number_of}
 use Rattle.page_cache.specs.declared.frame.Frame.{Frame}
 use Rattle.page_cache.specs.Frames.{Frames, group_of, is_clean, placed}
 

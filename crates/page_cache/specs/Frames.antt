@@ -1,9 +1,9 @@
 -- Frames by their homes, and which of them comes first.
 use Rattle.std.specs.Prelude.{◌≡◌, ◌==◌, ◌<◌, ◌≤◌, ◌⊎◌, ℕ, Bool, List, [], ◌∷◌, Option, Some, None, false, is_none, if◌then◌else◌}
 use Rattle.std.specs.Option.{option_and_then, option_map_or}
-use Rattle.domain_base.specs.declared.place.Home.{Home}
+use Rattle.page_store.specs.domain_base.declared.place.Home.{Home}
 use Rattle.page_store.specs.Pages.{same_home}
-use Rattle.numbered_values.specs.Homes.{number_of}
+use Rattle.page_store.specs.sorted_sets.Homes.{number_of}
 use Rattle.page_cache.specs.declared.frame.Frame.{Frame}
 
 -- the frame of each home, if one is kept

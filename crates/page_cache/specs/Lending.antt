@@ -2,7 +2,7 @@
 use Rattle.std.specs.Prelude.{⊤}
 use Rattle.std.specs.Borrow.{Fml, MutBor, follows_so}
 use mathlib.Core.Option.{none}
-use Rattle.domain_base.specs.declared.place.Home.{Home}
+use Rattle.page_store.specs.domain_base.declared.place.Home.{Home}
 use Rattle.page_cache.specs.declared.cache.PageCache.{PageCache}
 use Rattle.page_cache.specs.contracts.cache.PageCache.{the_row}
 use Rattle.page_cache.specs.Cache.{Changes, frames_of}

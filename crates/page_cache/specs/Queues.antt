@@ -1,9 +1,9 @@
 -- The queue of dirty frames: their homes in the order in which they are written home.
 use Rattle.std.specs.Prelude.{◌≡◌, ◌==◌, ◌+◌, ◌*◌, ◌^◌, ◌<◌, ℕ, Bool, false, List, Option, Some, None, IsSome, length, if◌then◌else◌}
 use Rattle.std.specs.Option.{ForSome, option_map, option_map_or}
-use Rattle.domain_base.specs.declared.place.Home.{Home}
-use Rattle.numbered_values.specs.Homes.{number_of}
-use Rattle.numbered_values.specs.Rising.{value_at}
+use Rattle.page_store.specs.domain_base.declared.place.Home.{Home}
+use Rattle.page_store.specs.sorted_sets.Homes.{number_of}
+use Rattle.page_store.specs.sorted_sets.Rising.{value_at}
 use Rattle.page_cache.specs.Entries.{Entries, clean_in, groups_in, one_for}
 
 -- the place of a home's number behind those of older groups

@@ -11,9 +11,8 @@ use crate::frames::{
     FRAMES, Kept, add_frame, bring_clean_to_end, clean_frame, drop_frame, set_frame, use_frame,
 };
 use crate::queue::Queue;
-use domain_base::{Home, OutOfMemory, Page};
 use lru::LruCache;
-use numbered_values::home_number;
+use page_store::{Home, OutOfMemory, Page, home_number};
 use std::alloc::Global;
 use std::num::NonZeroUsize;
 
@@ -31,7 +30,7 @@ impl PageCache {
     ghost use Rattle.page_cache.specs.Cache.{Changes, KeepsAll, Replaces, dirty_of, frames_of, kept_of, order_of};
     ghost use Rattle.page_cache.specs.Lending.{EndsUsed};
 
-    /// A cache that keeps no frame, with room for 1,024.
+    /// A cache without frames that has room for 1,024.
     pub fn new(alloc: Global) -> Result<PageCache, OutOfMemory>
         ensures frames { IfOk result (λ cache. frames_of cache ≡ no_frames) }
         ensures order { IfOk result (λ cache. order_of cache ≡ []) }
@@ -46,8 +45,8 @@ impl PageCache {
         Ok(PageCache { frames, dirty })
     }
 
-    /// The bytes of the frame of a home, which is used by that; None exactly where none is kept, and
-    /// then nothing changes.
+    /// The bytes of the frame of a home. Reading it counts as a use. Returns None if and only if
+    /// none is kept, and then nothing changes.
     pub fn frame(&mut self, home: Home) -> Option<&Page>
         ensures* ends { sem 𝓛 (EndsUsed self.entry home) }
         ensures page { option_copied result
@@ -57,15 +56,15 @@ impl PageCache {
         self.page_at(&home)
     }
 
-    /// Whether a frame of a home is kept. That is no use of it.
+    /// Whether a frame of a home is kept. Asking does not count as a use.
     pub fn is_kept(&self, home: Home) -> bool
         ensures { result ≡ is_some (frames_of self.now home) }
     {
         self.page_at(&home).is_some()
     }
 
-    /// Keeps a page of a home of which no frame is kept, clean and used by that. Where 1,024 frames
-    /// are kept, the least recently used clean one goes. For want of memory nothing changes, and the
+    /// Keeps a clean frame for a home that has none, which counts as a use. If 1,024 frames are
+    /// kept, the least recently used clean one goes. If memory runs out nothing changes, and the
     /// page is handed back.
     pub fn keep(&mut self, home: Home, page: Page) -> Result<(), (Page, OutOfMemory)>
         requires new { IsNone (frames_of self.old home) }
@@ -85,8 +84,8 @@ impl PageCache {
         }
     }
 
-    /// Gives the frame of a home these bytes, and makes it dirty, waiting for a group of the log; one
-    /// that waits for group 0 waits for none. That is a use of it.
+    /// Gives the frame of a home these bytes, and makes it dirty, waiting for a group of the log. A
+    /// frame that waits for group 0 waits for no group. This counts as a use of the frame.
     pub fn write(&mut self, home: Home, page: Page, waits: u64)
         requires { IsSome (frames_of self.old home) }
         ensures { Changes home (Some (record { page = page; waits = Some waits })) self.old
@@ -99,7 +98,7 @@ impl PageCache {
         self.dirty.move_home(&home, old, waits);
     }
 
-    /// Makes the frame of a home clean: its bytes were written home. That is a use of it.
+    /// Makes the frame of a home clean: its bytes were written home. This counts as a use.
     pub fn written(&mut self, home: Home)
         requires { IsSome (frames_of self.old home) }
         ensures { Changes home (option_map cleaned (frames_of self.old home)) self.old self.new }
@@ -122,8 +121,8 @@ impl PageCache {
         self.dirty.move_home(&home, old, None);
     }
 
-    /// The law that it keeps 1,024 frames at most, and as many as are in the order of use or dirty; and
-    /// that some home has a dirty frame exactly where it counts one.
+    /// The law that the cache keeps at most 1,024 frames, as many as are in the order of use or
+    /// dirty, and that some home has a dirty frame if and only if it counts one.
     pub fn frames_are_counted(&self)
         ensures kept { kept_of self.now ≤ 1024 }
         ensures dirty { length (order_of self.now) + dirty_of self.now ≡ kept_of self.now }
@@ -145,8 +144,9 @@ impl PageCache {
         self.dirty.places.len() as u32
     }
 
-    /// The home of a dirty frame whose group is durable: of those that wait for the oldest group the
-    /// first in the order of homes. None exactly where no dirty frame's group is durable.
+    /// The home of a dirty frame whose group is durable: the first, in the order of homes, of those
+    /// that wait for the oldest group. Returns None if and only if no dirty frame's group is
+    /// durable.
     pub fn next_flush(&self, durable: u64) -> Option<Home>
         ensures { MatchOption result
             ((home : Home) (group : ℕ) → groups (frames_of self.now) home ≡ Some group
@@ -172,7 +172,7 @@ impl PageCache {
         }
     }
 
-    /// The group that the frame of a home waits for, if one is kept that is dirty.
+    /// The group that the frame of a home waits for, if a dirty one is kept.
     fn group_at(&self, home: &Home) -> Option<u64>
         ensures value { result ≡ groups (frames_of self.now) home.now }
         ensures width { home.now.page < 2 ^ 32 }
@@ -195,8 +195,8 @@ impl PageCache {
         }
     }
 
-    /// Keeps the frame of a home that has none. Where 1,024 frames are kept, the last one goes, which
-    /// is clean. At an Err, which has the page, nothing has changed.
+    /// Keeps the frame of a home that has none. If 1,024 frames are kept, the last one goes, which
+    /// is clean. After an error, which hands the page back, nothing has changed.
     fn add(&mut self, home: &Home, frame: Frame) -> Result<(), Page>
         requires new { IsNone (frames_of self.old home.now) }
         requires clean { frame.waits ≡ None }
@@ -211,7 +211,7 @@ impl PageCache {
         add_frame(&mut self.frames, home_number(home), frame)
     }
 
-    /// Lets the least recently used clean frame be the last where 1,024 frames are kept.
+    /// Makes the least recently used clean frame the last one if 1,024 frames are kept.
     fn make_room(&mut self)
         requires { dirty_of self.old < 1024 }
         ensures keeps { KeepsAll self.old self.new }

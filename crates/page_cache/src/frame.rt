@@ -1,9 +1,9 @@
 //! A page that is kept.
 
-use domain_base::Page;
+use page_store::Page;
 
-/// The bytes of a page, and the group of the log that they wait for, where they are not at their home
-/// yet.
+/// The bytes of a page and, if they are not at their home yet, the group of the log that they wait
+/// for.
 #[derive(Debug, Drop)]
 pub struct Frame {
     pub page: Page,

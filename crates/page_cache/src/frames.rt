@@ -5,10 +5,10 @@ ghost use Rattle.page_cache.specs.Entries.{Becomes, Displaces, KeepsOrder, behin
 ghost use Rattle.page_cache.specs.Frames.{cleaned};
 
 use crate::frame::Frame;
-use domain_base::Page;
 use lru::LruCache;
+use page_store::Page;
 
-/// The frames that a cache keeps at most.
+/// The most frames that a cache keeps.
 pub(crate) const FRAMES: usize = 1_024;
 
 /// Frames by the numbers of their homes, in the order of their use.
@@ -35,7 +35,7 @@ pub(crate) fn set_frame(frames: &mut Kept, number: u64, frame: Frame)
     let _ = frames.put(number, frame);
 }
 
-/// Makes the frame of a number clean, which is a use of it.
+/// Makes the frame of a number clean, which counts as a use.
 fn set_clean(frames: &mut Kept, number: u64)
     requires { IsSome (frame_at frames.old.entries number) }
     ensures becomes { Becomes number (option_map cleaned (frame_at frames.old.entries number))
@@ -48,7 +48,7 @@ fn set_clean(frames: &mut Kept, number: u64)
     }
 }
 
-/// Puts the only clean frame behind the dirty ones, so that it is found at once.
+/// Puts the only clean frame after the dirty ones, so that it is found at once.
 fn put_last(frames: &mut Kept, number: u64)
     requires { clean_in frames.old.entries ≡ number ∷ [] }
     ensures keeps { KeepsOrder frames.old.entries frames.new.entries }
@@ -58,7 +58,7 @@ fn put_last(frames: &mut Kept, number: u64)
     frames.demote(&number);
 }
 
-/// Makes the frame of a number clean, which is a use of it, and takes it behind the dirty ones where
+/// Makes the frame of a number clean, which counts as a use, and moves it after the dirty ones if
 /// no other is clean.
 pub(crate) fn clean_frame(frames: &mut Kept, number: u64, alone: bool)
     requires there { IsSome (frame_at frames.old.entries number) }
@@ -82,8 +82,8 @@ pub(crate) fn drop_frame(frames: &mut Kept, number: u64)
     let _ = frames.pop(&number);
 }
 
-/// Keeps a clean frame of a number that has none. Where there is no room, the last one goes, which
-/// is clean. At an Err, which has the page, nothing has changed.
+/// Keeps a clean frame of a number that has none. If there is no room, the last one goes, which is
+/// clean. After an error, which hands the page back, nothing has changed.
 pub(crate) fn add_frame(frames: &mut Kept, number: u64, frame: Frame) -> Result<(), Page>
     requires new { IsNone (frame_at frames.old.entries number) }
     requires clean { frame.waits ≡ None }
@@ -107,7 +107,7 @@ pub(crate) fn add_frame(frames: &mut Kept, number: u64, frame: Frame) -> Result<
     }
 }
 
-/// The number of the frame that was used least lately, if that is dirty.
+/// The number of the least recently used frame, if that frame is dirty.
 fn oldest_dirty(frames: &Kept) -> Option<u64>
     ensures { result ≡ last_dirty frames.now.entries }
 {
@@ -117,7 +117,7 @@ fn oldest_dirty(frames: &Kept) -> Option<u64>
     }
 }
 
-/// Takes the dirty frame that was used least lately out of the way of the clean ones.
+/// Moves the least recently used dirty frame out of the way of the clean ones.
 fn pass(frames: &mut Kept, oldest: u64)
     requires last { last_dirty frames.old.entries ≡ Some oldest }
     requires clean { 0 < length (clean_in frames.old.entries) }
@@ -129,7 +129,7 @@ fn pass(frames: &mut Kept, oldest: u64)
     frames.promote(&oldest);
 }
 
-/// Takes dirty frames out of the way until the least recently used clean one is the last.
+/// Moves dirty frames out of the way until the least recently used clean one is the last.
 pub(crate) fn bring_clean_to_end(frames: &mut Kept)
     requires clean { 0 < length (clean_in frames.old.entries) }
     requires most { length frames.old.entries ≤ 1024 }

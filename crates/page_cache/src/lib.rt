@@ -1,5 +1,5 @@
-//! Pages kept in memory by their homes: clean ones, of which the least recently used goes where room
-//! is wanted, and dirty ones, which wait for a group of the log before they may be written home.
+//! Pages kept in memory by their homes. Of the clean ones, the least recently used goes when room
+//! is wanted. The dirty ones wait for a group of the log before they may be written home.
 #![tactic(auto)]
 
 mod cache;
@@ -9,3 +9,6 @@ mod queue;
 
 pub use cache::PageCache;
 pub use frame::Frame;
+
+// What stands below and is named above.
+pub use page_store::{Home, MetaPages, OutOfMemory, Page, VolIx};

@@ -1,24 +1,23 @@
 //! The homes of dirty frames in the order in which they are written home.
 ghost use Rattle.std.specs.Prelude.{◌≡◌, ◌+◌, ◌^◌, ◌<◌, ◌≤◌, None, [], IfErr, IfOk, IfSome, IsSome, slice_get, vec_capacity, vec_len};
 ghost use Rattle.std.specs.Option.{ForSome, option_map};
-ghost use Rattle.numbered_values.specs.Homes.{number_of};
-ghost use Rattle.numbered_values.specs.Rising.{IsGapFor, IsPlaceOf, IsRising, value_at};
+ghost use Rattle.page_store.specs.sorted_sets.Homes.{number_of};
+ghost use Rattle.page_store.specs.sorted_sets.Rising.{IsGapFor, IsPlaceOf, IsRising, value_at};
 ghost use Rattle.page_cache.specs.Entries.{one_for};
 ghost use Rattle.page_cache.specs.Queues.{Enters, Leaves, Moves, place_at, place_of as its_place};
 
-use domain_base::{Home, OutOfMemory};
-use numbered_values::home_number;
+use page_store::{Home, OutOfMemory, home_number};
 use std::alloc::Global;
 
 /// Homes in the order of the groups that they wait for, and those of one group in their own order.
-/// Its room is there from the start.
+/// Its room is taken at the start.
 #[derive(Drop)]
 pub(crate) struct Queue {
     pub(crate) places: Vec<(u128, Home)>,
     ghost rising: { IsRising places.items },
 }
 
-/// The place of a home's number, behind those of older groups.
+/// The place of a home's number, after those of older groups.
 fn place_at(group: u64, number: u64) -> u128
     ensures { result ≡ place_at group number }
 {
@@ -35,7 +34,7 @@ fn index_of(places: &[(u128, Home)], place: u128) -> Result<usize, usize>
 }
 
 impl Queue {
-    /// No home, and room for so many.
+    /// A queue without homes that has room for `room` of them.
     pub(crate) fn with_room(alloc: Global, room: usize) -> Result<Queue, OutOfMemory>
         ensures none { IfOk result (λ queue. queue.places.items ≡ []) }
         ensures len { IfOk result (λ queue. vec_len queue.places ≡ 0) }
@@ -45,8 +44,7 @@ impl Queue {
         Ok(Queue { places })
     }
 
-    /// Takes away what stands at the place of a number in a group; without a group
-    /// nothing changes.
+    /// Takes away what stands at the place of a number in a group. Without a group nothing changes.
     pub(crate) fn leave(&mut self, number: u64, group: Option<u64>)
         ensures leaves { Leaves self.old.places.items self.new.places.items number group }
         ensures len { ForSome (its_place group number)
@@ -63,8 +61,7 @@ impl Queue {
         }
     }
 
-    /// Puts a home at the place of its number in a group; without a group
-    /// nothing changes.
+    /// Puts a home at the place of its number in a group. Without a group nothing changes.
     pub(crate) fn enter(&mut self, home: &Home, group: Option<u64>)
         requires room { vec_len self.old.places < vec_capacity self.old.places }
         ensures enters { Enters self.old.places.items self.new.places.items home.now group }
@@ -85,8 +82,8 @@ impl Queue {
         }
     }
 
-    /// Moves the home of a frame that waited for the one group, or for none, to where it stands when
-    /// it waits for the other, or for none.
+    /// Moves the home of a frame that waited for the one group, or for none, to where it stands
+    /// when it waits for the other, or for none.
     pub(crate) fn move_home(&mut self, home: &Home, old: Option<u64>, new: Option<u64>)
         requires room { vec_len self.old.places < vec_capacity self.old.places }
         ensures moves { Moves home.now old new self.old.places.items self.new.places.items

@@ -1,12 +1,12 @@
 -- Pages of bitmaps that are found to have wrong bits.
 use Rattle.std.proofs.Common.{◌≡◌, ◌∙◌, ◌↔◌, ◌*◌, inl, inr, ℕ, ◌+◌, ◌≤◌, Bool, IsTrue, List, Some, None, sym, ap, subst, arith, ⊎_elim}
-use Rattle.domain_base.specs.declared.place.Home.{Home}
-use Rattle.page_store.specs.Pages.{Pages}
-use Rattle.log_ring.specs.Homes.{IsMember, member_of}
-use Rattle.domain_layout.specs.Reached.{Frame}
-use Rattle.bitmap_checks.specs.Bits.{IsWrongPage}
-use Rattle.file_runs.specs.Runs.{on}
-use Rattle.file_runs.specs.declared.run.FileRun.{FileRun}
+use Rattle.tag_faults.specs.domain_base.declared.place.Home.{Home}
+use Rattle.tag_faults.specs.page_store.Pages.{Pages}
+use Rattle.tag_faults.specs.log_ring.Homes.{IsMember, member_of}
+use Rattle.tag_faults.specs.domain_layout.Reached.{Frame}
+use Rattle.tag_faults.specs.free_space.CheckBits.{IsWrongPage}
+use Rattle.tag_faults.specs.cell_chains.Runs.{on}
+use Rattle.tag_faults.specs.cell_chains.declared.run.FileRun.{FileRun}
 use Rattle.tag_faults.proofs.Counted.{IsBelow}
 use Rattle.page_faults.specs.Wrong.{HasWrongBitmap, HasWrongBits, IsOwnedBy, IsWrongBitmap, IsWrongBitmapOf}
 

@@ -2,29 +2,29 @@
 -- the table are those that are wrong by the layout.
 use Rattle.std.proofs.Common.{◌≡◌, ◌∙◌, ◌⊎◌, ◌↔◌, inl, inr, ℕ, ◌+◌, ◌*◌, ◌<◌, Bool, true, false, cond, nat_le, List, [], ◌∷◌, ◌++◌, length, length-append, Option, Some, None, IfSome, IsSomeAnd, slice_get, refl, sym, ap, subst, ⊎_elim}
 use Rattle.std.specs.Option.{option_map}
-use Rattle.domain_base.specs.declared.place.CellAt.{CellAt}
-use Rattle.domain_base.specs.declared.place.Home.{Home}
-use Rattle.page_store.specs.Pages.{Pages}
-use Rattle.domain_base.specs.Version.{bitmap_pages}
-use Rattle.log_ring.specs.Homes.{IsMember, member_of}
-use Rattle.tag_dirs.specs.Directory.{IsDirectoryAt, IsPageOf, has_home, home_behind}
-use Rattle.tag_dirs.specs.TagPage.{next_of}
-use Rattle.tag_dirs.specs.declared.dir.TagPlace.{TagPlace}
-use Rattle.bitfile_core.proofs.Tags.{home_there}
-use Rattle.domain_layout.specs.Faults.{HasNoTablesFault}
-use Rattle.domain_layout.specs.Layout.{AreTagPlaces, IsLayout, Layout}
-use Rattle.domain_layout.specs.Owners.{BelongsTo, HasExtent, HasIndexPage, HasTagPage, IsOwned, Owner, frame_of}
-use Rattle.domain_layout.specs.Owners.Owner.{of_cells, of_file, of_index, of_log, of_table, of_tags, of_volume}
-use Rattle.domain_layout.specs.PageRules.{IsBitmapFault, IsExtentFault, IsWrongExtent}
-use Rattle.domain_layout.specs.Reached.{Reaches, begins, goes_on, on_volume, tags_way}
-use Rattle.domain_layout.specs.TagRules.{HasTags}
-use Rattle.layout_laws.proofs.OnePage.{one_of, some_same}
-use Rattle.layout_laws.proofs.OwnedOnce.{cell_place, tag_place, used_on}
-use Rattle.layout_laws.proofs.Reached.{reserved_or_not, within_or_not}
+use Rattle.tag_faults.specs.domain_base.declared.place.CellAt.{CellAt}
+use Rattle.tag_faults.specs.domain_base.declared.place.Home.{Home}
+use Rattle.tag_faults.specs.page_store.Pages.{Pages}
+use Rattle.tag_faults.specs.domain_base.Version.{bitmap_pages}
+use Rattle.tag_faults.specs.log_ring.Homes.{IsMember, member_of}
+use Rattle.tag_faults.specs.tag_dirs.Directory.{IsDirectoryAt, IsPageOf, has_home, home_behind}
+use Rattle.tag_faults.specs.tag_dirs.TagPage.{next_of}
+use Rattle.tag_faults.specs.tag_dirs.declared.dir.TagPlace.{TagPlace}
+use Rattle.tag_faults.proofs.OfFilesetFiles.Tags.{home_there}
+use Rattle.tag_faults.specs.domain_layout.Faults.{HasNoTablesFault}
+use Rattle.tag_faults.specs.domain_layout.Layout.{AreTagPlaces, IsLayout, Layout}
+use Rattle.tag_faults.specs.domain_layout.Owners.{BelongsTo, HasExtent, HasIndexPage, HasTagPage, IsOwned, Owner, frame_of}
+use Rattle.tag_faults.specs.domain_layout.Owners.Owner.{of_cells, of_file, of_index, of_log, of_table, of_tags, of_volume}
+use Rattle.tag_faults.specs.domain_layout.PageRules.{IsBitmapFault, IsExtentFault, IsWrongExtent}
+use Rattle.tag_faults.specs.domain_layout.Reached.{Reaches, begins, goes_on, on_volume, tags_way}
+use Rattle.tag_faults.specs.domain_layout.TagRules.{HasTags}
+use Rattle.tag_faults.proofs.OfDomainLayout.OnePage.{one_of, some_same}
+use Rattle.tag_faults.proofs.OfDomainLayout.OwnedOnce.{cell_place, tag_place, used_on}
+use Rattle.tag_faults.proofs.OfDomainLayout.Reached.{reserved_or_not, within_or_not}
 use Rattle.filesets_reading.proofs.OnTables.{contains_at, is_there, on_table}
-use Rattle.cell_faults.specs.Tables.{IsCellsHome}
+use Rattle.tag_faults.specs.cell_faults.Tables.{IsCellsHome}
 use Rattle.tag_faults.specs.Directories.{HasPage}
-use Rattle.file_runs.specs.Runs.{on}
+use Rattle.tag_faults.specs.cell_chains.Runs.{on}
 use Rattle.page_faults.specs.Files.{HasPageAt, HasWrongBit, HasWrongPage, IsNoFiles, IsTakenPage, SaysWrongPage}
 use Rattle.page_faults.specs.Owned.{IsOfIndex, IsOfTables}
 use Rattle.page_faults.specs.Wrong.{HasWrongBits}

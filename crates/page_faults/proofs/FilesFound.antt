@@ -1,18 +1,18 @@
 -- Cells that are found to say wrong pages, and pages of bitmaps with wrong bits, are those of the
 -- rules.
 use Rattle.std.proofs.Common.{◌≡◌, ◌∙◌, ◌⊎◌, ◌↔◌, inl, inr, ℕ, List, Contains, refl, sym, ap, subst, ⊎_elim}
-use Rattle.domain_base.specs.declared.place.CellAt.{CellAt}
-use Rattle.domain_base.specs.declared.place.Home.{Home}
-use Rattle.page_store.specs.Pages.{Pages}
-use Rattle.bmt_mcells.specs.CellPage.{home_of}
-use Rattle.fileset_table.specs.Table.{Table}
-use Rattle.domain_layout.specs.Reached.{Frame, IsWithin}
-use Rattle.layout_laws.proofs.Reached.{member_or_none}
-use Rattle.cell_links.specs.declared.links.CellLinks.{CellLinks}
-use Rattle.chain_faults.specs.Links.{AreLinks}
-use Rattle.file_runs.specs.Reading.{AreSaid}
-use Rattle.file_runs.specs.Runs.{HaveAt, IsPageOf, IsShared, home_in, on}
-use Rattle.file_runs.specs.declared.run.FileRun.{FileRun}
+use Rattle.tag_faults.specs.domain_base.declared.place.CellAt.{CellAt}
+use Rattle.tag_faults.specs.domain_base.declared.place.Home.{Home}
+use Rattle.tag_faults.specs.page_store.Pages.{Pages}
+use Rattle.tag_faults.specs.metadata_cells.CellPage.{home_of}
+use Rattle.tag_faults.specs.fileset_table.Table.{Table}
+use Rattle.tag_faults.specs.domain_layout.Reached.{Frame, IsWithin}
+use Rattle.tag_faults.proofs.OfDomainLayout.Reached.{member_or_none}
+use Rattle.tag_faults.specs.cell_chains.declared.links.CellLinks.{CellLinks}
+use Rattle.tag_faults.specs.cell_faults.Links.{AreLinks}
+use Rattle.tag_faults.specs.cell_chains.Reading.{AreSaid}
+use Rattle.tag_faults.specs.cell_chains.Runs.{HaveAt, IsPageOf, IsShared, home_in, on}
+use Rattle.tag_faults.specs.cell_chains.declared.run.FileRun.{FileRun}
 use Rattle.tag_faults.proofs.UsedCells.{used_by, used_link}
 use Rattle.page_faults.specs.Files.{AreFilePages, HasPageAt, HasWrongBit, HasWrongPage, IsNoFiles, IsTakenPage, SaysWrongPage}
 use Rattle.page_faults.specs.Owned.{AreOfTables, IsTaken}

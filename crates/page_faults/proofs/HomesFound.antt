@@ -3,23 +3,23 @@ use Rattle.std.proofs.Common.{◌≡◌, ◌∙◌, ◌⊎◌, ◌↔◌, inl, i
 use Rattle.std.proofs.lemmas.Option.{get_or_from_slice_get, slice_get_read, slice_get_within}
 use Rattle.std.specs.List.{AllByRecursion}
 use Rattle.std.specs.Option.{option_and_then}
-use Rattle.domain_base.specs.declared.place.CellAt.{CellAt}
-use Rattle.domain_base.specs.declared.place.Home.{Home}
-use Rattle.page_store.specs.Pages.{Pages}
-use Rattle.record_table.specs.Records.{Allowed, kind_of}
-use Rattle.record_table.specs.declared.record.Record.{Record}
-use Rattle.record_table.specs.declared.record.Record.TheVariants as written
-use Rattle.bmt_mcells.specs.Cell.{Cell, record_of}
-use Rattle.bmt_mcells.specs.Chain.{StandsAt}
-use Rattle.bmt_mcells.proofs.Unique.{one_stands}
-use Rattle.bitfile_core.specs.Shown.{index_in}
-use Rattle.domain_layout.specs.CellRules.{IsPlace}
-use Rattle.domain_layout.specs.DirectoryRules.{HasIndexAt}
-use Rattle.domain_layout.specs.Reached.{Frame, IsRead, IsUnread, Reaches, Way, index_way}
-use Rattle.layout_laws.proofs.Reached.{begins_by, may_be_by, same_number}
-use Rattle.page_ways.specs.Walk.{AreRead}
-use Rattle.cell_faults.specs.Tables.{AreTables, IsCellsHome, IsThere}
-use Rattle.cell_faults.specs.declared.tables.CellsPage.{CellsPage}
+use Rattle.tag_faults.specs.domain_base.declared.place.CellAt.{CellAt}
+use Rattle.tag_faults.specs.domain_base.declared.place.Home.{Home}
+use Rattle.tag_faults.specs.page_store.Pages.{Pages}
+use Rattle.tag_faults.specs.cell_records.Records.{Allowed, kind_of}
+use Rattle.tag_faults.specs.cell_records.declared.record.Record.{Record}
+use Rattle.tag_faults.specs.cell_records.declared.record.Record.TheVariants as written
+use Rattle.tag_faults.specs.metadata_cells.Cell.{Cell, record_of}
+use Rattle.tag_faults.specs.metadata_cells.Chain.{StandsAt}
+use Rattle.tag_faults.proofs.OfMetadataCells.Unique.{one_stands}
+use Rattle.tag_faults.specs.fileset_files.Shown.{index_in}
+use Rattle.tag_faults.specs.domain_layout.CellRules.{IsPlace}
+use Rattle.tag_faults.specs.domain_layout.DirectoryRules.{HasIndexAt}
+use Rattle.tag_faults.specs.domain_layout.Reached.{Frame, IsRead, IsUnread, Reaches, Way, index_way}
+use Rattle.tag_faults.proofs.OfDomainLayout.Reached.{begins_by, may_be_by, same_number}
+use Rattle.tag_faults.specs.page_ways.Walk.{AreRead}
+use Rattle.tag_faults.specs.cell_faults.Tables.{AreTables, IsCellsHome, IsThere}
+use Rattle.tag_faults.specs.cell_faults.declared.tables.CellsPage.{CellsPage}
 use Rattle.page_faults.specs.Owned.{IsIndexOf, IsListed, IsReached}
 
 some_same : {X : Type 0} (a b : X) → Some a ≡ Some b → a ≡ b

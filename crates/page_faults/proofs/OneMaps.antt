@@ -4,30 +4,30 @@ use Rattle.std.proofs.lemmas.Bool.{and_parts, cases_Bool, cases_lt}
 use Rattle.std.proofs.lemmas.List.{append-nil}
 use Rattle.std.specs.List.{AllByRecursion, list_all}
 use Rattle.std.specs.Option.{option_map_or}
-use Rattle.domain_base.specs.declared.place.CellAt.{CellAt}
-use Rattle.domain_base.specs.declared.place.Home.{Home}
-use Rattle.page_store.specs.Pages.{Pages}
-use Rattle.record_table.specs.Records.{Allowed, kind_of}
-use Rattle.record_table.specs.declared.record.Record.{Record}
-use Rattle.record_table.specs.declared.record.Record.TheVariants as written
-use Rattle.bmt_mcells.specs.Cell.{Cell, record_of}
-use Rattle.bmt_mcells.specs.CellPage.{home_of}
-use Rattle.bmt_mcells.specs.declared.head.CellKind.{CellKind}
-use Rattle.bmt_mcells.specs.declared.head.CellKind.TheVariants as kinds
-use Rattle.bmt_mcells.proofs.Unique.{one_stands}
-use Rattle.extent_maps.specs.declared.run.Run.{Run}
-use Rattle.extent_records.specs.Rows.{NoPageTwice, runs_in, runs_of, times}
-use Rattle.bitfile_cells.proofs.MapRecords.{runs_by_map}
-use Rattle.bitfile_core.specs.Files.{is_first_kind}
-use Rattle.fileset_table.specs.Table.{Table}
-use Rattle.layout_laws.proofs.Reached.{same_number}
-use Rattle.domain_layout.specs.CellRules.{IsCellFault, IsCellsFault, IsFirstPlace, IsUsed, agree, are_limits, has_first_records, has_its_kinds, has_kind, is_chain_records, is_good_first, item_of, keeps_well, next_in, of_clone, of_original, say_removed}
-use Rattle.domain_layout.specs.Reached.{Frame, first_cells}
+use Rattle.tag_faults.specs.domain_base.declared.place.CellAt.{CellAt}
+use Rattle.tag_faults.specs.domain_base.declared.place.Home.{Home}
+use Rattle.tag_faults.specs.page_store.Pages.{Pages}
+use Rattle.tag_faults.specs.cell_records.Records.{Allowed, kind_of}
+use Rattle.tag_faults.specs.cell_records.declared.record.Record.{Record}
+use Rattle.tag_faults.specs.cell_records.declared.record.Record.TheVariants as written
+use Rattle.tag_faults.specs.metadata_cells.Cell.{Cell, record_of}
+use Rattle.tag_faults.specs.metadata_cells.CellPage.{home_of}
+use Rattle.tag_faults.specs.metadata_cells.declared.head.CellKind.{CellKind}
+use Rattle.tag_faults.specs.metadata_cells.declared.head.CellKind.TheVariants as kinds
+use Rattle.tag_faults.proofs.OfMetadataCells.Unique.{one_stands}
+use Rattle.tag_faults.specs.extent_maps.declared.run.Run.{Run}
+use Rattle.tag_faults.specs.extent_records.Rows.{NoPageTwice, runs_in, runs_of, times}
+use Rattle.tag_faults.proofs.OfFileChains.MapRecords.{runs_by_map}
+use Rattle.tag_faults.specs.fileset_files.Files.{is_first_kind}
+use Rattle.tag_faults.specs.fileset_table.Table.{Table}
+use Rattle.tag_faults.proofs.OfDomainLayout.Reached.{same_number}
+use Rattle.tag_faults.specs.domain_layout.CellRules.{IsCellFault, IsCellsFault, IsFirstPlace, IsUsed, agree, are_limits, has_first_records, has_its_kinds, has_kind, is_chain_records, is_good_first, item_of, keeps_well, next_in, of_clone, of_original, say_removed}
+use Rattle.tag_faults.specs.domain_layout.Reached.{Frame, first_cells}
 use Rattle.filesets_reading.proofs.FirstCells.{all_first, chain_record, one_record}
 use Rattle.filesets_reading.proofs.MapRecords.{allowed_rise, rising_once}
-use Rattle.cell_links.specs.declared.links.CellLinks.{CellLinks}
-use Rattle.chain_faults.specs.Links.{AreLinks}
-use Rattle.file_runs.specs.Reading.{HaveOneMap}
+use Rattle.tag_faults.specs.cell_chains.declared.links.CellLinks.{CellLinks}
+use Rattle.tag_faults.specs.cell_faults.Links.{AreLinks}
+use Rattle.tag_faults.specs.cell_chains.Reading.{HaveOneMap}
 use Rattle.tag_faults.proofs.UsedCells.{used_by}
 
 no_bool : false ≡ true → ⊥

@@ -1,12 +1,12 @@
 -- Runs that are found to be wrong, by what was found of their pages.
 use Rattle.std.proofs.Common.{◌≡◌, ◌⊎◌, ◌↔◌, inl, inr, ℕ, ◌+◌, ◌-◌, ◌<◌, ◌≤◌, List, Contains, sym, subst, arith, ⊎_elim}
 use Rattle.std.proofs.lemmas.Bool.{cases_lt}
-use Rattle.domain_base.specs.declared.place.Home.{Home}
-use Rattle.bmt_mcells.specs.CellPage.{home_of}
-use Rattle.log_ring.specs.Homes.{IsMember, member_of}
-use Rattle.domain_layout.specs.Reached.{Frame}
-use Rattle.file_runs.specs.Runs.{IsPageOf, IsShared, home_in, on, page_in}
-use Rattle.file_runs.specs.declared.run.FileRun.{FileRun}
+use Rattle.tag_faults.specs.domain_base.declared.place.Home.{Home}
+use Rattle.tag_faults.specs.metadata_cells.CellPage.{home_of}
+use Rattle.tag_faults.specs.log_ring.Homes.{IsMember, member_of}
+use Rattle.tag_faults.specs.domain_layout.Reached.{Frame}
+use Rattle.tag_faults.specs.cell_chains.Runs.{IsPageOf, IsShared, home_in, on, page_in}
+use Rattle.tag_faults.specs.cell_chains.declared.run.FileRun.{FileRun}
 use Rattle.page_faults.specs.Owned.{IsTaken}
 use Rattle.page_faults.specs.Wrong.{HasRun, IsAnothersBelow, IsAnothersOn, IsMet, IsOutside, IsWrongRun}
 

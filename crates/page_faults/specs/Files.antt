@@ -1,19 +1,19 @@
 -- Where cells in use say that pages of files stand, and which rules of that are broken.
 use Rattle.std.specs.Prelude.{◌≡◌, ◌⊎◌, ◌↔◌, ℕ, List, Contains}
-use Rattle.domain_base.specs.declared.place.CellAt.{CellAt}
-use Rattle.domain_base.specs.declared.place.Home.{Home}
-use Rattle.page_store.specs.Pages.{Pages}
-use Rattle.record_table.specs.declared.record.Record.{Record}
-use Rattle.log_ring.specs.Homes.{IsMember}
-use Rattle.bmt_mcells.specs.Cell.{Cell}
-use Rattle.bmt_mcells.specs.CellPage.{home_of}
-use Rattle.extent_maps.specs.declared.run.PagePlace.TheVariants.{At}
-use Rattle.extent_records.specs.Writing.{places_in}
-use Rattle.fileset_table.specs.Table.{Table}
-use Rattle.domain_layout.specs.CellRules.{IsCellsFault, IsUsed}
-use Rattle.domain_layout.specs.Reached.{Frame, IsReserved, IsWithin}
-use Rattle.file_runs.specs.Runs.{HaveAt, on}
-use Rattle.file_runs.specs.declared.run.FileRun.{FileRun}
+use Rattle.tag_faults.specs.domain_base.declared.place.CellAt.{CellAt}
+use Rattle.tag_faults.specs.domain_base.declared.place.Home.{Home}
+use Rattle.tag_faults.specs.page_store.Pages.{Pages}
+use Rattle.tag_faults.specs.cell_records.declared.record.Record.{Record}
+use Rattle.tag_faults.specs.log_ring.Homes.{IsMember}
+use Rattle.tag_faults.specs.metadata_cells.Cell.{Cell}
+use Rattle.tag_faults.specs.metadata_cells.CellPage.{home_of}
+use Rattle.tag_faults.specs.extent_maps.declared.run.PagePlace.TheVariants.{At}
+use Rattle.tag_faults.specs.extent_records.Writing.{places_in}
+use Rattle.tag_faults.specs.fileset_table.Table.{Table}
+use Rattle.tag_faults.specs.domain_layout.CellRules.{IsCellsFault, IsUsed}
+use Rattle.tag_faults.specs.domain_layout.Reached.{Frame, IsReserved, IsWithin}
+use Rattle.tag_faults.specs.cell_chains.Runs.{HaveAt, on}
+use Rattle.tag_faults.specs.cell_chains.declared.run.FileRun.{FileRun}
 use Rattle.page_faults.specs.Owned.{IsOfTables}
 use Rattle.page_faults.specs.Wrong.{HasWrongBitmap}
 

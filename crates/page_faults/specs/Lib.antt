@@ -1,3 +1,33 @@
 pub mod Files
 pub mod Owned
 pub mod Wrong
+pub mod Indexes
+pub mod Shared
+pub use Rattle.tag_faults.specs.cell_chains
+pub use Rattle.tag_faults.specs.cell_faults
+pub use Rattle.tag_faults.specs.cell_records
+pub use Rattle.tag_faults.specs.directory_pages
+pub use Rattle.tag_faults.specs.directory_rows
+pub use Rattle.tag_faults.specs.disk_label
+pub use Rattle.tag_faults.specs.domain_base
+pub use Rattle.tag_faults.specs.domain_layout
+pub use Rattle.tag_faults.specs.extent_maps
+pub use Rattle.tag_faults.specs.extent_records
+pub use Rattle.tag_faults.specs.file_chains
+pub use Rattle.tag_faults.specs.file_release
+pub use Rattle.tag_faults.specs.fileset_files
+pub use Rattle.tag_faults.specs.fileset_model
+pub use Rattle.tag_faults.specs.fileset_table
+pub use Rattle.tag_faults.specs.fileset_values
+pub use Rattle.filesets_reading.specs as filesets_reading
+pub use Rattle.tag_faults.specs.free_space
+pub use Rattle.tag_faults.specs.log_recovery
+pub use Rattle.tag_faults.specs.log_ring
+pub use Rattle.tag_faults.specs.metadata_cells
+pub use Rattle.tag_faults.specs.page_store
+pub use Rattle.tag_faults.specs.page_ways
+pub use Rattle.tag_faults.specs.sorted_sets
+pub use Rattle.tag_faults.specs.tag_dirs
+pub use Rattle.tag_faults.specs as tag_faults
+pub use Rattle.tag_faults.specs.volume_disk
+pub use Rattle.tag_faults.specs.word_forms

@@ -1,13 +1,13 @@
 -- Pages of tables, of tag directories and of indexes.
 use Rattle.std.specs.Prelude.{◌≡◌, ◌⊎◌, ◌↔◌, ℕ, List, Some, Contains}
-use Rattle.domain_base.specs.declared.place.CellAt.{CellAt}
-use Rattle.domain_base.specs.declared.place.Home.{Home}
-use Rattle.page_store.specs.Pages.{Pages}
-use Rattle.fileset_table.specs.Table.{Table}
-use Rattle.domain_layout.specs.DirectoryRules.{HasIndexAt}
-use Rattle.domain_layout.specs.Reached.{Frame, IsReserved, Reaches, Way, index_way}
-use Rattle.cell_faults.specs.Tables.{IsCellsHome}
-use Rattle.cell_faults.specs.declared.tables.CellsPage.{CellsPage}
+use Rattle.tag_faults.specs.domain_base.declared.place.CellAt.{CellAt}
+use Rattle.tag_faults.specs.domain_base.declared.place.Home.{Home}
+use Rattle.tag_faults.specs.page_store.Pages.{Pages}
+use Rattle.tag_faults.specs.fileset_table.Table.{Table}
+use Rattle.tag_faults.specs.domain_layout.DirectoryRules.{HasIndexAt}
+use Rattle.tag_faults.specs.domain_layout.Reached.{Frame, IsReserved, Reaches, Way, index_way}
+use Rattle.tag_faults.specs.cell_faults.Tables.{IsCellsHome}
+use Rattle.tag_faults.specs.cell_faults.declared.tables.CellsPage.{CellsPage}
 use Rattle.tag_faults.specs.Directories.{HasPage}
 
 -- a page is come to

@@ -1,14 +1,14 @@
 -- Runs that say that pages stand where none may, and bitmaps that do not say which pages are owned.
 use Rattle.std.specs.Prelude.{◌≡◌, ◌⊎◌, ◌+◌, ◌*◌, ◌<◌, ℕ, List, Some, Contains}
-use Rattle.domain_base.specs.Version.{bitmap_pages}
-use Rattle.domain_base.specs.declared.place.Home.{Home}
-use Rattle.page_store.specs.Pages.{Pages}
-use Rattle.log_ring.specs.Homes.{IsMember, member_of}
-use Rattle.bmt_mcells.specs.CellPage.{home_of}
-use Rattle.domain_layout.specs.Reached.{Frame, IsWithin}
-use Rattle.bitmap_checks.specs.Bits.{IsWrongPage}
-use Rattle.file_runs.specs.Runs.{HasPageIn, IsPageOf, IsSaid, IsShared, home_in, on}
-use Rattle.file_runs.specs.declared.run.FileRun.{FileRun}
+use Rattle.tag_faults.specs.domain_base.Version.{bitmap_pages}
+use Rattle.tag_faults.specs.domain_base.declared.place.Home.{Home}
+use Rattle.tag_faults.specs.page_store.Pages.{Pages}
+use Rattle.tag_faults.specs.log_ring.Homes.{IsMember, member_of}
+use Rattle.tag_faults.specs.metadata_cells.CellPage.{home_of}
+use Rattle.tag_faults.specs.domain_layout.Reached.{Frame, IsWithin}
+use Rattle.tag_faults.specs.free_space.CheckBits.{IsWrongPage}
+use Rattle.tag_faults.specs.cell_chains.Runs.{HasPageIn, IsPageOf, IsSaid, IsShared, home_in, on}
+use Rattle.tag_faults.specs.cell_chains.declared.run.FileRun.{FileRun}
 use Rattle.page_faults.specs.Owned.{IsTaken}
 
 -- a page of a run is none of a member's

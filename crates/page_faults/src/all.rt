@@ -1,24 +1,20 @@
 //! The rules of files' pages, and those of bitmaps.
 ghost use Rattle.std.specs.Prelude.{◌↔◌, IfOk};
-ghost use Rattle.domain_base.specs.declared.place.Home.{Home};
-ghost use Rattle.page_ways.specs.Frame.{frame_in};
-ghost use Rattle.home_sets.specs.Members.{IsIn as IsHomeIn};
+ghost use Rattle.tag_faults.specs.domain_base.declared.place.Home.{Home};
+ghost use Rattle.tag_faults.specs.page_ways.Frame.{frame_in};
+ghost use Rattle.tag_faults.specs.sorted_sets.Members.{IsIn as IsHomeIn};
 ghost use Rattle.page_faults.specs.Files.{AreGoodCells, HasWrongBit, HasWrongPage};
 
 use crate::bitmaps::wrong_bitmaps;
 use crate::owners::read_owners;
 use crate::wrong::wrong_runs;
-use domain_base::OutOfMemory;
-use fileset_table::FilesetTable;
-use home_sets::HomeSet;
-use page_store::MetaPages;
-use page_ways::DomainFrame;
 use std::alloc::Global;
+use tag_faults::{DomainFrame, FilesetTable, HomeSet, MetaPages, OutOfMemory};
 
-/// The pages with a cell that says that a page of its file stands where none of a member's is, where
+/// The pages with a cell that says that a page of its file stands where no member has a page, where
 /// label, anchors, bitmap, log or a table has its page, or where another page of a file is said to
-/// stand, each once and in order. Where a rule of cells is broken nothing is said of them: look for
-/// those first. A page on volume 0 is none of a member's.
+/// stand, each once and in order. If a rule of cells is broken, nothing is said about them: look
+/// for those faults first. A page on volume 0 does not belong to a member.
 pub fn extent_faults<M: MetaPages>(
     alloc: Global,
     pages: &M,
@@ -35,8 +31,8 @@ pub fn extent_faults<M: MetaPages>(
 }
 
 /// The pages of members' bitmaps with a bit that is 1 where the page belongs to nothing, or 0 where
-/// it does or is none of the member's, each once and in order. Where a rule of cells is broken
-/// nothing is said of them: look for those first.
+/// it belongs to something or lies outside the member, each once and in order. If a rule of cells
+/// is broken, nothing is said about them: look for those faults first.
 pub fn bitmap_faults<M: MetaPages>(
     alloc: Global,
     pages: &M,

@@ -1,21 +1,18 @@
 //! Pages of bitmaps that do not say which pages are owned.
 ghost use Rattle.std.specs.Prelude.{◌≡◌, ◌⊎◌, ◌↔◌, ◌+◌, ◌^◌, ◌<◌, IfOk, IsTrue, OnOk};
-ghost use Rattle.domain_base.specs.declared.place.Home.{Home};
-ghost use Rattle.page_ways.specs.Frame.{frame_in};
-ghost use Rattle.home_sets.specs.Members.{IsIn as IsHomeIn};
-ghost use Rattle.span_sets.specs.Members.{HasNumber};
-ghost use Rattle.file_runs.specs.Runs.{on};
+ghost use Rattle.tag_faults.specs.domain_base.declared.place.Home.{Home};
+ghost use Rattle.tag_faults.specs.page_ways.Frame.{frame_in};
+ghost use Rattle.tag_faults.specs.sorted_sets.Members.{IsIn as IsHomeIn};
+ghost use Rattle.tag_faults.specs.sorted_sets.SpanMembers.{HasNumber};
+ghost use Rattle.tag_faults.specs.cell_chains.Runs.{on};
 ghost use Rattle.page_faults.specs.Wrong.{HasWrongBitmap, HasWrongBits, IsWrongBitmap, IsWrongBitmapOf};
 
 use crate::spans::taken_spans;
-use bitmap_checks::is_wrong_page;
-use domain_base::{Home, OutOfMemory, VolIx};
-use file_runs::{FileRun, find_owned};
-use home_sets::HomeSet;
-use page_store::MetaPages;
-use page_ways::DomainFrame;
-use span_sets::SpanSet;
 use std::alloc::Global;
+use tag_faults::{
+    DomainFrame, FileRun, Home, HomeSet, MetaPages, OutOfMemory, SpanSet, VolIx, find_owned,
+    is_wrong_page,
+};
 
 /// The home of a page of the bitmap of a volume.
 fn bitmap_home(vol: VolIx, number: u32) -> Home
@@ -63,7 +60,7 @@ fn insert_wrong<M: MetaPages>(
     Ok(())
 }
 
-/// Puts the homes of those pages of a member's bitmap into a set that have a wrong bit.
+/// Puts into a set the homes of those pages of a member's bitmap that have a wrong bit.
 fn insert_all_wrong<M: MetaPages>(
     pages: &M,
     frame: &DomainFrame,
@@ -81,7 +78,8 @@ fn insert_all_wrong<M: MetaPages>(
     Ok(())
 }
 
-/// The same of the volume of a number, if it is a member, by the pages that are owned.
+/// Puts into a set the homes of those pages of the bitmap of a volume that have a wrong bit, if the
+/// volume is a member, by the pages that are owned.
 fn look_at_volume<M: MetaPages>(
     alloc: Global,
     pages: &M,
@@ -107,8 +105,8 @@ fn look_at_volume<M: MetaPages>(
     Ok(())
 }
 
-/// The homes of those pages of members' bitmaps that have a bit which is 1 where the page has no
-/// owner, or 0 where it has one or is none of the member's. Owned are the pages of label, anchors,
+/// The homes of those pages of members' bitmaps that have a bit that is 1 where the page has no
+/// owner, or 0 where it has one or lies outside the member. Owned are the pages of label, anchors,
 /// bitmap and log, those at the homes, and those that the runs say to be files'.
 pub(crate) fn wrong_bitmaps<M: MetaPages>(
     alloc: Global,

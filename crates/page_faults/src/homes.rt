@@ -1,31 +1,27 @@
 //! The pages of tables, of tag directories and of indexes.
 ghost use Rattle.std.specs.Prelude.{◌≡◌, ◌⊎◌, ◌↔◌, Contains, IfOk, OnOk, Some};
 ghost use Rattle.std.specs.Option.{option_and_then};
-ghost use Rattle.domain_base.specs.declared.place.Home.{Home};
-ghost use Rattle.bmt_mcells.specs.Cell.{Cell, record_of};
-ghost use Rattle.bmt_mcells.specs.Chain.{StandsAt};
-ghost use Rattle.bitfile_core.specs.Shown.{index_in};
-ghost use Rattle.domain_layout.specs.CellRules.{IsPlace};
-ghost use Rattle.domain_layout.specs.DirectoryRules.{HasIndexAt};
-ghost use Rattle.domain_layout.specs.Reached.{Frame, index_way};
-ghost use Rattle.page_ways.specs.Frame.{frame_in};
-ghost use Rattle.cell_faults.specs.Tables.{AreTables};
-ghost use Rattle.chain_faults.specs.Links.{AreLinks};
+ghost use Rattle.tag_faults.specs.domain_base.declared.place.Home.{Home};
+ghost use Rattle.tag_faults.specs.metadata_cells.Cell.{Cell, record_of};
+ghost use Rattle.tag_faults.specs.metadata_cells.Chain.{StandsAt};
+ghost use Rattle.tag_faults.specs.fileset_files.Shown.{index_in};
+ghost use Rattle.tag_faults.specs.domain_layout.CellRules.{IsPlace};
+ghost use Rattle.tag_faults.specs.domain_layout.DirectoryRules.{HasIndexAt};
+ghost use Rattle.tag_faults.specs.domain_layout.Reached.{Frame, index_way};
+ghost use Rattle.tag_faults.specs.page_ways.Frame.{frame_in};
+ghost use Rattle.tag_faults.specs.cell_faults.Tables.{AreTables};
+ghost use Rattle.tag_faults.specs.cell_faults.Links.{AreLinks};
 ghost use Rattle.tag_faults.specs.Directories.{HasPage};
 ghost use Rattle.page_faults.specs.Owned.{AreOfTables, IsIndexOf, IsListed, IsOfIndex, IsOfTags, IsReached};
 
-use bmt_mcells::{find_record, read_used};
-use cell_faults::{CellTables, CellsPage};
-use cell_links::CellLinks;
-use domain_base::{CellAt, FilesetNo, Home, OutOfMemory, VolIx};
-use fileset_table::FilesetTable;
-use page_store::MetaPages;
-use page_ways::{DomainFrame, IndexWay, read_pages};
-use record_table::Record;
 use std::alloc::Global;
-use tag_faults::{count_slots, read_directory, slot_number};
+use tag_faults::{
+    CellAt, CellLinks, CellTables, CellsPage, DomainFrame, FilesetNo, FilesetTable, Home, IndexWay,
+    MetaPages, OutOfMemory, Record, VolIx, count_slots, find_record, read_directory, read_pages,
+    read_used, slot_number,
+};
 
-/// Puts a home behind others.
+/// Appends a home to others.
 fn push_home(one: &Home, homes: &mut Vec<Home>) -> Result<(), OutOfMemory>
     ensures { OnOk result ((home : Home) → Contains homes.new.items home
         ↔ (Contains homes.old.items home ⊎ (one.now ≡ home))) }
@@ -34,7 +30,7 @@ fn push_home(one: &Home, homes: &mut Vec<Home>) -> Result<(), OutOfMemory>
     Ok(())
 }
 
-/// Puts homes behind others.
+/// Appends homes to others.
 fn push_homes(more: &[Home], homes: &mut Vec<Home>) -> Result<(), OutOfMemory>
     ensures { OnOk result ((home : Home) → Contains homes.new.items home
         ↔ (Contains homes.old.items home ⊎ Contains more.now home)) }
@@ -45,7 +41,7 @@ fn push_homes(more: &[Home], homes: &mut Vec<Home>) -> Result<(), OutOfMemory>
     Ok(())
 }
 
-/// Puts a home behind others, if there is one.
+/// Appends a home to others, if there is one.
 fn push_one(one: &Option<Home>, homes: &mut Vec<Home>) -> Result<(), OutOfMemory>
     ensures { OnOk result ((home : Home) → Contains homes.new.items home
         ↔ (Contains homes.old.items home ⊎ (one.now ≡ Some home))) }
@@ -56,7 +52,7 @@ fn push_one(one: &Option<Home>, homes: &mut Vec<Home>) -> Result<(), OutOfMemory
     Ok(())
 }
 
-/// Puts the pages of an index that are come to from its first one behind other homes.
+/// Appends to other homes the pages of an index that are reached from its first one.
 fn push_reached<M: MetaPages>(
     alloc: Global,
     pages: &M,
@@ -89,8 +85,8 @@ fn first_of_index<M: MetaPages>(pages: &M, at: &CellAt) -> Option<Home>
     }
 }
 
-/// The first page of the index that the cell in use at a place names. None where no cell in use that
-/// is well formed stands there, or it names none.
+/// The first page of the index that the cell in use at a place names. None if no well-formed cell
+/// in use stands there, or if it names no index.
 pub fn index_at<M: MetaPages>(
     alloc: Global,
     pages: &M,
@@ -106,7 +102,7 @@ pub fn index_at<M: MetaPages>(
     Ok(first_of_index(pages, at))
 }
 
-/// Puts the pages of the index that a cell in use names behind other homes.
+/// Appends to other homes the pages of the index that a cell in use names.
 fn push_index<M: MetaPages>(
     alloc: Global,
     pages: &M,
@@ -126,7 +122,7 @@ fn push_index<M: MetaPages>(
     Ok(())
 }
 
-/// Puts the pages of all indexes behind other homes, by what was read of all cells in use.
+/// Appends the pages of all indexes to other homes, from what was read of all cells in use.
 fn push_indexes<M: MetaPages>(
     alloc: Global,
     pages: &M,
@@ -145,7 +141,7 @@ fn push_indexes<M: MetaPages>(
     Ok(())
 }
 
-/// Puts pages of cells behind other homes.
+/// Appends pages of cells to other homes.
 fn push_cells(read: &[CellsPage], homes: &mut Vec<Home>) -> Result<(), OutOfMemory>
     ensures { OnOk result ((home : Home) → Contains homes.new.items home
         ↔ (Contains homes.old.items home ⊎ IsListed read.now home)) }
@@ -156,7 +152,7 @@ fn push_cells(read: &[CellsPage], homes: &mut Vec<Home>) -> Result<(), OutOfMemo
     Ok(())
 }
 
-/// Puts the pages of the tag directory of what is in a slot behind other homes.
+/// Appends the pages of the tag directory of what is in a slot to other homes.
 fn push_slot<M: MetaPages>(
     alloc: Global,
     pages: &M,
@@ -174,7 +170,7 @@ fn push_slot<M: MetaPages>(
     Ok(())
 }
 
-/// Puts the pages of all tag directories behind other homes.
+/// Appends the pages of all tag directories to other homes.
 fn push_tags<M: MetaPages>(
     alloc: Global,
     pages: &M,
@@ -193,7 +189,7 @@ fn push_tags<M: MetaPages>(
     Ok(())
 }
 
-/// The pages of the fileset table, of tables of cells, of tag directories and of indexes, by what
+/// The pages of the fileset table, of tables of cells, of tag directories and of indexes, from what
 /// was read of all cells in use.
 pub(crate) fn table_homes<M: MetaPages>(
     alloc: Global,

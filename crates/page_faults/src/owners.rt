@@ -1,19 +1,16 @@
 //! All pages of a domain that belong to something.
 ghost use Rattle.std.specs.Prelude.{IfOk};
-ghost use Rattle.page_ways.specs.Frame.{frame_in};
-ghost use Rattle.file_runs.specs.Runs.{AreApart};
+ghost use Rattle.tag_faults.specs.page_ways.Frame.{frame_in};
+ghost use Rattle.tag_faults.specs.cell_chains.Runs.{AreApart};
 ghost use Rattle.page_faults.specs.Files.{AreFilePages, AreGoodCells};
 ghost use Rattle.page_faults.specs.Owned.{AreOfTables};
 
 use crate::homes::table_homes;
-use cell_faults::read_tables;
-use chain_faults::read_links;
-use domain_base::{Home, OutOfMemory};
-use file_runs::{FileRun, read_runs};
-use fileset_table::FilesetTable;
-use page_store::MetaPages;
-use page_ways::DomainFrame;
 use std::alloc::Global;
+use tag_faults::{
+    DomainFrame, FileRun, FilesetTable, Home, MetaPages, OutOfMemory, read_links, read_runs,
+    read_tables,
+};
 
 /// The pages of tables, tag directories and indexes by their homes, and those of files as the runs
 /// that cells in use say.
@@ -23,7 +20,8 @@ pub(crate) struct PageOwners {
     pub runs: Vec<FileRun>,
 }
 
-/// Reads them: all of files' pages, and each once, where no rule of cells is broken.
+/// Reads the pages that belong to something. If no rule of cells is broken, these are all pages of
+/// files, each once.
 pub(crate) fn read_owners<M: MetaPages>(
     alloc: Global,
     pages: &M,

@@ -1,20 +1,17 @@
-//! Pages of one volume that are no files'.
+//! Pages of one volume that belong to no file.
 ghost use Rattle.std.specs.Prelude.{◌⊎◌, ◌↔◌, ◌<◌, ℕ, IfOk, OnOk};
-ghost use Rattle.domain_layout.specs.Reached.{first_cells};
-ghost use Rattle.log_ring.specs.Homes.{IsLogPage};
-ghost use Rattle.page_ways.specs.Frame.{frame_in};
-ghost use Rattle.span_sets.specs.Members.{HasAnyOf};
-ghost use Rattle.file_runs.specs.Runs.{on};
+ghost use Rattle.tag_faults.specs.domain_layout.Reached.{first_cells};
+ghost use Rattle.tag_faults.specs.log_ring.Homes.{IsLogPage};
+ghost use Rattle.tag_faults.specs.page_ways.Frame.{frame_in};
+ghost use Rattle.tag_faults.specs.sorted_sets.SpanMembers.{HasAnyOf};
+ghost use Rattle.tag_faults.specs.cell_chains.Runs.{on};
 ghost use Rattle.page_faults.specs.Owned.{IsTaken};
 
-use domain_base::limits::LOG_PAGES;
-use domain_base::{Home, OutOfMemory, VolIx};
-use file_runs::push_pages;
-use page_ways::DomainFrame;
-use span_sets::Span;
 use std::alloc::Global;
+use tag_faults::limits::LOG_PAGES;
+use tag_faults::{DomainFrame, Home, OutOfMemory, Span, VolIx, push_pages};
 
-/// Puts the pages of the log that are of a volume behind spans of its pages.
+/// Appends those pages of the log that stand on a volume to spans of the volume's pages.
 fn push_log(frame: &DomainFrame, vol: VolIx, spans: &mut Vec<Span>) -> Result<(), OutOfMemory>
     ensures { OnOk result ((n : ℕ) → HasAnyOf spans.new.items n
         ↔ (HasAnyOf spans.old.items n ⊎ IsLogPage frame.now.anchor (on vol n))) }
@@ -29,7 +26,7 @@ fn push_log(frame: &DomainFrame, vol: VolIx, spans: &mut Vec<Span>) -> Result<()
     Ok(())
 }
 
-/// Puts the first pages of a volume, which are its label, anchors and bitmap, behind other spans.
+/// Appends to other spans the first pages of a volume, which are its label, anchors and bitmap.
 fn push_first(frame: &DomainFrame, vol: VolIx, spans: &mut Vec<Span>) -> Result<(), OutOfMemory>
     ensures { OnOk result ((n : ℕ) → HasAnyOf spans.new.items n ↔ (HasAnyOf spans.old.items n
         ⊎ (n < first_cells (frame_in frame.now) vol))) }
@@ -39,7 +36,7 @@ fn push_first(frame: &DomainFrame, vol: VolIx, spans: &mut Vec<Span>) -> Result<
     Ok(())
 }
 
-/// The pages of a volume that are of its label, anchors and bitmap, of the log, or among homes.
+/// The pages of a volume that belong to its label, anchors, bitmap or the log, or are among homes.
 pub(crate) fn taken_spans(
     alloc: Global,
     frame: &DomainFrame,

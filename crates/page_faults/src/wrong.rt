@@ -1,23 +1,21 @@
-//! Runs that say that pages stand where none may.
+//! Runs that say that pages stand where none is allowed to.
 ghost use Rattle.std.specs.Prelude.{◌≡◌, ◌⊎◌, ◌↔◌, IfOk, IsTrue, OnOk};
-ghost use Rattle.domain_base.specs.declared.place.Home.{Home};
-ghost use Rattle.bmt_mcells.specs.CellPage.{home_of as home_there};
-ghost use Rattle.log_ring.specs.Homes.{IsMember};
-ghost use Rattle.page_ways.specs.Frame.{frame_in};
-ghost use Rattle.home_sets.specs.Members.{IsIn as IsHomeIn};
-ghost use Rattle.span_sets.specs.Members.{HasNumber};
-ghost use Rattle.file_runs.specs.Runs.{AreApart, HasPageIn};
+ghost use Rattle.tag_faults.specs.domain_base.declared.place.Home.{Home};
+ghost use Rattle.tag_faults.specs.metadata_cells.CellPage.{home_of as home_there};
+ghost use Rattle.tag_faults.specs.log_ring.Homes.{IsMember};
+ghost use Rattle.tag_faults.specs.page_ways.Frame.{frame_in};
+ghost use Rattle.tag_faults.specs.sorted_sets.Members.{IsIn as IsHomeIn};
+ghost use Rattle.tag_faults.specs.sorted_sets.SpanMembers.{HasNumber};
+ghost use Rattle.tag_faults.specs.cell_chains.Runs.{AreApart, HasPageIn};
 ghost use Rattle.page_faults.specs.Wrong.{HasRun, IsAnothersOn, IsMet, IsOutside, IsWrongRun};
 
 use crate::spans::taken_spans;
-use domain_base::{Home, OutOfMemory, VolIx};
-use file_runs::{FileRun, find_shared, has_shared};
-use home_sets::HomeSet;
-use page_ways::DomainFrame;
-use span_sets::SpanSet;
 use std::alloc::Global;
+use tag_faults::{
+    DomainFrame, FileRun, Home, HomeSet, OutOfMemory, SpanSet, VolIx, find_shared, has_shared,
+};
 
-/// Whether a page of a run is none of a member's.
+/// Whether a page of a run does not belong to a member.
 fn is_outside(frame: &DomainFrame, run: &FileRun) -> bool
     ensures { IsTrue result ↔ IsOutside (frame_in frame.now) run.now }
 {
@@ -43,7 +41,7 @@ fn home_of(run: &FileRun) -> Home
     }
 }
 
-/// Puts the page of the cell of a run into a set, if a page of the run is none of a member's.
+/// Puts the page of the cell of a run into a set, if a page of the run does not belong to a member.
 fn insert_outside(
     frame: &DomainFrame,
     run: &FileRun,
@@ -58,7 +56,7 @@ fn insert_outside(
     Ok(())
 }
 
-/// The pages of the cells of those runs of which a page is none of a member's.
+/// The pages of the cells of those runs that have a page that does not belong to a member.
 fn outside_runs(
     alloc: Global,
     frame: &DomainFrame,
@@ -74,7 +72,8 @@ fn outside_runs(
     Ok(found)
 }
 
-/// Puts the page of the cell of a run on a volume into a set, if a page of the run is one of some.
+/// Puts the page of the cell of a run on a volume into a set, if a page of the run is among these
+/// pages.
 fn insert_met(
     vol: VolIx,
     shared: &SpanSet,
@@ -90,7 +89,7 @@ fn insert_met(
     Ok(())
 }
 
-/// Puts the pages of the cells of those runs on a volume into a set of which a page is one of some.
+/// Puts into a set the pages of the cells of those runs on a volume that have one of these pages.
 fn insert_all_met(
     vol: VolIx,
     shared: &SpanSet,
@@ -106,8 +105,8 @@ fn insert_all_met(
     Ok(())
 }
 
-/// Puts the pages of the cells of those runs on a member into a set of which a page is another's,
-/// too.
+/// Puts into a set the pages of the cells of those runs on a member that have a page that is
+/// another's, too.
 fn look_at_member(
     alloc: Global,
     frame: &DomainFrame,
@@ -127,7 +126,8 @@ fn look_at_member(
     Ok(())
 }
 
-/// The same of the volume of a number, if it is a member.
+/// Puts into a set the pages of the cells of those runs on a volume that have a page that is
+/// another's, too, if the volume is a member.
 fn look_at_volume(
     alloc: Global,
     frame: &DomainFrame,
@@ -149,9 +149,9 @@ fn look_at_volume(
     look_at_member(alloc, frame, homes, runs, vol, found)
 }
 
-/// The pages of the cells of those runs of which a page is none of a member's, or another's, too: of
-/// label, anchors, bitmap or log, among homes, or of a file by another of the runs, where no two of
-/// these have one page of one cell.
+/// The pages of the cells of those runs that have a page that does not belong to a member, or is
+/// another's, too: a page of label, anchors, bitmap or log, one among the homes, or a file's by
+/// another of the runs. No two of the runs may have one page of one cell.
 pub(crate) fn wrong_runs(
     alloc: Global,
     frame: &DomainFrame,

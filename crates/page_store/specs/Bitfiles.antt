@@ -1,12 +1,12 @@
 -- Files and directories by their tags, as the layers above storage see them.
 use Rattle.std.specs.Prelude.{◌≡◌, ◌==◌, ◌&&◌, ◌+◌, ◌^◌, ◌<◌, ◌≤◌, ◌++◌, ℕ, Bool, List, [], ◌∷◌, Option, Some, None, IfSome, IsSomeAnd, All, length, take, drop, insert, slice_get, if◌then◌else◌}
 use Rattle.std.specs.Option.{option_and_then, option_map, option_map_or}
-use Rattle.domain_base.specs.Counts.{HasRisen}
-use Rattle.domain_base.specs.Limits.{page_bytes, file_pages, max_links}
-use Rattle.domain_base.specs.Page.{overwritten, zero_bytes}
-use Rattle.domain_base.specs.declared.place.Kind.{Kind}
-use Rattle.domain_base.specs.declared.place.Kind.TheVariants.{File, Directory}
-use Rattle.domain_base.specs.declared.place.Tag.{Tag}
+use Rattle.sorted_sets.specs.domain_base.Counts.{HasRisen}
+use Rattle.sorted_sets.specs.domain_base.Limits.{page_bytes, file_pages, max_links}
+use Rattle.sorted_sets.specs.domain_base.Page.{overwritten, zero_bytes}
+use Rattle.sorted_sets.specs.domain_base.declared.place.Kind.{Kind}
+use Rattle.sorted_sets.specs.domain_base.declared.place.Kind.TheVariants.{File, Directory}
+use Rattle.sorted_sets.specs.domain_base.declared.place.Tag.{Tag}
 use Rattle.page_store.specs.declared.fault.StoreFault.{StoreFault}
 use Rattle.page_store.specs.declared.fault.StoreFault.TheVariants.{NoPage, OutOfMemory}
 

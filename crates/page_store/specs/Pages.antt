@@ -1,8 +1,8 @@
 -- Pages by their homes. What is said of pages in memory and of an image is said of a function from
 -- home to page.
 use Rattle.std.specs.Prelude.{◌≡◌, ◌==◌, ◌&&◌, ℕ, Bool, List, Option, Some, None, IfSome, length, if◌then◌else◌}
-use Rattle.domain_base.specs.Limits.{page_bytes}
-use Rattle.domain_base.specs.declared.place.Home.{Home}
+use Rattle.sorted_sets.specs.domain_base.Limits.{page_bytes}
+use Rattle.sorted_sets.specs.domain_base.declared.place.Home.{Home}
 
 -- what stands at each home, if anything does
 abbrev pub Pages : Type 0

@@ -2,18 +2,18 @@
 ghost use Rattle.std.specs.Prelude.{◌≡◌};
 ghost use Rattle.page_store.specs.declared.fault.StoreFault.TheVariants.{OutOfMemory};
 
-use domain_base::OutOfMemory as NoMemory;
+use sorted_sets::OutOfMemory as NoMemory;
 use std::alloc::AllocFailed;
 use std::error::Error;
 use std::fmt;
 
-/// Why a call that stores something failed: no page of a volume was free that it needed, or no
-/// memory could be had.
+/// Why a call that stores something failed: it needed a free page of a volume and there was none,
+/// or memory ran out.
 #[derive(Clone, Copy, Debug, PartialEq, Eq)]
 pub enum StoreFault {
     /// No page was free.
     NoPage,
-    /// No memory could be had.
+    /// Memory ran out.
     OutOfMemory,
 }
 

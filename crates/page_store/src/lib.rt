@@ -1,10 +1,24 @@
-//! Where the layers between the volumes and the commands keep what they work on: pages of metadata
-//! by their homes, as a trait that a domain and a map in memory both meet; and what a set of files
-//! and directories by their tags is.
+//! Where the layers between the volumes and the commands keep what they work on, as traits that a
+//! domain and a map in memory both meet: pages of metadata by their homes, and files and
+//! directories by their tags; and the maps in memory.
 #![tactic(auto)]
 
+mod bitfile_set;
 mod fault;
+mod memory_bitfiles;
+mod memory_pages;
 mod meta_pages;
+mod misses;
+mod paged_file;
 
+pub use bitfile_set::BitfileSet;
 pub use fault::StoreFault;
+pub use memory_bitfiles::MemoryBitfiles;
+pub use memory_pages::MemoryPages;
 pub use meta_pages::MetaPages;
+
+// What stands below and is named above.
+pub use sorted_sets::{
+    CellAt, Failed, FilesetNo, Home, HomeSet, Kind, OutOfMemory, Page, Span, SpanSet, Tag, Version,
+    VolIx, entries, find_doubled, gate, home_number, limits, numbered,
+};

@@ -1,42 +1,42 @@
 //! Pages of metadata by their homes.
 ghost use Rattle.std.specs.Prelude.{◌≡◌, ◌⊎◌, ◌+◌, ◌-◌, ◌<◌, ◌≤◌, ℕ, List, Option, is_some, if◌then◌else◌, IsSome, IsSomeAnd, OnOk, length};
 ghost use Rattle.std.specs.Option.{option_copied};
-ghost use Rattle.domain_base.specs.Limits.{page_bytes};
-ghost use Rattle.domain_base.specs.Page.{overwritten};
-ghost use Rattle.domain_base.specs.declared.place.Home.{Home};
+ghost use Rattle.sorted_sets.specs.domain_base.Limits.{page_bytes};
+ghost use Rattle.sorted_sets.specs.domain_base.Page.{overwritten};
+ghost use Rattle.sorted_sets.specs.domain_base.declared.place.Home.{Home};
 ghost use Rattle.page_store.specs.Pages.{Pages, AreWhole, with_page, without_page};
 
-use domain_base::{Home, OutOfMemory, Page};
+use sorted_sets::{Home, OutOfMemory, Page};
 use std::alloc::Global;
 
-/// A finite map from home to page, with room for more pages. A page is changed where it stands, or
-/// forgotten: neither takes memory.
+/// A finite map from home to page, with room for more pages. Changing a page in place, or
+/// forgetting it, takes no memory.
 pub trait MetaPages {
-    /// What stands at each home.
+    /// The page at each home.
     ghost pages: { Self → Pages };
 
-    /// For how many homes more there is room.
+    /// How many more homes there is room for.
     ghost room: { Self → ℕ };
 
-    /// What stood at each home before a change that can be taken back. No call changes it.
+    /// The page that stood at each home before a change that can be taken back. No call changes it.
     ghost before: { Self → Pages };
 
     /// The page at a home, if one is there.
     fn get(&self, home: Home) -> Option<&Page>
         ensures { option_copied result ≡ pages self.now home };
 
-    /// Takes room for so many homes more. At an Err nothing has changed.
+    /// Takes room for `more` homes more. After an error nothing has changed.
     fn reserve(&mut self, alloc: Global, more: usize) -> Result<(), OutOfMemory>
         ensures same { pages self.new ≡ pages self.old }
         ensures enough { OnOk result (more ≤ room self.new) }
         ensures kept { room self.old ≤ room self.new }
         ensures before { before self.new ≡ before self.old };
 
-    /// For how many homes more there is room.
+    /// How many more homes there is room for.
     fn spare(&self) -> usize
         ensures { result ≡ room self.now };
 
-    /// Puts a page at a home, in place of the one that is there. A new home takes room for one.
+    /// Puts a page at a home, in place of any that is there. A new home uses up the room for one.
     fn put(&mut self, home: Home, page: Page)
         requires { (0 < room self.old) ⊎ IsSome (pages self.old home) }
         ensures value { pages self.new ≡ with_page home page (pages self.old) }
@@ -44,7 +44,8 @@ pub trait MetaPages {
             (if is_some (pages self.old home) then room self.old else room self.old - 1) }
         ensures before { before self.new ≡ before self.old };
 
-    /// Writes these bytes into the page that stands at a home, from byte `at` on, and leaves all others.
+    /// Writes these bytes into the page that stands at a home, from byte `at` on, and leaves all
+    /// others.
     fn set(&mut self, home: Home, at: usize, bytes: &[u8])
         requires there { IsSome (pages self.old home) }
         requires fits { at + length bytes.now ≤ page_bytes }

@@ -2,8 +2,8 @@
 use Rattle.std.proofs.Common.{◌≡◌, ◌∙◌, ◌⊎◌, ℕ, zero, suc, ◌+◌, ◌<◌, ◌≤◌, true, List, [], ◌∷◌, ◌++◌, length, Option, Some, None, Contains, IsSomeAnd, refl, sym, ap, subst, arith, ⊎_elim, length-append, slice_get}
 use Rattle.std.proofs.lemmas.Bool.{cases_lt}
 use Rattle.std.proofs.lemmas.Option.{slice_get_within}
-use Rattle.domain_base.specs.declared.place.Home.{Home}
-use Rattle.page_store.specs.Pages.{Pages}
+use Rattle.domain_layout.specs.domain_base.declared.place.Home.{Home}
+use Rattle.domain_layout.specs.page_store.Pages.{Pages}
 use Rattle.domain_layout.specs.Reached.{Frame, IsRead, IsUnread, MayBe, Reaches, Way, begins, goes_on}
 use Rattle.page_ways.specs.Walk.{AreRead, EndsThere, IsOnWay, IsReadable, StopsAt}
 

@@ -1,2 +1,16 @@
 pub mod Come
 pub mod Numbers
+pub mod OfDirectoryPages
+pub mod OfDirectoryRows
+pub mod OfDiskLabel
+pub mod OfDomainLayout
+pub mod OfExtentMaps
+pub mod OfFileChains
+pub mod OfFilesetFiles
+pub mod OfFilesetTable
+pub mod OfLogRecovery
+pub mod OfLogRing
+pub mod OfMetadataCells
+pub mod OfSortedSets
+pub mod OfTagDirs
+pub mod OfVolumeDisk

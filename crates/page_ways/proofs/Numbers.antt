@@ -3,10 +3,10 @@ use Rattle.std.proofs.Common.{◌≡◌, ◌==◌, ◌∙◌, ◌⊎◌, inl, in
 use Rattle.std.proofs.lemmas.Bool.Decides.{nat_tests}
 use Rattle.std.proofs.lemmas.Bool.{cases_lt}
 use mathlib.Core.Bool.{false≢true}
-use Rattle.domain_base.specs.declared.place.Home.{Home}
-use Rattle.numbered_values.specs.Homes.{found_at, number_of}
-use Rattle.numbered_values.specs.Rising.{IsRising, Sets, value_at}
-use Rattle.numbered_values.proofs.Search.{value-present}
+use Rattle.domain_layout.specs.domain_base.declared.place.Home.{Home}
+use Rattle.domain_layout.specs.sorted_sets.Homes.{found_at, number_of}
+use Rattle.domain_layout.specs.sorted_sets.Rising.{IsRising, Sets, value_at}
+use Rattle.domain_layout.proofs.OfSortedSets.Search.{value-present}
 use Rattle.page_ways.specs.Walk.{AreNumbers}
 
 abbrev Numbers : Type 0

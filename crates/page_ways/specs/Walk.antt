@@ -1,9 +1,9 @@
 -- What is read of the pages of a kind, from the first one on.
 use Rattle.std.specs.Prelude.{◌≡◌, ◌⊎◌, ◌↔◌, ◌*◌, ◌^◌, ◌+◌, ◌-◌, ◌<◌, ◌++◌, ℕ, is_some, if◌then◌else◌, List, [], ◌∷◌, length, true, Option, Some, None, IsSome, IsSomeAnd, Contains, slice_get}
-use Rattle.domain_base.specs.declared.place.Home.{Home}
-use Rattle.page_store.specs.Pages.{Pages}
-use Rattle.numbered_values.specs.Homes.{found_at}
-use Rattle.numbered_values.specs.Rising.{IsRising, value_at}
+use Rattle.domain_layout.specs.domain_base.declared.place.Home.{Home}
+use Rattle.domain_layout.specs.page_store.Pages.{Pages}
+use Rattle.domain_layout.specs.sorted_sets.Homes.{found_at}
+use Rattle.domain_layout.specs.sorted_sets.Rising.{IsRising, value_at}
 use Rattle.domain_layout.specs.Reached.{Frame, IsRead, IsUnread, MayBe, Reaches, Way}
 use Rattle.page_ways.specs.declared.walk.PageWalk.{PageWalk}
 

@@ -1,13 +1,11 @@
 //! The anchor that counts, and which pages may be what.
 ghost use Rattle.std.specs.Prelude.{◌≡◌, ◌↔◌, ◌≤◌, IsTrue};
 ghost use Rattle.domain_layout.specs.Reached.{IsReserved, IsWithin, MayBe, first_cells};
-ghost use Rattle.log_ring.specs.Homes.{IsLogPage, IsMember, member_of as member_there};
+ghost use Rattle.domain_layout.specs.log_ring.Homes.{IsLogPage, IsMember, member_of as member_there};
 ghost use Rattle.page_ways.specs.Frame.{frame_in};
 
-use disk_label::{Anchor, FirstPages, Member};
-use domain_base::limits::LOG_PAGES;
-use domain_base::{Home, Version, VolIx};
-use log_ring::{is_member, member_of};
+use domain_layout::limits::LOG_PAGES;
+use domain_layout::{Anchor, FirstPages, Home, Member, Version, VolIx, is_member, member_of};
 
 /// The anchor that counts, and the version that it says.
 #[derive(Clone, Copy, Debug, PartialEq, Eq)]
@@ -31,7 +29,7 @@ impl DomainFrame {
         is_member(&self.anchor, vol)
     }
 
-    /// The first page of cells of a volume: in front of it stand label, anchors and bitmap.
+    /// The first page of cells of a volume. Label, anchors and bitmap stand before it.
     pub fn first_cells(&self, vol: VolIx) -> u32
         ensures { result ≡ first_cells (frame_in self.now) vol }
     {
@@ -47,7 +45,7 @@ impl DomainFrame {
             && home.page - self.anchor.log_page < LOG_PAGES
     }
 
-    /// Whether a page is one of a member's.
+    /// Whether a page belongs to a member.
     pub fn is_within(&self, home: &Home) -> bool
         ensures { IsTrue result ↔ IsWithin (frame_in self.now) home.now }
     {

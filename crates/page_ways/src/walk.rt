@@ -1,4 +1,4 @@
-//! Pages read along their way.
+//! Reading pages along their way.
 ghost use Rattle.std.specs.Prelude.{◌≡◌, ◌<◌, ◌≤◌, ◌+◌, ◌⊎◌, ◌↔◌, ◌++◌, [], ◌∷◌, IfOk, IsSome, OnOk, IsTrue, None, Some, Contains, is_some, length, if◌then◌else◌};
 ghost use Rattle.domain_layout.specs.Reached.{MayBe, Reaches};
 ghost use Rattle.page_ways.specs.Frame.{frame_in};
@@ -6,17 +6,16 @@ ghost use Rattle.page_ways.specs.Walk.{AreNumbers, AreRead, IsOnWay};
 
 use crate::frame::DomainFrame;
 use crate::ways::PageWay;
-use domain_base::{Home, OutOfMemory};
-use numbered_values::{find, home_number, put};
-use page_store::MetaPages;
+use domain_layout::numbered::{find, put};
+use domain_layout::{Home, MetaPages, OutOfMemory, home_number};
 use std::alloc::Global;
 
-/// The pages of a kind that are read, by their homes, in the order in which they are come to.
+/// The pages of a kind that are read, by their homes, in the order in which they are reached.
 #[derive(Drop)]
 pub struct ReadPages {
     pub homes: Vec<Home>,
-    /// The page that is come to behind them and cannot be read: it is none of those that tables and
-    /// indexes may have, was read before, is not there, or begins otherwise.
+    /// The page that is reached after them and cannot be read: it is not one of those that tables
+    /// and indexes may have, was read before, is not there, or begins otherwise.
     pub unread: Option<Home>,
 }
 
@@ -36,7 +35,7 @@ impl Passed {
         find(&self.numbers, home_number(home)).is_some()
     }
 
-    /// Puts the page behind the others. At an Err they are as before.
+    /// Appends a page to the others. At an Err they are as before.
     fn push(&mut self, frame: &DomainFrame, home: &Home) -> Result<(), OutOfMemory>
         requires numbers { AreNumbers self.old.homes.items self.old.numbers.items }
         requires fresh { ¬ Contains self.old.homes.items home.now }
@@ -50,8 +49,8 @@ impl Passed {
     }
 }
 
-/// Reads the page at a home, which is come to behind those that were read: the home of the next
-/// one, or none where it leads to none or cannot be read.
+/// Reads the page at a home, which is reached after those that were read: the home of the next one,
+/// or None if it leads to none or cannot be read.
 fn read_next<M: MetaPages, W: PageWay>(
     pages: &M,
     frame: &DomainFrame,
@@ -82,8 +81,8 @@ fn read_next<M: MetaPages, W: PageWay>(
     Ok(next)
 }
 
-/// A walk along the pages of a kind, from the first one on: those that were read, and the one that
-/// is come to next. So a caller may see to it that a page is there before it is looked at.
+/// A walk along the pages of a kind, from the first one on: the pages that were read, and the page
+/// that is reached next. So a caller can make sure that a page is there before it is looked at.
 #[derive(Drop)]
 pub struct PageWalk {
     passed: Passed,
@@ -92,11 +91,11 @@ pub struct PageWalk {
 }
 
 impl PageWalk {
-    ghost use Rattle.page_store.specs.Pages.{Pages};
+    ghost use Rattle.domain_layout.specs.page_store.Pages.{Pages};
     ghost use Rattle.domain_layout.specs.Reached.{Frame, Way};
     ghost use Rattle.page_ways.specs.Walk.{IsWalk, next_of, steps_left, unread_of};
 
-    /// Nothing is read yet.
+    /// A walk that has read nothing yet.
     pub fn new<W: PageWay>(alloc: Global, way: &W) -> PageWalk
         ensures walk { (pages : Pages) (frame : Frame) → IsWalk pages frame (W.way way.now) result }
         ensures unread { unread_of result ≡ None }
@@ -112,15 +111,15 @@ impl PageWalk {
         }
     }
 
-    /// The home of the page that is come to next; None where the walk has ended.
+    /// The home of the page that is reached next; None if the walk has ended.
     pub fn next(&self) -> Option<Home>
         ensures { result ≡ next_of self.now }
     {
         self.next
     }
 
-    /// Looks at the page that is come to next, and goes on to the one to which it leads; where that
-    /// cannot be read, the walk ends.
+    /// Looks at the page that is reached next, and goes on to the page to which it leads. If the
+    /// page that is reached cannot be read, the walk ends.
     pub fn step<M: MetaPages, W: PageWay>(
         &mut self,
         pages: &M,

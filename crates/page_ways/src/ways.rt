@@ -1,16 +1,15 @@
 //! Kinds of pages that lead from one to the next.
 ghost use Rattle.std.specs.Prelude.{◌≡◌};
 ghost use Rattle.domain_layout.specs.Reached.{Way, cells_way, index_way, on_volume, tags_way};
-ghost use Rattle.tag_dirs.specs.TagPage.{next_of};
+ghost use Rattle.domain_layout.specs.tag_dirs.TagPage.{next_of};
 ghost use Rattle.page_ways.specs.Frame.{frame_in};
 
 use crate::frame::DomainFrame;
-use domain_base::{Home, Page, VolIx};
-use record_table::u32_at;
+use domain_layout::{Home, Page, VolIx, u32_at};
 
 /// A kind of pages: how they begin, what one leads to, and the first of them.
 pub trait PageWay {
-    /// What is said of it.
+    /// What contracts say of the kind.
     ghost way: { Self → Way };
 
     /// The home of the first page.
@@ -21,21 +20,21 @@ pub trait PageWay {
     fn begins_so(&self, page: &Page) -> bool
         ensures { result ≡ (way self.now).begins_so page.now };
 
-    /// The home to which a page leads, which stands at another.
+    /// The home to which a page leads that stands at this home.
     fn next(&self, home: &Home, page: &Page) -> Option<Home>
         ensures { result ≡ (way self.now).next home.now page.now };
 }
 
 /// The pages of cells of a volume. They begin with `BMTP`, and lead to the next page of the volume;
-/// page 0 is none.
+/// page 0 means that there is none.
 #[derive(Clone, Copy)]
 pub struct CellsWay {
     pub frame: DomainFrame,
     pub vol: VolIx,
 }
 
-/// The pages of a tag directory. They begin with `TAGP`, and lead to a home; volume 0, and one that
-/// there may not be, is none.
+/// The pages of a tag directory. They begin with `TAGP`, and lead to a home; volume 0, or a volume
+/// that may not exist, means that there is none.
 #[derive(Clone, Copy)]
 pub struct TagsWay {
     pub first: Home,

@@ -12,10 +12,10 @@ use Rattle.std.specs.declared.cmp.Ordering.{Ordering}
 use Rattle.std.specs.declared.cmp.Ordering.TheVariants.{Less, Equal, Greater}
 use Rattle.std.specs.Ordering.{is_eq}
 use Rattle.std.specs.FinMap.Entries.{find, find-put, put}
-use Rattle.record_table.specs.declared.record.Record.{Record}
-use Rattle.fileset_model.specs.Orders.{owner_cmp, owner_cmp-total}
+use Rattle.cell_records.specs.declared.record.Record.{Record}
+use Rattle.fileset_model.specs.fileset_values.Orders.{owner_cmp, owner_cmp-total}
 use Rattle.fileset_model.specs.Usage.{is_unlimited, with_limits}
-use Rattle.fileset_model.specs.declared.command.Owner.{Owner}
+use Rattle.fileset_model.specs.fileset_values.declared.command.Owner.{Owner}
 use Rattle.fileset_model.specs.declared.fileset.Limits.{Limits}
 use Rattle.fileset_model.proofs.OwnerLemmas.{owner_cmp-IsAntisymmetric}
 use Rattle.quota_book.specs.Owners.{same_owner}

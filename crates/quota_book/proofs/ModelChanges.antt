@@ -4,9 +4,9 @@ use Rattle.std.specs.Option.{option_map_or}
 use Rattle.std.specs.FinMap as map
 use Rattle.fileset_model.specs.Apply.{is_named_elsewhere, with_change, with_node, without}
 use Rattle.fileset_model.specs.Fileset.{Fileset}
-use Rattle.fileset_model.specs.Orders.{Path, path_cmp, path_cmp-total}
+use Rattle.fileset_model.specs.fileset_values.Orders.{Path, path_cmp, path_cmp-total}
 use Rattle.fileset_model.specs.Usage.{blocks_of, is_owned, is_owners}
-use Rattle.fileset_model.specs.declared.command.Owner.{Owner}
+use Rattle.fileset_model.specs.fileset_values.declared.command.Owner.{Owner}
 use Rattle.fileset_model.specs.declared.node.Node.{Node}
 use Rattle.fileset_model.specs.declared.node.Node.TheVariants.{File, Directory}
 use Rattle.quota_book.specs.Sums.{ChangesNode, CountsMore, IsNotRoot, gid_of, uid_of}

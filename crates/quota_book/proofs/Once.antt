@@ -6,9 +6,9 @@ use Rattle.std.proofs.lemmas.List.{append-nil, drop_more, take-append-drop, take
 use Rattle.std.proofs.lemmas.List.Elements.{filter_map-append}
 use Rattle.std.specs.List.{AllByRecursion, IsDistinct, cons_option}
 use Rattle.std.specs.FinMap.Entries.{find, find-put, put}
-use Rattle.record_table.specs.declared.record.Record.{Record}
-use Rattle.fileset_model.specs.Orders.{owner_cmp, owner_cmp-total}
-use Rattle.fileset_model.specs.declared.command.Owner.{Owner}
+use Rattle.cell_records.specs.declared.record.Record.{Record}
+use Rattle.fileset_model.specs.fileset_values.Orders.{owner_cmp, owner_cmp-total}
+use Rattle.fileset_model.specs.fileset_values.declared.command.Owner.{Owner}
 use Rattle.fileset_model.specs.declared.fileset.Limits.{Limits}
 use Rattle.quota_book.specs.Owners.{same_owner}
 use Rattle.quota_book.specs.QuotaCells.{AreOnce, Notes, NotesSaid, Said, Seen, limits_said, said_by, was_seen}

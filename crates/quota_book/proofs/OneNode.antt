@@ -7,7 +7,7 @@ use Rattle.std.specs.Option.{option_map_or}
 use Rattle.std.specs.Cmp.{nat_cmp_total}
 use Rattle.std.specs.FinMap.{nat_cmp-IsAntisymmetric}
 use Rattle.std.specs.FinMap.Entries.{below_all, by_order, find, is_sorted, put}
-use Rattle.sorted_entries.proofs.Removal.{none_above, others, others-none}
+use Rattle.fileset_model.proofs.OfSortedSets.Removal.{none_above, others, others-none}
 
 first : (a b : Bool) → T (a && b) → T a
 first true b p = tt

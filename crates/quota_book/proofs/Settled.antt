@@ -5,10 +5,10 @@ use Rattle.std.proofs.lemmas.Option.{same_Some}
 use Rattle.std.proofs.lemmas.List.{length-append}
 use Rattle.std.specs.Option.{ForSome}
 use Rattle.std.specs.FinMap.Entries.{find, find-put, is_sorted, length-put, put}
-use Rattle.fileset_model.specs.Orders.{owner_cmp, owner_cmp-total}
-use Rattle.fileset_model.specs.declared.command.Owner.{Owner}
-use Rattle.sorted_entries.proofs.EntryLemmas.{to_T}
-use Rattle.sorted_entries.proofs.Removal.{others}
+use Rattle.fileset_model.specs.fileset_values.Orders.{owner_cmp, owner_cmp-total}
+use Rattle.fileset_model.specs.fileset_values.declared.command.Owner.{Owner}
+use Rattle.fileset_model.proofs.OfSortedSets.EntryLemmas.{to_T}
+use Rattle.fileset_model.proofs.OfSortedSets.Removal.{others}
 use Rattle.quota_book.specs.declared.account.Account.{Account}
 use Rattle.quota_book.specs.declared.account.Account.TheVariants.{Same, Changed}
 use Rattle.quota_book.specs.declared.account.Share.{Share}

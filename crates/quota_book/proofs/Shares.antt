@@ -8,9 +8,9 @@ use Rattle.std.specs.declared.cmp.Ordering.{Ordering}
 use Rattle.std.specs.declared.cmp.Ordering.TheVariants.{Less, Equal, Greater}
 use Rattle.std.specs.Ordering.{is_eq}
 use Rattle.std.specs.FinMap.Entries.{below_all, by_order, find, find-put, is_sorted, length-put, put}
-use Rattle.fileset_model.specs.Orders.{owner_cmp, owner_cmp-total}
-use Rattle.fileset_model.specs.declared.command.Owner.{Owner}
-use Rattle.sorted_entries.proofs.EntryLemmas.{first, is_sorted_put, less, second, to_T}
+use Rattle.fileset_model.specs.fileset_values.Orders.{owner_cmp, owner_cmp-total}
+use Rattle.fileset_model.specs.fileset_values.declared.command.Owner.{Owner}
+use Rattle.fileset_model.proofs.OfSortedSets.EntryLemmas.{first, is_sorted_put, less, second, to_T}
 use Rattle.quota_book.specs.declared.account.Account.{Account}
 use Rattle.quota_book.specs.declared.account.Account.TheVariants.{Same}
 use Rattle.quota_book.specs.declared.account.Share.{Share}

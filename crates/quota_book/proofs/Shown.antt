@@ -5,14 +5,14 @@ use Rattle.std.specs.Ordering.{is_lt}
 use Rattle.std.specs.Option.{option_map}
 use Rattle.std.specs.FinMap as fin_map
 use Rattle.std.specs.FinMap.Entries.{below_all, find, find-where_key, is_sorted, where_key}
-use Rattle.fileset_model.specs.Orders.{owner_cmp, owner_cmp-total}
+use Rattle.fileset_model.specs.fileset_values.Orders.{owner_cmp, owner_cmp-total}
 use Rattle.fileset_model.specs.Usage.{is_owned, is_unlimited, with_limits}
-use Rattle.fileset_model.specs.declared.command.Owner.{Owner}
-use Rattle.fileset_model.specs.declared.command.Owner.TheVariants.{User, Group, Fileset}
+use Rattle.fileset_model.specs.fileset_values.declared.command.Owner.{Owner}
+use Rattle.fileset_model.specs.fileset_values.declared.command.Owner.TheVariants.{User, Group, Fileset}
 use Rattle.fileset_model.specs.declared.fileset.Limits.{Limits}
 use Rattle.fileset_model.specs.declared.fileset.Usage.{Usage}
 use Rattle.fileset_model.proofs.OwnerLemmas.{owner_cmp-IsAntisymmetric}
-use Rattle.sorted_entries.proofs.EntryLemmas.{get-from_sorted, is_sorted_where}
+use Rattle.fileset_model.proofs.OfSortedSets.EntryLemmas.{get-from_sorted, is_sorted_where}
 use Rattle.quota_book.specs.declared.account.Account.{Account}
 use Rattle.quota_book.specs.declared.account.Account.TheVariants.{Same}
 use Rattle.quota_book.specs.declared.account.Share.{Share}

@@ -10,27 +10,27 @@ use Rattle.std.specs.FinMap.{nat_cmp-IsAntisymmetric}
 use Rattle.std.specs.FinMap.Entries.{put}
 use Rattle.fileset_model.specs.Fileset.{Fileset}
 use Rattle.fileset_model.specs.Usage.{blocks_of, counts_for, is_owned, is_owners, used_blocks, used_files}
-use Rattle.fileset_model.specs.declared.command.Owner.{Owner}
-use Rattle.fileset_model.specs.declared.command.Owner.TheVariants.{User, Group, Fileset as WholeFileset}
+use Rattle.fileset_model.specs.fileset_values.declared.command.Owner.{Owner}
+use Rattle.fileset_model.specs.fileset_values.declared.command.Owner.TheVariants.{User, Group, Fileset as WholeFileset}
 use Rattle.fileset_model.specs.declared.fileset.Usage.{Usage}
 use Rattle.fileset_model.specs.declared.node.Node.{Node}
 use Rattle.fileset_model.proofs.ChangeLemmas.{remove-from_sorted}
-use Rattle.sorted_entries.proofs.EntryLemmas.{entries-from_sorted, is_sorted_where}
+use Rattle.fileset_model.proofs.OfSortedSets.EntryLemmas.{entries-from_sorted, is_sorted_where}
 use Rattle.fileset_model.proofs.MoveLemmas.{entries-empty, from_sorted-entries, sorted_entries}
 use Rattle.std.proofs.lemmas.Bool.{eq-eqb}
 use Rattle.fileset_model.specs.Apply.{empty_fileset}
-use Rattle.fileset_model.specs.Orders.{owner_cmp, path_cmp-total}
+use Rattle.fileset_model.specs.fileset_values.Orders.{owner_cmp, path_cmp-total}
 use Rattle.fileset_model.specs.Paths.{first_refusal, refuse_if}
 use Rattle.fileset_model.specs.Usage.{blocks_refusal, files_refusal, limits_of, passes, quota_refusal}
 use Rattle.fileset_model.specs.declared.fileset.Limits.{Limits}
 use Rattle.fileset_model.specs.declared.node.Node.TheVariants.{Directory}
-use Rattle.fileset_model.specs.declared.reply.Refusal.{Refusal}
-use Rattle.fileset_model.specs.declared.reply.Refusal.TheVariants.{QuotaFiles, QuotaBlocks}
+use Rattle.fileset_model.specs.fileset_values.declared.reply.Refusal.{Refusal}
+use Rattle.fileset_model.specs.fileset_values.declared.reply.Refusal.TheVariants.{QuotaFiles, QuotaBlocks}
 use Rattle.quota_book.specs.Owners.{nothing}
 use Rattle.quota_book.specs.Book.{Book, Charges, HasAll, Refunds, empty_book, limits_in, lowered, raised, refusal_in, used}
 use Rattle.quota_book.specs.Sums.{ChangesNode, CountsMore, IsBookOf, blocks_for, files_for, with_entry}
 use Rattle.quota_book.proofs.OneNode.{total-others, total-put}
-use Rattle.sorted_entries.proofs.Removal.{others}
+use Rattle.fileset_model.proofs.OfSortedSets.Removal.{others}
 
 abbrev Nodes : Type 0
 Nodes = map.FinMap nat_cmp Node

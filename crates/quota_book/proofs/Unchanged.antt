@@ -8,10 +8,10 @@ use Rattle.std.specs.FinMap.Entries.{find}
 use Rattle.std.proofs.Common.{map as map_each}
 use Rattle.fileset_model.specs.Apply.{is_named_elsewhere, linked, moved, moved_path, without}
 use Rattle.fileset_model.specs.Fileset.{Fileset}
-use Rattle.fileset_model.specs.Orders.{Path, path_cmp, path_cmp-total}
+use Rattle.fileset_model.specs.fileset_values.Orders.{Path, path_cmp, path_cmp-total}
 use Rattle.fileset_model.specs.Paths.{begins_with}
 use Rattle.fileset_model.specs.Usage.{blocks_of, counts_for, with_limits}
-use Rattle.fileset_model.specs.declared.command.Owner.{Owner}
+use Rattle.fileset_model.specs.fileset_values.declared.command.Owner.{Owner}
 use Rattle.fileset_model.specs.declared.fileset.Limits.{Limits}
 use Rattle.quota_book.specs.Book.{Book}
 use Rattle.quota_book.specs.Sums.{IsBookOf}

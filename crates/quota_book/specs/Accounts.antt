@@ -4,9 +4,9 @@ use Rattle.std.specs.List.{list_any}
 use Rattle.std.specs.Option.{ForSome}
 use Rattle.std.specs.FinMap as fin_map
 use Rattle.std.specs.FinMap.Entries.{find, is_sorted, where_key}
-use Rattle.fileset_model.specs.Orders.{owner_cmp}
+use Rattle.fileset_model.specs.fileset_values.Orders.{owner_cmp}
 use Rattle.fileset_model.specs.Usage.{is_unlimited}
-use Rattle.fileset_model.specs.declared.command.Owner.{Owner}
+use Rattle.fileset_model.specs.fileset_values.declared.command.Owner.{Owner}
 use Rattle.fileset_model.specs.declared.fileset.Usage.{Usage}
 use Rattle.quota_book.specs.declared.account.Account.{Account}
 use Rattle.quota_book.specs.declared.account.Account.TheVariants.{Same, Changed}

@@ -2,16 +2,16 @@
 use Rattle.std.specs.Prelude.{◌≡◌, ◌+◌, ◌-◌, ◌^◌, ◌<◌, ◌≤◌, ◌==◌, ◌&&◌, ℕ, Bool, false, [], ◌∷◌, Option, Some, unwrap_or, refl, if◌then◌else◌}
 use Rattle.std.specs.Coded.{Coded, code_by, coded×}
 use Rattle.std.specs.FinMap as map
-use Rattle.fileset_model.specs.Orders.{owner_cmp}
+use Rattle.fileset_model.specs.fileset_values.Orders.{owner_cmp}
 use Rattle.fileset_model.specs.Paths.{first_refusal, refuse_if}
 use Rattle.fileset_model.specs.Usage.{is_owned, is_unlimited, passes}
-use Rattle.fileset_model.specs.declared.command.Owner.{Owner}
-use Rattle.fileset_model.specs.declared.command.Owner.TheVariants.{User, Group, Fileset}
+use Rattle.fileset_model.specs.fileset_values.declared.command.Owner.{Owner}
+use Rattle.fileset_model.specs.fileset_values.declared.command.Owner.TheVariants.{User, Group, Fileset}
 use Rattle.fileset_model.specs.declared.fileset.Limits.{Limits}
 use Rattle.fileset_model.specs.declared.fileset.Usage.{Usage}
-use Rattle.fileset_model.specs.declared.reply.Refusal.{Refusal}
-use Rattle.fileset_model.specs.declared.reply.Refusal.TheVariants.{QuotaFiles, QuotaBlocks}
-use Rattle.fileset_model.specs.contracts.command.Owner as owner
+use Rattle.fileset_model.specs.fileset_values.declared.reply.Refusal.{Refusal}
+use Rattle.fileset_model.specs.fileset_values.declared.reply.Refusal.TheVariants.{QuotaFiles, QuotaBlocks}
+use Rattle.fileset_model.specs.fileset_values.contracts.command.Owner as owner
 use Rattle.fileset_model.specs.contracts.fileset.Limits as limits
 use Rattle.fileset_model.specs.contracts.fileset.Usage as usage
 use Rattle.quota_book.specs.Owners.{nothing}

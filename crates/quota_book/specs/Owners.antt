@@ -1,8 +1,8 @@
 -- Owners, and what they use who use nothing.
 use Rattle.std.specs.Prelude.{Bool}
 use Rattle.std.specs.Ordering.{eq_by_cmp}
-use Rattle.fileset_model.specs.Orders.{owner_cmp}
-use Rattle.fileset_model.specs.declared.command.Owner.{Owner}
+use Rattle.fileset_model.specs.fileset_values.Orders.{owner_cmp}
+use Rattle.fileset_model.specs.fileset_values.declared.command.Owner.{Owner}
 use Rattle.fileset_model.specs.declared.fileset.Usage.{Usage}
 
 abbrev pub nothing : Usage

@@ -5,11 +5,11 @@ use Rattle.std.specs.List.{IsDistinct, filter_map, flat_map}
 use Rattle.std.specs.Option.{option_map, option_map_or}
 use Rattle.std.specs.FinMap as map
 use Rattle.std.specs.FinMap.Entries.{find, put}
-use Rattle.record_table.specs.declared.record.Record.{Record}
-use Rattle.record_table.specs.declared.record.Record.TheVariants.{UserQuota, GroupQuota}
-use Rattle.fileset_model.specs.Orders.{owner_cmp}
-use Rattle.fileset_model.specs.declared.command.Owner.{Owner}
-use Rattle.fileset_model.specs.declared.command.Owner.TheVariants.{User, Group}
+use Rattle.cell_records.specs.declared.record.Record.{Record}
+use Rattle.cell_records.specs.declared.record.Record.TheVariants.{UserQuota, GroupQuota}
+use Rattle.fileset_model.specs.fileset_values.Orders.{owner_cmp}
+use Rattle.fileset_model.specs.fileset_values.declared.command.Owner.{Owner}
+use Rattle.fileset_model.specs.fileset_values.declared.command.Owner.TheVariants.{User, Group}
 use Rattle.fileset_model.specs.declared.fileset.Limits.{Limits}
 use Rattle.quota_book.specs.Owners.{same_owner}
 use Rattle.quota_book.specs.Book.{Book, HasBindingLimits, limits_in}

@@ -4,7 +4,7 @@ ghost use Rattle.quota_book.specs.Accounts.{Kept as KeptSide, Now as NowSide, is
 
 use fileset_model::{Limits, Usage};
 
-/// What an owner uses, and may use.
+/// What an owner uses, and what it may use.
 #[derive(Clone, Copy)]
 pub struct Share {
     pub usage: Usage,
@@ -14,13 +14,13 @@ pub struct Share {
 /// One of an owner's two shares.
 #[derive(Clone, Copy)]
 pub enum Side {
-    /// That which the owner has now.
+    /// What the owner has now.
     Now,
-    /// That which was kept.
+    /// What was kept.
     Kept,
 }
 
-/// An owner's share now, and what it was when it was kept, where it may have changed since.
+/// An owner's share now, and what it was when it was kept, if it may have changed since.
 #[derive(Clone, Copy)]
 pub enum Account {
     Same(Share),
@@ -28,7 +28,7 @@ pub enum Account {
 }
 
 impl Account {
-    /// That of the two shares.
+    /// One of the two shares.
     pub fn share(&self, side: Side) -> Share
         ensures { result ≡ share_on side self.now }
     {
@@ -46,7 +46,7 @@ impl Account {
         matches!(self, Account::Same(_))
     }
 
-    /// An account with this share now, and with the same one kept.
+    /// An account with this share now, and with what was kept as it is.
     pub fn with(&self, now: Share) -> Account
         ensures now { share_on NowSide result ≡ now }
         ensures kept { share_on KeptSide result ≡ share_on KeptSide self.now }

@@ -1,16 +1,15 @@
-//! Accounts by owner, as a list in the order of owners, and beside it the owners whose accounts may
-//! have changed since they were kept.
+//! Accounts by owner, as a list in the order of owners, with a list of the owners whose accounts
+//! may have changed since they were kept.
 ghost use Rattle.std.specs.Prelude.{◌≡◌, ◌+◌, ◌<◌, ◌≤◌, [], IsSome, IsTrue, OnOk, true, vec_capacity, vec_len};
 ghost use Rattle.std.specs.FinMap.Entries.{find as found_at, is_sorted};
-ghost use Rattle.fileset_model.specs.Orders.{owner_cmp};
+ghost use Rattle.fileset_model.specs.fileset_values.Orders.{owner_cmp};
 ghost use Rattle.quota_book.specs.Accounts.{AreAccounts, HaveRoom, SetsShare, SettlesAll, SettlesOne, account_at, is_same, with_owner};
 
 use crate::account::{Account, Share, Side};
-use domain_base::OutOfMemory;
-use fileset_model::{Limits, Owner, Usage};
-use sorted_entries::{find, put, replace};
+use fileset_model::entries::{find, put, replace};
+use fileset_model::{Limits, OutOfMemory, Owner, Usage};
 
-/// The account of an owner, who has none where nothing is said of the owner.
+/// The account of an owner. An owner about whom nothing is noted uses nothing and has no limits.
 pub(crate) fn account_of(accounts: &[(Owner, Account)], who: Owner) -> Account
     requires { IsTrue (is_sorted owner_cmp accounts.now) }
     ensures { result ≡ account_at accounts.now who }
@@ -30,7 +29,7 @@ pub(crate) fn account_of(accounts: &[(Owner, Account)], who: Owner) -> Account
     }
 }
 
-/// Makes room for so many owners more. After an error all is as before, and the room too.
+/// Makes room for `more` owners more. After an error all is as before, including the room.
 pub(crate) fn reserve(
     accounts: &mut Vec<(Owner, Account)>,
     changed: &mut Vec<Owner>,
@@ -47,7 +46,7 @@ pub(crate) fn reserve(
     Ok(())
 }
 
-/// Puts an owner on the list, for whom there is room, if the account has not changed so far.
+/// Puts an owner on the list, which has room for it, if the account has not changed so far.
 fn list_owner(changed: &mut Vec<Owner>, who: Owner, account: &Account)
     requires { is_same account.now ≡ true → vec_len changed.old < vec_capacity changed.old }
     ensures list { changed.new.items ≡ with_owner (is_same account.now) who changed.old.items }
@@ -58,7 +57,7 @@ fn list_owner(changed: &mut Vec<Owner>, who: Owner, account: &Account)
     }
 }
 
-/// Gives an owner, for whom there is room, that share.
+/// Gives an owner that share. There is room for the owner.
 pub(crate) fn put_share(
     accounts: &mut Vec<(Owner, Account)>,
     changed: &mut Vec<Owner>,
@@ -79,7 +78,7 @@ pub(crate) fn put_share(
     let _ = put(accounts, who, account.with(share));
 }
 
-/// Gives an owner who has an account that share. It takes no memory.
+/// Gives an owner who has an account that share. Takes no memory.
 pub(crate) fn replace_share(
     accounts: &mut Vec<(Owner, Account)>,
     changed: &mut Vec<Owner>,
@@ -99,8 +98,8 @@ pub(crate) fn replace_share(
     replace(accounts, &who, account.with(share));
 }
 
-/// Lets an owner's share be that of the two, now and as it was kept. A share of nothing stays where
-/// it is, so that no other account is moved.
+/// Makes an owner's share that of one side, now or as it was kept, for both. A share of nothing
+/// stays where it is, so that no other account is moved.
 fn settle(accounts: &mut Vec<(Owner, Account)>, who: Owner, side: Side)
     requires { IsTrue (is_sorted owner_cmp accounts.old.items) }
     ensures settles { SettlesOne side who accounts.old.items accounts.new.items }
@@ -114,7 +113,7 @@ fn settle(accounts: &mut Vec<(Owner, Account)>, who: Owner, side: Side)
     replace(accounts, &who, Account::Same(share));
 }
 
-/// Lets the share of each owner be that of the two, now and as it was kept. It takes no memory.
+/// Makes each owner's share that of one side, now or as it was kept, for both. Takes no memory.
 pub(crate) fn settle_all(accounts: &mut Vec<(Owner, Account)>, changed: &mut Vec<Owner>, side: Side)
     requires { AreAccounts accounts.old.items changed.old.items }
     ensures settles { SettlesAll side accounts.old.items accounts.new.items }

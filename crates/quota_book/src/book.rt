@@ -6,14 +6,14 @@ ghost use Rattle.quota_book.specs.Book.{Charges, FitsAll, HasAll, HasNoTrace, Re
 use crate::account::{Account, Share, Side};
 use crate::accounts::{account_of, put_share, reserve, settle_all};
 use crate::totals::{charge_all, refund_all};
-use domain_base::OutOfMemory;
-use fileset_model::{Limits, Owner, Refusal, Usage};
+use fileset_model::{Limits, OutOfMemory, Owner, Refusal, Usage};
 use std::alloc::Global;
 use std::marker::Model;
 
-/// What the users and groups of a fileset use, and all of it, with their limits, now and as they
-/// were kept. An owner who used something once, or had limits, has a place from then on, so that no
-/// other is moved as a change is kept or taken back. Each call looks an owner up by halving.
+/// What the users and groups of a fileset use, and what the whole fileset uses, with their limits,
+/// now and as they were kept. An owner who once used something or had limits has a place from then
+/// on, so that no other owner is moved when a change is kept or taken back. Each call finds an
+/// owner by halving.
 #[derive(Drop)]
 pub struct QuotaBook {
     accounts: Vec<(Owner, Account)>,
@@ -36,7 +36,8 @@ impl Model for QuotaBook {
 }
 
 impl QuotaBook {
-    /// No one uses anything, and there are no limits; that is kept. It takes no memory.
+    /// A book in which no one uses anything and there are no limits. This is also what is kept.
+    /// Takes no memory.
     pub fn new(alloc: Global) -> QuotaBook
         ensures { result ≡ record { book = empty_book; kept = empty_book } }
     {
@@ -53,15 +54,15 @@ impl QuotaBook {
         account_of(&self.accounts, who).share(Side::Now).usage
     }
 
-    /// An owner's limits, of which 0 is none.
+    /// An owner's limits. A limit of 0 means no limit.
     pub fn limits(&self, who: Owner) -> Limits
         ensures { result ≡ limits_in self.now.book who }
     {
         account_of(&self.accounts, who).share(Side::Now).limits
     }
 
-    /// What the owner's limits refuse where so many more files and blocks are asked for: files come
-    /// first. None exactly where they refuse neither.
+    /// What the owner's limits refuse if `files` more files and `blocks` more blocks of 512 bytes
+    /// are asked for. Files are checked first. Returns None if and only if they refuse neither.
     pub fn ask(&self, who: Owner, files: u64, blocks: u64) -> Option<Refusal>
         ensures { result ≡ refusal_in self.now.book who files blocks }
     {
@@ -102,8 +103,8 @@ impl QuotaBook {
         Ok(())
     }
 
-    /// Adds so many files and blocks to what the user, the group and the fileset use. The sums are
-    /// below 2^64. After an error the book is as before.
+    /// Adds `files` files and `blocks` blocks to what the user, the group and the fileset use. The
+    /// sums are below 2^64. After an error the book is as before.
     pub fn charge(&mut self, uid: u32, gid: u32, files: u64, blocks: u64) -> Result<(), OutOfMemory>
         requires { FitsAll uid gid files blocks (used self.old.book) }
         ensures ok { OnOk result (Charges uid gid files blocks self.old.book self.new.book) }
@@ -124,8 +125,8 @@ impl QuotaBook {
         Ok(())
     }
 
-    /// Takes so many files and blocks from what the user, the group and the fileset use, each of
-    /// whom uses so much. It takes no memory.
+    /// Takes `files` files and `blocks` blocks from what the user, the group and the fileset use.
+    /// Each of them uses at least that much. Takes no memory.
     pub fn refund(&mut self, uid: u32, gid: u32, files: u64, blocks: u64)
         requires { HasAll uid gid files blocks (used self.old.book) }
         ensures refunds { Refunds uid gid files blocks self.old.book self.new.book }
@@ -143,7 +144,7 @@ impl QuotaBook {
         );
     }
 
-    /// Keeps the book as it is now. It takes no memory, and the time of what has changed.
+    /// Keeps the book as it is now. Takes no memory, and time in proportion to what has changed.
     pub fn keep(&mut self)
         ensures book { self.new.book ≡ self.old.book }
         ensures kept { self.new.kept ≡ self.old.book }
@@ -152,7 +153,8 @@ impl QuotaBook {
         settle_all(&mut self.accounts, &mut self.changed, Side::Now);
     }
 
-    /// Lets the book be as it was kept. It takes no memory, and the time of what has changed.
+    /// Takes the book back to what was kept. Takes no memory, and time in proportion to what has
+    /// changed.
     pub fn take_back(&mut self)
         ensures book { self.new.book ≡ self.old.kept }
         ensures kept { self.new.kept ≡ self.old.kept }
@@ -162,7 +164,7 @@ impl QuotaBook {
     }
 }
 
-/// Whether so many more would pass a limit, of which 0 is none.
+/// Whether `asked` more would pass a limit. A limit of 0 means no limit.
 fn passes(limit: u64, used: u64, asked: u64) -> bool
     ensures { result ≡ passes_limit limit used asked }
 {

@@ -3,20 +3,21 @@ ghost use Rattle.std.specs.Prelude.{◌≡◌, ◌+◌, ◌∷◌, ◌++◌, ℕ
 ghost use Rattle.std.specs.FinMap as map;
 ghost use Rattle.fileset_model.specs.Apply.{empty_fileset, is_named_elsewhere, linked as with_path, moved as with_move, with_change, with_node, without};
 ghost use Rattle.fileset_model.specs.Fileset.{Fileset};
-ghost use Rattle.fileset_model.specs.Orders.{Path};
+ghost use Rattle.fileset_model.specs.fileset_values.Orders.{Path};
 ghost use Rattle.fileset_model.specs.Paths.{first_refusal};
 ghost use Rattle.fileset_model.specs.Usage.{blocks_of, quota_refusal, with_limits};
-ghost use Rattle.fileset_model.specs.declared.command.Owner.{Owner};
+ghost use Rattle.fileset_model.specs.fileset_values.declared.command.Owner.{Owner};
 ghost use Rattle.fileset_model.specs.declared.fileset.Limits.{Limits};
-ghost use Rattle.fileset_model.specs.declared.command.Owner.TheVariants.{User, Group, Fileset as WholeFileset};
+ghost use Rattle.fileset_model.specs.fileset_values.declared.command.Owner.TheVariants.{User, Group, Fileset as WholeFileset};
 ghost use Rattle.fileset_model.specs.declared.node.Node.{Node};
 ghost use Rattle.quota_book.specs.Book.{Book, Charges, HasAll, Refunds, empty_book, refusal_in, used};
 ghost use Rattle.quota_book.specs.Owners.{same_owner};
 ghost use Rattle.quota_book.specs.QuotaCells.{Said, all_said, limits_at, touched, with_quota};
 ghost use Rattle.quota_book.specs.Sums.{ChangesNode, CountsMore, IsBookOf, IsNotRoot, gid_of, uid_of};
 
-/// The law that a charge keeps the totals the sums from scratch: where one file or directory counts
-/// so much more after a change than before it, the book with that charge is the new fileset's.
+/// The law that a charge keeps the totals equal to sums from scratch: if one file or directory
+/// counts that much more after a change than before it, the book with that charge is the new
+/// fileset's.
 pub fn charges_keep_the_sums()
     ensures { (old new : Fileset) (number : ℕ) (was is : Option Node) (uid gid files blocks : ℕ)
         (book charged : Book) → IsBookOf book old → ChangesNode number was is old new
@@ -24,7 +25,7 @@ pub fn charges_keep_the_sums()
         → IsBookOf charged new }
 {}
 
-/// The law that a refund keeps them so too, and that what is refunded was counted.
+/// The law that a refund keeps them equal too, and that what is refunded was counted.
 pub fn refunds_keep_the_sums()
     ensures sums { (old new : Fileset) (number : ℕ) (was is : Option Node)
         (uid gid files blocks : ℕ) (book refunded : Book) → IsBookOf book old
@@ -36,8 +37,8 @@ pub fn refunds_keep_the_sums()
         → HasAll uid gid files blocks (used book) }
 {}
 
-/// The law that a fileset's book answers as its check says: of the user, the group and the fileset
-/// in turn. The book of a fileset with a root alone is empty.
+/// The law that a fileset's book answers as the fileset's check does: for the user, the group and
+/// the fileset in turn. The book of a fileset with only a root is empty.
 pub fn books_answer_as_filesets()
     ensures asked { (book : Book) (tree : Fileset) (uid gid files blocks : ℕ) → IsBookOf book tree
         → quota_refusal tree uid gid files blocks
@@ -47,8 +48,9 @@ pub fn books_answer_as_filesets()
     ensures empty { (root : ℕ) → IsBookOf empty_book (empty_fileset root) }
 {}
 
-/// The law that the changes of a fileset by which a file or directory comes, changes and goes are
-/// changes of one: a new one at a path, another one in its place, and its last path taken away.
+/// The law that the changes of a fileset by which a file or directory comes, changes or goes are
+/// changes of one node: a new one at a path, another one in its place, and its last path taken
+/// away.
 pub fn filesets_change_one_by_one()
     ensures made { (tree : Fileset) (path : Path) (number : ℕ) (node : Node) → ¬ path ≡ []
         → IsNotRoot tree number → map.get tree.nodes number ≡ None
@@ -64,7 +66,7 @@ pub fn filesets_change_one_by_one()
 {}
 
 /// The law that the other changes keep the sums without a charge: a second path of a file, one of
-/// its paths taken away where it has another, all below a path moved, and limits set.
+/// its paths taken away if it has another, all below a path moved, and limits set.
 pub fn sums_stay_without_a_charge()
     ensures linked { (tree : Fileset) (path to : Path) (book : Book) → ¬ to ≡ []
         → IsBookOf book tree → IsBookOf book (with_path path to tree) }
@@ -79,8 +81,8 @@ pub fn sums_stay_without_a_charge()
         (record tree { limits = with_limits tree.limits who limits }) }
 {}
 
-/// The law that a file or directory counts one file and its blocks, for its ids, and that one with
-/// the same ids and more blocks counts these more.
+/// The law that a file or directory counts one file and its blocks for its ids, and that one with
+/// the same ids and more blocks counts the additional blocks.
 pub fn nodes_count_for_their_ids()
     ensures one { (node : Node) → CountsMore (uid_of node) (gid_of node) 1 (blocks_of node) None
         (Some node) }
@@ -90,7 +92,7 @@ pub fn nodes_count_for_their_ids()
 {}
 
 /// The law that a change of an owner's limits is a change of the one cell that it touches, or of a
-/// cell that is added where it touches none: all other owners keep their limits.
+/// cell that is added if it touches none. All other owners keep their limits.
 pub fn one_cell_is_touched()
     ensures touched { (cells : List Said) (who other : Owner) (limits : Limits) (k : ℕ)
         → touched cells who ≡ Some k

@@ -1,4 +1,4 @@
-//! What the owners of a fileset use of it, and how much they may.
+//! What the owners of a fileset use of it, and how much they may use.
 #![tactic(auto)]
 
 mod account;
@@ -15,3 +15,6 @@ pub use laws::{
     sums_stay_without_a_charge,
 };
 pub use quota_cells::{are_once, read_limits};
+
+// What stands below and is named above.
+pub use fileset_model::{Limits, Owner};

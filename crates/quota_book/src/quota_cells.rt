@@ -1,14 +1,13 @@
 //! Limits, read from the records of quota cells.
 ghost use Rattle.std.specs.Prelude.{◌≡◌, ◌↔◌, IfOk, IsTrue, OnErr, OnOk, Some, option_map};
 ghost use Rattle.std.specs.FinMap.Entries.{is_sorted};
-ghost use Rattle.fileset_model.specs.Orders.{owner_cmp};
+ghost use Rattle.fileset_model.specs.fileset_values.Orders.{owner_cmp};
 ghost use Rattle.quota_book.specs.QuotaCells.{AreOnce, HasLimits, Notes, NotesSaid, TakesLimits, limits_said, said_by};
 
 use crate::book::QuotaBook;
-use domain_base::OutOfMemory;
-use fileset_model::{Limits, Owner};
-use record_table::Record;
-use sorted_entries::{find, put};
+use cell_records::Record;
+use fileset_model::entries::{find, put};
+use fileset_model::{Limits, OutOfMemory, Owner};
 use std::alloc::Global;
 
 /// Sets the limits that a record says, if it says any. After an error the book is as before.
@@ -37,7 +36,7 @@ fn set_limits(book: &mut QuotaBook, who: Owner, files: u64, blocks: u64) -> Resu
     book.set_limits(who, Limits { files, blocks })
 }
 
-/// The owner that a record is of, if it says limits.
+/// The owner that a record is about, if it says limits.
 fn owner_of(said: &Record) -> Option<Owner>
     ensures { result ≡ option_map (λ e. e.0) (limits_said said.now) }
 {
@@ -48,7 +47,7 @@ fn owner_of(said: &Record) -> Option<Owner>
     }
 }
 
-/// Notes an owner; false where the owner was noted before.
+/// Notes an owner. Returns false if the owner was noted before.
 fn note(seen: &mut Vec<(Owner, ())>, who: Owner) -> Result<bool, OutOfMemory>
     requires { IsTrue (is_sorted owner_cmp seen.old.items) }
     ensures noted { IfOk result (Notes who seen.old.items seen.new.items) }
@@ -63,7 +62,7 @@ fn note(seen: &mut Vec<(Owner, ())>, who: Owner) -> Result<bool, OutOfMemory>
     }
 }
 
-/// Notes the owner of a record, if it says limits; false where the owner was noted before.
+/// Notes the owner of a record, if it says limits. Returns false if the owner was noted before.
 fn note_record(seen: &mut Vec<(Owner, ())>, said: &Record) -> Result<bool, OutOfMemory>
     requires { IsTrue (is_sorted owner_cmp seen.old.items) }
     ensures noted { IfOk result (NotesSaid (limits_said said.now) seen.old.items seen.new.items) }
@@ -89,7 +88,7 @@ pub fn are_once(alloc: Global, records: &[Record]) -> Result<bool, OutOfMemory>
 }
 
 /// The book of a fileset that has nothing yet, with the limits of users and groups that the records
-/// of its quota cells say, of no owner twice. That is kept.
+/// of its quota cells say. They say no owner's limits twice. This book is also what is kept.
 pub fn read_limits(alloc: Global, records: &[Record]) -> Result<QuotaBook, OutOfMemory>
     requires { AreOnce (said_by records.now) }
     ensures limits { IfOk result (λ books. HasLimits (said_by records.now) books.book) }

@@ -7,10 +7,10 @@ ghost use Rattle.quota_book.specs.Owners.{same_owner};
 
 use crate::account::{Account, Share, Side};
 use crate::accounts::{account_of, put_share, replace_share};
+use fileset_model::entries::find;
 use fileset_model::{Owner, Usage};
-use sorted_entries::find;
 
-/// Adds to what an owner uses, for whom there is room.
+/// Adds to what an owner uses. There is room for the owner.
 fn add(
     accounts: &mut Vec<(Owner, Account)>,
     changed: &mut Vec<Owner>,
@@ -37,7 +37,7 @@ fn add(
     put_share(accounts, changed, who, Share { usage, limits });
 }
 
-/// Takes from what an owner uses. It takes no memory.
+/// Takes from what an owner uses. Takes no memory.
 fn subtract(
     accounts: &mut Vec<(Owner, Account)>,
     changed: &mut Vec<Owner>,
@@ -66,7 +66,7 @@ fn subtract(
     replace_share(accounts, changed, who, Share { usage, limits });
 }
 
-/// Adds to what the user, the group and the fileset use, for whom there is room.
+/// Adds to what the user, the group and the fileset use. There is room for these owners.
 pub(crate) fn charge_all(
     accounts: &mut Vec<(Owner, Account)>,
     changed: &mut Vec<Owner>,
@@ -89,7 +89,7 @@ pub(crate) fn charge_all(
     add(accounts, changed, Owner::Fileset, files, blocks);
 }
 
-/// Takes from what the user, the group and the fileset use. It takes no memory.
+/// Takes from what the user, the group and the fileset use. Takes no memory.
 pub(crate) fn refund_all(
     accounts: &mut Vec<(Owner, Account)>,
     changed: &mut Vec<Owner>,

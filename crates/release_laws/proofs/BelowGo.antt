@@ -1,9 +1,9 @@
 -- All of a domain but its filesets stands on over steps, and no file comes to be read through another.
 use Rattle.std.proofs.Common.{ℕ}
-use Rattle.deferred_delete.specs.Standing.{Files}
-use Rattle.domain_standing.specs.Chains.{IndexesAt}
-use Rattle.domain_standing.specs.Domain.{DomainNow, all_of}
-use Rattle.domain_standing.specs.Sources.{StandAlone}
+use Rattle.standing_laws.specs.release_list.Standing.{Files}
+use Rattle.standing_laws.specs.domain_standing.Chains.{IndexesAt}
+use Rattle.standing_laws.specs.domain_standing.Domain.{DomainNow, all_of}
+use Rattle.standing_laws.specs.domain_standing.Sources.{StandAlone}
 use Rattle.standing_laws.specs.Leads.{StandsBelow}
 use Rattle.standing_laws.proofs.SourcesSaid.{alone_by_files}
 use Rattle.release_laws.specs.Released.{QuotasStay, Releases}

@@ -1,13 +1,13 @@
 -- Bits of bitmaps say what they said after steps.
 use Rattle.std.proofs.Common.{ℕ, ◌<◌, sym, subst}
-use Rattle.log_ring.specs.Homes.{IsMember}
-use Rattle.deferred_delete.specs.Standing.{Files}
-use Rattle.domain_layout.specs.Reached.{Frame, first_cells}
-use Rattle.domain_standing.specs.Chains.{IndexesAt}
-use Rattle.domain_standing.specs.Domain.{DomainNow}
-use Rattle.domain_standing.specs.Holders.Holder.{of_volume}
-use Rattle.domain_standing.specs.Standing.{IsMarkedBut}
-use Rattle.free_space.specs.Spaces.{Spaces}
+use Rattle.standing_laws.specs.log_ring.Homes.{IsMember}
+use Rattle.standing_laws.specs.release_list.Standing.{Files}
+use Rattle.standing_laws.specs.domain_layout.Reached.{Frame, first_cells}
+use Rattle.standing_laws.specs.domain_standing.Chains.{IndexesAt}
+use Rattle.standing_laws.specs.domain_standing.Domain.{DomainNow}
+use Rattle.standing_laws.specs.domain_standing.Holders.Holder.{of_volume}
+use Rattle.standing_laws.specs.domain_standing.Standing.{IsMarkedBut}
+use Rattle.standing_laws.specs.free_space.Spaces.{Spaces}
 use Rattle.standing_laws.specs.Leads.{StandsBelow}
 use Rattle.standing_laws.specs.OtherPages.{KeepsVolumes}
 use Rattle.standing_laws.proofs.BitsStay.{bits_stay}

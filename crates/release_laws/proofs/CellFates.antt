@@ -1,21 +1,21 @@
 -- What becomes of the cells of a chain of which something is let go of.
 use Rattle.std.proofs.Common.{◌≡◌, ◌∙◌, ◌⊎◌, inl, inr, zero, suc, List, [], ◌∷◌, Option, Some, None, Contains, refl, sym, ap, subst, arith}
 use Rattle.std.specs.Option.{option_and_then}
-use Rattle.domain_base.specs.declared.place.CellAt.{CellAt}
-use Rattle.page_store.specs.Pages.{Pages}
-use Rattle.record_table.specs.declared.record.Leftover.TheVariants.{Trim}
-use Rattle.bmt_mcells.specs.declared.head.CellKind.{CellKind}
-use Rattle.bmt_mcells.specs.declared.head.CellKind.TheVariants.{Chain, Primary, Quota}
-use Rattle.bmt_mcells.specs.Cell.{record_of}
-use Rattle.bmt_mcells.specs.Chain.{PlacedCell, places}
-use Rattle.bitfile_cells.specs.FileChanges.{KeepKinds, SameFirst, map_kinds}
-use Rattle.bitfile_cells.specs.Files.{AreFile, IsFile, IsMapCell}
-use Rattle.bitfile_cells.proofs.ChainChanges.{inside_places}
-use Rattle.bitfile_core.specs.Changes.{with_first}
-use Rattle.deferred_delete.specs.Listed.{left_of, leftover_in}
-use Rattle.deferred_delete.specs.Standing.{IsFileOrQuotas, IsQuotas}
-use Rattle.deferred_delete.specs.Steps.{leads_to, says_trimmed}
-use Rattle.deferred_delete.proofs.Standings.{trim_file}
+use Rattle.standing_laws.specs.domain_base.declared.place.CellAt.{CellAt}
+use Rattle.standing_laws.specs.page_store.Pages.{Pages}
+use Rattle.standing_laws.specs.cell_records.declared.record.Leftover.TheVariants.{Trim}
+use Rattle.standing_laws.specs.metadata_cells.declared.head.CellKind.{CellKind}
+use Rattle.standing_laws.specs.metadata_cells.declared.head.CellKind.TheVariants.{Chain, Primary, Quota}
+use Rattle.standing_laws.specs.metadata_cells.Cell.{record_of}
+use Rattle.standing_laws.specs.metadata_cells.Chain.{PlacedCell, places}
+use Rattle.standing_laws.specs.file_chains.FileChanges.{KeepKinds, SameFirst, map_kinds}
+use Rattle.standing_laws.specs.file_chains.Files.{AreFile, IsFile, IsMapCell}
+use Rattle.standing_laws.proofs.OfFileChains.ChainChanges.{inside_places}
+use Rattle.standing_laws.specs.fileset_files.Changes.{with_first}
+use Rattle.standing_laws.specs.release_list.Listed.{left_of, leftover_in}
+use Rattle.standing_laws.specs.release_list.Standing.{IsFileOrQuotas, IsQuotas}
+use Rattle.standing_laws.specs.release_list.Steps.{leads_to, says_trimmed}
+use Rattle.standing_laws.proofs.OfReleaseList.Standings.{trim_file}
 use Rattle.standing_laws.proofs.CellsNow.{all_in, later_chain, placed}
 
 -- ---- what becomes of a cell

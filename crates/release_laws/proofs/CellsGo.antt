@@ -1,14 +1,14 @@
 -- What a step makes of single cells where no file is read through another one.
 use Rattle.std.proofs.Common.{◌≡◌, ◌∙◌, inl, Contains, sym, subst, ⊎_elim}
-use Rattle.domain_base.specs.declared.place.CellAt.{CellAt}
-use Rattle.bmt_mcells.specs.Cell.{Cell}
-use Rattle.bmt_mcells.specs.Chain.{PlacedCell, StandsAt}
-use Rattle.bmt_mcells.proofs.Unique.{one_stands}
-use Rattle.free_cells.specs.Cells.{table_of}
-use Rattle.bitfile_cells.specs.Changes.{IsInUse}
-use Rattle.bitfile_cells.specs.MapChanges.{IsHandedOut}
-use Rattle.deferred_delete.specs.Steps.{IsWell, Now}
-use Rattle.deferred_delete.proofs.Standings.{stand_chain}
+use Rattle.standing_laws.specs.domain_base.declared.place.CellAt.{CellAt}
+use Rattle.standing_laws.specs.metadata_cells.Cell.{Cell}
+use Rattle.standing_laws.specs.metadata_cells.Chain.{PlacedCell, StandsAt}
+use Rattle.standing_laws.proofs.OfMetadataCells.Unique.{one_stands}
+use Rattle.standing_laws.specs.free_cells.Cells.{table_of}
+use Rattle.standing_laws.specs.file_chains.Changes.{IsInUse}
+use Rattle.standing_laws.specs.file_chains.MapChanges.{IsHandedOut}
+use Rattle.standing_laws.specs.release_list.Steps.{IsWell, Now}
+use Rattle.standing_laws.proofs.OfReleaseList.Standings.{stand_chain}
 use Rattle.standing_laws.proofs.CellsNow.{all_in, in_or_out}
 use Rattle.release_laws.proofs.CellFates.{CellGoes, stays}
 use Rattle.release_laws.proofs.Going.{after_there, cell_there, chain_stands, handed_out}

@@ -1,10 +1,10 @@
 -- Where a chain has one cell less, all but one of its cells are left.
 use Rattle.std.proofs.Common.{◌≡◌, ◌∙◌, zero, suc, ◌+◌, ◌≤◌, List, [], ◌∷◌, ◌++◌, length, Contains, refl, sym, ap, subst, arith}
-use Rattle.domain_base.specs.declared.place.CellAt.{CellAt}
-use Rattle.bmt_mcells.specs.Cell.{Cell}
-use Rattle.bmt_mcells.specs.Chain.{AreDistinct, PlacedCell, places}
-use Rattle.bitfile_cells.proofs.ChainChanges.{in_first, in_later}
-use Rattle.chain_release.proofs.Chains.{in_less}
+use Rattle.standing_laws.specs.domain_base.declared.place.CellAt.{CellAt}
+use Rattle.standing_laws.specs.metadata_cells.Cell.{Cell}
+use Rattle.standing_laws.specs.metadata_cells.Chain.{AreDistinct, PlacedCell, places}
+use Rattle.standing_laws.proofs.OfFileChains.ChainChanges.{in_first, in_later}
+use Rattle.standing_laws.proofs.OfFileRelease.Chains.{in_less}
 
 -- a chain is those in front of a cell, the cell, and those behind it
 record IsSplit (cs : List PlacedCell) (a : CellAt) : Type 0 where

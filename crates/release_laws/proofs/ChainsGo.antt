@@ -1,25 +1,25 @@
 -- The chains of a domain stand on over steps.
 use Rattle.std.proofs.Common.{◌≡◌, ◌∙◌, ◌⊎◌, inl, inr, ℕ, List, [], ◌∷◌, Option, Some, None, IsSome, Contains, is_some, refl, sym, ap, subst, arith, ⊎_elim, true≢false}
 use Rattle.std.specs.Option.{option_and_then}
-use Rattle.domain_base.specs.declared.place.CellAt.{CellAt}
-use Rattle.domain_base.specs.declared.place.Home.{Home}
-use Rattle.page_store.specs.Pages.{Pages}
-use Rattle.record_table.specs.declared.record.Leftover.TheVariants.{Remove, Trim}
-use Rattle.bmt_mcells.specs.Chain.{PlacedCell}
-use Rattle.bitfile_core.specs.Shown.{index_in, index_of}
-use Rattle.stored_index.specs.Homes.{AreIndexHomes}
-use Rattle.stored_index.proofs.Homes.{kept_same}
-use Rattle.deferred_delete.specs.Listed.{left_of}
-use Rattle.deferred_delete.specs.Standing.{Files}
-use Rattle.deferred_delete.specs.Steps.{IsWell}
-use Rattle.deferred_laws.proofs.SaysStill.{said_so}
-use Rattle.domain_layout.specs.CellRules.{IsFirstPlace}
-use Rattle.domain_layout.specs.Owners.{IsOnTable}
-use Rattle.bmt_mcells.specs.Cell.{Cell}
-use Rattle.domain_standing.specs.Chains.{HasEmptyTags, IndexesAt, IsInChain, IsOnList, IsQuotaToGo, IsSomebodys, IsToDo, StandChains}
-use Rattle.domain_standing.specs.Domain.{DomainNow, all_of, layout_of}
-use Rattle.domain_standing.specs.Holders.Holder.{of_index}
-use Rattle.domain_standing.specs.Sources.{StandAlone}
+use Rattle.standing_laws.specs.domain_base.declared.place.CellAt.{CellAt}
+use Rattle.standing_laws.specs.domain_base.declared.place.Home.{Home}
+use Rattle.standing_laws.specs.page_store.Pages.{Pages}
+use Rattle.standing_laws.specs.cell_records.declared.record.Leftover.TheVariants.{Remove, Trim}
+use Rattle.standing_laws.specs.metadata_cells.Chain.{PlacedCell}
+use Rattle.standing_laws.specs.fileset_files.Shown.{index_in, index_of}
+use Rattle.standing_laws.specs.index_pages.Homes.{AreIndexHomes}
+use Rattle.standing_laws.proofs.OfIndexPages.Homes.{kept_same}
+use Rattle.standing_laws.specs.release_list.Listed.{left_of}
+use Rattle.standing_laws.specs.release_list.Standing.{Files}
+use Rattle.standing_laws.specs.release_list.Steps.{IsWell}
+use Rattle.standing_laws.proofs.OfReleaseSteps.SaysStill.{said_so}
+use Rattle.standing_laws.specs.domain_layout.CellRules.{IsFirstPlace}
+use Rattle.standing_laws.specs.domain_layout.Owners.{IsOnTable}
+use Rattle.standing_laws.specs.metadata_cells.Cell.{Cell}
+use Rattle.standing_laws.specs.domain_standing.Chains.{HasEmptyTags, IndexesAt, IsInChain, IsOnList, IsQuotaToGo, IsSomebodys, IsToDo, StandChains}
+use Rattle.standing_laws.specs.domain_standing.Domain.{DomainNow, all_of, layout_of}
+use Rattle.standing_laws.specs.domain_standing.Holders.Holder.{of_index}
+use Rattle.standing_laws.specs.domain_standing.Sources.{StandAlone}
 use Rattle.standing_laws.specs.Leads.{StandsBelow}
 use Rattle.standing_laws.proofs.HomeLists.{in_get}
 use Rattle.release_laws.specs.Released.{QuotasStay, Releases}

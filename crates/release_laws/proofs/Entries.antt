@@ -1,10 +1,10 @@
 -- No entry of a domain in which each file stands alone gives a clone's file.
 use Rattle.std.proofs.Common.{◌≡◌, Option, Some, None, IsSomeAnd, refl, subst}
-use Rattle.domain_base.specs.declared.place.CellAt.{CellAt}
-use Rattle.deferred_delete.specs.Standing.{Files}
-use Rattle.domain_standing.specs.Chains.{IndexesAt}
-use Rattle.domain_standing.specs.Domain.{DomainNow, all_of}
-use Rattle.domain_standing.specs.Sources.{StandAlone}
+use Rattle.standing_laws.specs.domain_base.declared.place.CellAt.{CellAt}
+use Rattle.standing_laws.specs.release_list.Standing.{Files}
+use Rattle.standing_laws.specs.domain_standing.Chains.{IndexesAt}
+use Rattle.standing_laws.specs.domain_standing.Domain.{DomainNow, all_of}
+use Rattle.standing_laws.specs.domain_standing.Sources.{StandAlone}
 use Rattle.standing_laws.specs.Leads.{StandsBelow}
 use Rattle.standing_laws.proofs.SourcesSaid.{files_alone}
 use Rattle.release_laws.proofs.SeenTrimmed.{GiveNone}

@@ -5,44 +5,44 @@ use Rattle.std.proofs.Math.Logic.{∥∥₁_elim, ∥∥₁_map, ∥∥₁_prop}
 use Rattle.std.specs.Coded.{Coded-set, coded_option, coded_list}
 use Rattle.std.specs.List.{AllByRecursion}
 use Rattle.std.specs.Option.{option_and_then}
-use Rattle.domain_base.specs.declared.place.CellAt.{CellAt}
-use Rattle.domain_base.specs.declared.place.Home.{Home}
-use Rattle.domain_base.specs.declared.place.Tag.{Tag}
-use Rattle.record_table.specs.Records.{kind_of}
-use Rattle.record_table.specs.declared.record.Record.{Record}
-use Rattle.record_table.specs.declared.record.Leftover.TheVariants.{Remove}
-use Rattle.bmt_mcells.specs.Cell.{Cell}
-use Rattle.bmt_mcells.specs.Chain.{Follow, LinksFrom, PlacedCell, StandsAt, places}
-use Rattle.bmt_mcells.specs.declared.head.CellHead.{CellHead}
-use Rattle.bmt_mcells.specs.declared.head.CellKind.{CellKind}
-use Rattle.bmt_mcells.specs.declared.head.CellKind.TheVariants.{Chain, Primary, Quota, Volume}
-use Rattle.bmt_mcells.proofs.Unique.{one_stands}
-use Rattle.tag_dirs.specs.Directory.{cell_of}
-use Rattle.tag_dirs.specs.declared.dir.TagPlace.{TagPlace}
-use Rattle.free_cells.specs.Cells.{table_of}
-use Rattle.bitfile_cells.specs.Files.{IsFile}
-use Rattle.chain_release.specs.Releases.{AreAllOnce}
-use Rattle.bitfile_core.specs.Files.{AreApart, LeadsToFile}
-use Rattle.set_laws.proofs.Stable.{IsStable, all, both, cell_kind_code, contains, determined, equal, first_of, if_some, is_none, is_there, less, not, nothing, one_number, place_code, placed_code, prop, second_of, some_and, unit}
-use Rattle.set_laws.proofs.StableCells.{is_file, linked}
-use Rattle.set_laws.proofs.StableFiles.{allocated, held_apart}
-use Rattle.deferred_delete.specs.declared.list.Entry.{Entry}
-use Rattle.deferred_delete.specs.Listed.{IsEntry, SaysWhatGoes, left_of, leftover_in, record_at}
-use Rattle.deferred_delete.specs.Standing.{Files, IsFileOrQuotas, IsQuotaCell, IsQuotas, IsStanding, source_at}
-use Rattle.deferred_delete.specs.Steps.{IsWell}
-use Rattle.deferred_delete.proofs.Spread.{none_not}
-use Rattle.deferred_delete.proofs.Standings.{quota_first}
-use Rattle.deferred_laws.proofs.Tags.{file_start, named}
-use Rattle.domain_layout.proofs.OneShape.{links_same}
-use Rattle.domain_layout.specs.CellRules.{IsFirstPlace}
-use Rattle.domain_layout.specs.Layout.{first_tag_of}
-use Rattle.domain_layout.specs.Owners.{IsOnTable}
-use Rattle.domain_standing.specs.Chains.{AreQuotasOf, HasEmptyTags, HasFilesAmong, IndexesAt, IsInChain, IsQuotaOf, IsSomebodys, StandsInSlot}
-use Rattle.domain_standing.specs.Domain.{DomainNow, all_of, layout_of, named_by}
-use Rattle.domain_standing.specs.Tables.{StandTables}
-use Rattle.log_ring.specs.Homes.{IsMember}
-use Rattle.layout_laws.proofs.Reached.{member_or_none}
-use Rattle.page_store.specs.Pages.{Pages}
+use Rattle.standing_laws.specs.domain_base.declared.place.CellAt.{CellAt}
+use Rattle.standing_laws.specs.domain_base.declared.place.Home.{Home}
+use Rattle.standing_laws.specs.domain_base.declared.place.Tag.{Tag}
+use Rattle.standing_laws.specs.cell_records.Records.{kind_of}
+use Rattle.standing_laws.specs.cell_records.declared.record.Record.{Record}
+use Rattle.standing_laws.specs.cell_records.declared.record.Leftover.TheVariants.{Remove}
+use Rattle.standing_laws.specs.metadata_cells.Cell.{Cell}
+use Rattle.standing_laws.specs.metadata_cells.Chain.{Follow, LinksFrom, PlacedCell, StandsAt, places}
+use Rattle.standing_laws.specs.metadata_cells.declared.head.CellHead.{CellHead}
+use Rattle.standing_laws.specs.metadata_cells.declared.head.CellKind.{CellKind}
+use Rattle.standing_laws.specs.metadata_cells.declared.head.CellKind.TheVariants.{Chain, Primary, Quota, Volume}
+use Rattle.standing_laws.proofs.OfMetadataCells.Unique.{one_stands}
+use Rattle.standing_laws.specs.tag_dirs.Directory.{cell_of}
+use Rattle.standing_laws.specs.tag_dirs.declared.dir.TagPlace.{TagPlace}
+use Rattle.standing_laws.specs.free_cells.Cells.{table_of}
+use Rattle.standing_laws.specs.file_chains.Files.{IsFile}
+use Rattle.standing_laws.specs.file_release.Releases.{AreAllOnce}
+use Rattle.standing_laws.specs.fileset_files.Files.{AreApart, LeadsToFile}
+use Rattle.standing_laws.proofs.OfStoredSet.Stable.{IsStable, all, both, cell_kind_code, contains, determined, equal, first_of, if_some, is_none, is_there, less, not, nothing, one_number, place_code, placed_code, prop, second_of, some_and, unit}
+use Rattle.standing_laws.proofs.OfStoredSet.StableCells.{is_file, linked}
+use Rattle.standing_laws.proofs.OfStoredSet.StableFiles.{allocated, held_apart}
+use Rattle.standing_laws.specs.release_list.declared.list.Entry.{Entry}
+use Rattle.standing_laws.specs.release_list.Listed.{IsEntry, SaysWhatGoes, left_of, leftover_in, record_at}
+use Rattle.standing_laws.specs.release_list.Standing.{Files, IsFileOrQuotas, IsQuotaCell, IsQuotas, IsStanding, source_at}
+use Rattle.standing_laws.specs.release_list.Steps.{IsWell}
+use Rattle.standing_laws.proofs.OfReleaseList.Spread.{none_not}
+use Rattle.standing_laws.proofs.OfReleaseList.Standings.{quota_first}
+use Rattle.standing_laws.proofs.OfReleaseSteps.Tags.{file_start, named}
+use Rattle.standing_laws.proofs.OfDomainLayout.OneShape.{links_same}
+use Rattle.standing_laws.specs.domain_layout.CellRules.{IsFirstPlace}
+use Rattle.standing_laws.specs.domain_layout.Layout.{first_tag_of}
+use Rattle.standing_laws.specs.domain_layout.Owners.{IsOnTable}
+use Rattle.standing_laws.specs.domain_standing.Chains.{AreQuotasOf, HasEmptyTags, HasFilesAmong, IndexesAt, IsInChain, IsQuotaOf, IsSomebodys, StandsInSlot}
+use Rattle.standing_laws.specs.domain_standing.Domain.{DomainNow, all_of, layout_of, named_by}
+use Rattle.standing_laws.specs.domain_standing.Tables.{StandTables}
+use Rattle.standing_laws.specs.log_ring.Homes.{IsMember}
+use Rattle.standing_laws.proofs.OfDomainLayout.Reached.{member_or_none}
+use Rattle.standing_laws.specs.page_store.Pages.{Pages}
 use Rattle.standing_laws.specs.Leads.{StandsBelow}
 use Rattle.release_laws.specs.AtHand.{StandsWithSome}
 use Rattle.standing_laws.proofs.CellsNow.{all_in, later_chain, placed}

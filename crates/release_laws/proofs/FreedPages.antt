@@ -4,31 +4,31 @@ use Rattle.std.proofs.lemmas.Bool.{cases_Bool, true≢false}
 use Rattle.std.proofs.lemmas.Option.{slice_get_within}
 use Rattle.std.specs.FinSet.{contains}
 use Rattle.std.specs.Option.{option_map}
-use Rattle.domain_base.specs.declared.place.CellAt.{CellAt}
-use Rattle.domain_base.specs.declared.place.Home.{Home}
-use Rattle.bmt_mcells.specs.Chain.{PlacedCell}
-use Rattle.page_store.specs.Bitfiles.{Bitfiles}
-use Rattle.tag_dirs.specs.declared.dir.TagPlace.{TagPlace}
-use Rattle.free_space.specs.Spaces.{CanTake, IsHeld, volume_of}
-use Rattle.free_space.specs.VolumeSpace.{IsFreePage, VolumeSpace, is_among, with_none_waiting}
-use Rattle.free_space.proofs.Freeing.{contains-without_waiting}
-use Rattle.free_space.proofs.Kept.{volume_of-changed}
-use Rattle.free_cells.specs.Cells.{is_closed, table_of}
-use Rattle.bitfile_cells.specs.Allocated.{AreAllocated}
-use Rattle.bitfile_core.specs.Files.{Chains}
-use Rattle.bitfile_core.specs.Together.{AreTogether, IsFilePage, IsHeldApart}
-use Rattle.domain_standing.specs.Sets.{StandsAsSet}
-use Rattle.fileset_model.specs.Filesets.{FilesetMap}
-use Rattle.deferred_delete.specs.Standing.{Files}
-use Rattle.deferred_delete.specs.Steps.{IsWell}
-use Rattle.domain_layout.specs.Layout.{first_tag_of}
-use Rattle.domain_layout.specs.Reached.{first_cells}
-use Rattle.domain_standing.specs.Chains.{AreQuotasOf, HasEmptyTags, HasFilesAmong, IndexesAt, StandChains, StandsInSlot}
-use Rattle.domain_standing.specs.Domain.{DomainNow, all_of, named_by}
-use Rattle.domain_standing.specs.Holders.{AreHeldAt, HoldsOwned, IsUnheld}
-use Rattle.domain_standing.specs.Holders.Holder.{of_volume}
-use Rattle.domain_standing.specs.Slots.{StandSlots}
-use Rattle.domain_standing.specs.Standing.{IsMarkedBut}
+use Rattle.standing_laws.specs.domain_base.declared.place.CellAt.{CellAt}
+use Rattle.standing_laws.specs.domain_base.declared.place.Home.{Home}
+use Rattle.standing_laws.specs.metadata_cells.Chain.{PlacedCell}
+use Rattle.standing_laws.specs.page_store.Bitfiles.{Bitfiles}
+use Rattle.standing_laws.specs.tag_dirs.declared.dir.TagPlace.{TagPlace}
+use Rattle.standing_laws.specs.free_space.Spaces.{CanTake, IsHeld, volume_of}
+use Rattle.standing_laws.specs.free_space.VolumeSpace.{IsFreePage, VolumeSpace, is_among, with_none_waiting}
+use Rattle.standing_laws.proofs.OfFreeSpace.Freeing.{contains-without_waiting}
+use Rattle.standing_laws.proofs.OfFreeSpace.Kept.{volume_of-changed}
+use Rattle.standing_laws.specs.free_cells.Cells.{is_closed, table_of}
+use Rattle.standing_laws.specs.file_chains.Allocated.{AreAllocated}
+use Rattle.standing_laws.specs.fileset_files.Files.{Chains}
+use Rattle.standing_laws.specs.fileset_files.Together.{AreTogether, IsFilePage, IsHeldApart}
+use Rattle.standing_laws.specs.stored_set.Sets.{StandsAsSet}
+use Rattle.standing_laws.specs.fileset_model.Filesets.{FilesetMap}
+use Rattle.standing_laws.specs.release_list.Standing.{Files}
+use Rattle.standing_laws.specs.release_list.Steps.{IsWell}
+use Rattle.standing_laws.specs.domain_layout.Layout.{first_tag_of}
+use Rattle.standing_laws.specs.domain_layout.Reached.{first_cells}
+use Rattle.standing_laws.specs.domain_standing.Chains.{AreQuotasOf, HasEmptyTags, HasFilesAmong, IndexesAt, StandChains, StandsInSlot}
+use Rattle.standing_laws.specs.domain_standing.Domain.{DomainNow, all_of, named_by}
+use Rattle.standing_laws.specs.domain_standing.Holders.{AreHeldAt, HoldsOwned, IsUnheld}
+use Rattle.standing_laws.specs.domain_standing.Holders.Holder.{of_volume}
+use Rattle.standing_laws.specs.domain_standing.Slots.{StandSlots}
+use Rattle.standing_laws.specs.domain_standing.Standing.{IsMarkedBut}
 use Rattle.standing_laws.specs.Leads.{StandsBelow}
 use Rattle.release_laws.specs.Freed.{freed}
 

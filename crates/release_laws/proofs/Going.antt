@@ -1,30 +1,30 @@
 -- What any number of steps change where no file is read through another one.
 use Rattle.std.proofs.Common.{◌≡◌, ◌∙◌, ◌⊎◌, inl, inr, ℕ, zero, suc, ◌+◌, ◌≤◌, List, [], ◌∷◌, length, Option, Some, None, IsSomeAnd, Contains, refl, sym, ap, subst, arith, ⊎_elim}
-use Rattle.domain_base.specs.declared.place.CellAt.{CellAt}
-use Rattle.domain_base.specs.declared.place.Home.{Home}
-use Rattle.domain_base.specs.declared.version.Version.{Version}
-use Rattle.page_store.specs.Pages.{Pages}
-use Rattle.bmt_mcells.specs.declared.head.CellKind.TheVariants.{Chain, Primary, Quota, Volume}
-use Rattle.bmt_mcells.specs.Cell.{Cell}
-use Rattle.bmt_mcells.specs.Chain.{PlacedCell, StandsAt, places}
-use Rattle.bmt_mcells.proofs.Unique.{one_stands}
-use Rattle.extent_maps.specs.declared.run.PagePlace.TheVariants.{At}
-use Rattle.free_cells.specs.Cells.{is_closed, table_of}
-use Rattle.free_cells.proofs.Belongs.{used_not_free}
-use Rattle.bitfile_cells.specs.Changes.{IsInUse}
-use Rattle.bitfile_cells.specs.MapChanges.{IsHandedOut, LeavesOffTables}
-use Rattle.bitfile_cells.proofs.Added.{used_of}
-use Rattle.chain_release.proofs.Once.{absent_not}
-use Rattle.deferred_delete.specs.Listing.{Listing}
-use Rattle.deferred_delete.specs.Standing.{IsFileOrQuotas, IsQuotaCell, IsStanding, Source, place_in, source_at}
-use Rattle.deferred_delete.specs.Steps.{IsWell, Now, Step, Steps, file_ends, more, none, pages_go, quota_goes, reading_ends, tag_page_goes, trim_ends}
-use Rattle.deferred_delete.proofs.Lists.{longer}
-use Rattle.deferred_delete.proofs.Spread.{none_not, some_same}
-use Rattle.deferred_delete.proofs.Standings.{not_nil, place_by, same_or_not, stand_chain, standing}
-use Rattle.deferred_laws.proofs.ReadBack.{no_more_read}
-use Rattle.deferred_laws.proofs.Said.{SaysSame, says_itself}
-use Rattle.deferred_laws.proofs.Wells.{well_step}
-use Rattle.domain_standing.specs.Chains.{IsInChain}
+use Rattle.standing_laws.specs.domain_base.declared.place.CellAt.{CellAt}
+use Rattle.standing_laws.specs.domain_base.declared.place.Home.{Home}
+use Rattle.standing_laws.specs.domain_base.declared.version.Version.{Version}
+use Rattle.standing_laws.specs.page_store.Pages.{Pages}
+use Rattle.standing_laws.specs.metadata_cells.declared.head.CellKind.TheVariants.{Chain, Primary, Quota, Volume}
+use Rattle.standing_laws.specs.metadata_cells.Cell.{Cell}
+use Rattle.standing_laws.specs.metadata_cells.Chain.{PlacedCell, StandsAt, places}
+use Rattle.standing_laws.proofs.OfMetadataCells.Unique.{one_stands}
+use Rattle.standing_laws.specs.extent_maps.declared.run.PagePlace.TheVariants.{At}
+use Rattle.standing_laws.specs.free_cells.Cells.{is_closed, table_of}
+use Rattle.standing_laws.proofs.OfFreeCells.Belongs.{used_not_free}
+use Rattle.standing_laws.specs.file_chains.Changes.{IsInUse}
+use Rattle.standing_laws.specs.file_chains.MapChanges.{IsHandedOut, LeavesOffTables}
+use Rattle.standing_laws.proofs.OfFileChains.Added.{used_of}
+use Rattle.standing_laws.proofs.OfFileRelease.Once.{absent_not}
+use Rattle.standing_laws.specs.release_list.Listing.{Listing}
+use Rattle.standing_laws.specs.release_list.Standing.{IsFileOrQuotas, IsQuotaCell, IsStanding, Source, place_in, source_at}
+use Rattle.standing_laws.specs.release_list.Steps.{IsWell, Now, Step, Steps, file_ends, more, none, pages_go, quota_goes, reading_ends, tag_page_goes, trim_ends}
+use Rattle.standing_laws.proofs.OfReleaseList.Lists.{longer}
+use Rattle.standing_laws.proofs.OfReleaseList.Spread.{none_not, some_same}
+use Rattle.standing_laws.proofs.OfReleaseList.Standings.{not_nil, place_by, same_or_not, stand_chain, standing}
+use Rattle.standing_laws.proofs.OfReleaseSteps.ReadBack.{no_more_read}
+use Rattle.standing_laws.proofs.OfReleaseSteps.Said.{SaysSame, says_itself}
+use Rattle.standing_laws.proofs.OfReleaseSteps.Wells.{well_step}
+use Rattle.standing_laws.specs.domain_standing.Chains.{IsInChain}
 use Rattle.standing_laws.proofs.CellsNow.{all_in, below_28, in_or_out, later_chain, placed}
 use Rattle.release_laws.proofs.OneStep.{AreAlone, OneGoes, one_goes}
 use Rattle.release_laws.proofs.SpaceWaits.{SpacesKeep, spaces_itself, spaces_joined}

@@ -3,26 +3,26 @@ use Rattle.std.proofs.Common.{◌≡◌, ◌∙◌, ◌⊎◌, ⊎_elim, inl, in
 use Rattle.std.proofs.lemmas.Bool.{both_ways, cases_Bool, eq-eqb, eqb-true, or_cases, or_right, true≢false}
 use Rattle.std.specs.FinSet.{contains}
 use Rattle.std.specs.Option.{option_map_or}
-use Rattle.domain_base.specs.declared.place.CellAt.{CellAt}
-use Rattle.domain_base.specs.declared.place.Home.{Home}
-use Rattle.bmt_mcells.specs.Chain.{PlacedCell}
-use Rattle.extent_maps.specs.declared.run.PagePlace.TheVariants.{Absent, At}
-use Rattle.free_space.specs.declared.waiting.Waiting.{Waiting}
-use Rattle.free_space.specs.VolumeSpace.{VolumeSpace, is_among, is_waiting}
-use Rattle.free_space.specs.Spaces.{volume_of}
-use Rattle.bitfile_cells.specs.Files.{places_of}
-use Rattle.chain_release.specs.Releases.{use_of}
-use Rattle.chain_release.proofs.Once.{absent_not}
-use Rattle.deferred_delete.specs.Standing.{Files}
-use Rattle.deferred_laws.specs.Waits.{IsLetGo, WaitsSince, waiting_at}
-use Rattle.deferred_laws.proofs.Gone.{gone_waits}
-use Rattle.deferred_laws.proofs.OnlyThese.{only_these_wait}
-use Rattle.deferred_laws.proofs.WaitOn.{wait_still}
-use Rattle.domain_standing.specs.Chains.{IndexesAt}
-use Rattle.domain_standing.specs.Domain.{DomainNow, all_of}
-use Rattle.domain_standing.specs.Holders.{AreHeldAt, AreHeldOn, Holder, Holds, HoldsOwned, IsUnheld}
-use Rattle.domain_standing.specs.Holders.Holder.{of_cells, of_file, of_index, of_log, of_table, of_tags, of_volume}
-use Rattle.domain_standing.specs.Sources.{StandAlone}
+use Rattle.standing_laws.specs.domain_base.declared.place.CellAt.{CellAt}
+use Rattle.standing_laws.specs.domain_base.declared.place.Home.{Home}
+use Rattle.standing_laws.specs.metadata_cells.Chain.{PlacedCell}
+use Rattle.standing_laws.specs.extent_maps.declared.run.PagePlace.TheVariants.{Absent, At}
+use Rattle.standing_laws.specs.free_space.declared.waiting.Waiting.{Waiting}
+use Rattle.standing_laws.specs.free_space.VolumeSpace.{VolumeSpace, is_among, is_waiting}
+use Rattle.standing_laws.specs.free_space.Spaces.{volume_of}
+use Rattle.standing_laws.specs.file_chains.Files.{places_of}
+use Rattle.standing_laws.specs.file_release.Releases.{use_of}
+use Rattle.standing_laws.proofs.OfFileRelease.Once.{absent_not}
+use Rattle.standing_laws.specs.release_list.Standing.{Files}
+use Rattle.standing_laws.specs.release_steps.Waits.{IsLetGo, WaitsSince, waiting_at}
+use Rattle.standing_laws.proofs.OfReleaseSteps.Gone.{gone_waits}
+use Rattle.standing_laws.proofs.OfReleaseSteps.OnlyThese.{only_these_wait}
+use Rattle.standing_laws.proofs.OfReleaseSteps.WaitOn.{wait_still}
+use Rattle.standing_laws.specs.domain_standing.Chains.{IndexesAt}
+use Rattle.standing_laws.specs.domain_standing.Domain.{DomainNow, all_of}
+use Rattle.standing_laws.specs.domain_standing.Holders.{AreHeldAt, AreHeldOn, Holder, Holds, HoldsOwned, IsUnheld}
+use Rattle.standing_laws.specs.domain_standing.Holders.Holder.{of_cells, of_file, of_index, of_log, of_table, of_tags, of_volume}
+use Rattle.standing_laws.specs.domain_standing.Sources.{StandAlone}
 use Rattle.standing_laws.specs.Leads.{StandsBelow}
 use Rattle.release_laws.specs.Released.{Releases}
 use Rattle.release_laws.proofs.Led.{go, led, led_is, on_now, on_was, well_was}

@@ -1,22 +1,22 @@
 -- A domain once things on its list were let go of, with its frame, table and tags as they were.
 use Rattle.std.proofs.Common.{◌≡◌, ◌∙◌, ◌⊎◌, ℕ, List, length, Contains, sym, ap, subst, arith, ⊎_elim, true≢false}
-use Rattle.domain_base.specs.declared.place.CellAt.{CellAt}
-use Rattle.log_ring.specs.Homes.{IsMember}
-use Rattle.bmt_mcells.specs.Cell.{Cell}
-use Rattle.free_cells.specs.Cells.{table_of}
-use Rattle.free_cells.proofs.Belongs.{used_not_free}
-use Rattle.bitfile_cells.specs.Changes.{IsInUse}
-use Rattle.bitfile_cells.specs.MapChanges.{IsHandedOut}
-use Rattle.bitfile_cells.proofs.Added.{used_of}
-use Rattle.deferred_delete.specs.Standing.{Files}
-use Rattle.deferred_delete.specs.Steps.{IsWell}
-use Rattle.deferred_laws.proofs.Wells.{wells_stay}
-use Rattle.layout_laws.proofs.Reached.{member_or_none}
-use Rattle.domain_layout.specs.CellRules.{IsFirstPlace}
-use Rattle.domain_layout.specs.Owners.{IsOnTable}
-use Rattle.domain_standing.specs.Chains.{IndexesAt, IsInChain}
-use Rattle.domain_standing.specs.Domain.{DomainNow, all_of, layout_of}
-use Rattle.domain_standing.specs.Sources.{StandAlone}
+use Rattle.standing_laws.specs.domain_base.declared.place.CellAt.{CellAt}
+use Rattle.standing_laws.specs.log_ring.Homes.{IsMember}
+use Rattle.standing_laws.specs.metadata_cells.Cell.{Cell}
+use Rattle.standing_laws.specs.free_cells.Cells.{table_of}
+use Rattle.standing_laws.proofs.OfFreeCells.Belongs.{used_not_free}
+use Rattle.standing_laws.specs.file_chains.Changes.{IsInUse}
+use Rattle.standing_laws.specs.file_chains.MapChanges.{IsHandedOut}
+use Rattle.standing_laws.proofs.OfFileChains.Added.{used_of}
+use Rattle.standing_laws.specs.release_list.Standing.{Files}
+use Rattle.standing_laws.specs.release_list.Steps.{IsWell}
+use Rattle.standing_laws.proofs.OfReleaseSteps.Wells.{wells_stay}
+use Rattle.standing_laws.proofs.OfDomainLayout.Reached.{member_or_none}
+use Rattle.standing_laws.specs.domain_layout.CellRules.{IsFirstPlace}
+use Rattle.standing_laws.specs.domain_layout.Owners.{IsOnTable}
+use Rattle.standing_laws.specs.domain_standing.Chains.{IndexesAt, IsInChain}
+use Rattle.standing_laws.specs.domain_standing.Domain.{DomainNow, all_of, layout_of}
+use Rattle.standing_laws.specs.domain_standing.Sources.{StandAlone}
 use Rattle.standing_laws.specs.Leads.{StandsBelow}
 use Rattle.standing_laws.proofs.CellsNow.{below_28, used_or_free}
 use Rattle.standing_laws.proofs.SourcesSaid.{files_alone}

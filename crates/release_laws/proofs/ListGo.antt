@@ -1,27 +1,27 @@
 -- What is on the list is still to be done over steps, and what is to be done is on it.
 use Rattle.std.proofs.Common.{◌≡◌, ◌∙◌, ◌⊎◌, inl, inr, ℕ, zero, suc, List, [], ◌∷◌, Option, Some, None, IsSome, is_some, Contains, refl, sym, ap, subst, arith, ⊎_elim, true≢false}
 use Rattle.std.specs.Option.{option_and_then}
-use Rattle.domain_base.specs.declared.place.CellAt.{CellAt}
-use Rattle.domain_base.specs.declared.version.Version.{Version}
-use Rattle.record_table.specs.Records.{kind_of}
-use Rattle.record_table.specs.declared.record.Leftover.{Leftover}
-use Rattle.record_table.specs.declared.record.Leftover.TheVariants.{Remove, Trim}
-use Rattle.record_table.specs.declared.record.Record.{Record}
-use Rattle.record_table.specs.declared.record.Record.TheVariants as written
-use Rattle.bmt_mcells.specs.Cell.{record_of}
-use Rattle.bmt_mcells.specs.Chain.{PlacedCell}
-use Rattle.bitfile_cells.proofs.MapRecords.{kind_found}
-use Rattle.bitfile_core.specs.Files.{first_record, keep_in, keep_of}
-use Rattle.deferred_delete.specs.declared.list.Entry.{Entry}
-use Rattle.deferred_delete.specs.Listed.{GoesWhole, left_of, leftover_in}
-use Rattle.deferred_delete.specs.Steps.{IsWell, Now, Steps, more, none}
-use Rattle.deferred_delete.proofs.Spread.{none_not}
-use Rattle.deferred_delete.proofs.Standings.{same_or_not}
-use Rattle.deferred_laws.specs.Kept.{HasNoEntry, KeepsAll, KeepsOrIsTrimmed}
-use Rattle.deferred_laws.proofs.AllKept.{trimmed_keep_all}
-use Rattle.deferred_laws.proofs.Emptied.{removed_are_gone}
-use Rattle.deferred_laws.proofs.LeftStill.{left_so}
-use Rattle.deferred_laws.proofs.Narrower.{narrower_step}
+use Rattle.standing_laws.specs.domain_base.declared.place.CellAt.{CellAt}
+use Rattle.standing_laws.specs.domain_base.declared.version.Version.{Version}
+use Rattle.standing_laws.specs.cell_records.Records.{kind_of}
+use Rattle.standing_laws.specs.cell_records.declared.record.Leftover.{Leftover}
+use Rattle.standing_laws.specs.cell_records.declared.record.Leftover.TheVariants.{Remove, Trim}
+use Rattle.standing_laws.specs.cell_records.declared.record.Record.{Record}
+use Rattle.standing_laws.specs.cell_records.declared.record.Record.TheVariants as written
+use Rattle.standing_laws.specs.metadata_cells.Cell.{record_of}
+use Rattle.standing_laws.specs.metadata_cells.Chain.{PlacedCell}
+use Rattle.standing_laws.proofs.OfFileChains.MapRecords.{kind_found}
+use Rattle.standing_laws.specs.fileset_files.Files.{first_record, keep_in, keep_of}
+use Rattle.standing_laws.specs.release_list.declared.list.Entry.{Entry}
+use Rattle.standing_laws.specs.release_list.Listed.{GoesWhole, left_of, leftover_in}
+use Rattle.standing_laws.specs.release_list.Steps.{IsWell, Now, Steps, more, none}
+use Rattle.standing_laws.proofs.OfReleaseList.Spread.{none_not}
+use Rattle.standing_laws.proofs.OfReleaseList.Standings.{same_or_not}
+use Rattle.standing_laws.specs.release_steps.Kept.{HasNoEntry, KeepsAll, KeepsOrIsTrimmed}
+use Rattle.standing_laws.proofs.OfReleaseSteps.AllKept.{trimmed_keep_all}
+use Rattle.standing_laws.proofs.OfReleaseSteps.Emptied.{removed_are_gone}
+use Rattle.standing_laws.proofs.OfReleaseSteps.LeftStill.{left_so}
+use Rattle.standing_laws.proofs.OfReleaseSteps.Narrower.{narrower_step}
 
 -- ---- what is left to be done
 

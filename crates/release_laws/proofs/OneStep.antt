@@ -2,41 +2,41 @@
 -- some of its cells, and pages that wait then.
 use Rattle.std.proofs.Common.{◌≡◌, ◌∙◌, ◌⊎◌, ◌||◌, inl, inr, ℕ, zero, suc, Bool, false, List, [], ◌∷◌, ◌++◌, length, Option, Some, None, IsSomeAnd, Contains, refl, sym, ap, subst, arith, ⊎_elim}
 use Rattle.std.proofs.lemmas.Bool.{or_parts, true≢false}
-use Rattle.domain_base.specs.declared.place.CellAt.{CellAt}
-use Rattle.domain_base.specs.declared.place.Home.{Home}
-use Rattle.domain_base.specs.declared.version.Version.{Version}
-use Rattle.page_store.specs.Pages.{Pages}
-use Rattle.bmt_mcells.specs.Cell.{Cell}
-use Rattle.bmt_mcells.specs.Chain.{AreDistinct, LeavesOthers, PlacedCell, StandsAt, is_at, places}
-use Rattle.extent_maps.specs.declared.run.PagePlace.{PagePlace}
-use Rattle.extent_maps.specs.declared.run.PagePlace.TheVariants.{Absent, At, Hole}
-use Rattle.extent_maps.proofs.EditLemmas.{over}
-use Rattle.free_cells.specs.Cells.{Cells, FreesCell, is_closed, is_free, table_of}
-use Rattle.free_space.specs.Spaces.{Spaces}
-use Rattle.bitfile_cells.specs.Files.{places_of}
-use Rattle.bitfile_cells.specs.MapChanges.{IsHandedOut, LeavesOffTables}
-use Rattle.bitfile_cells.proofs.ChainChanges.{at_apart}
-use Rattle.bitfile_core.specs.Changes.{with_first}
-use Rattle.chain_release.specs.declared.released.Released.{Released}
-use Rattle.chain_release.specs.declared.released.Released.TheVariants as released
-use Rattle.chain_release.specs.Releases.{Progresses, use_of}
-use Rattle.chain_release.specs.Sharing.{HasPages, IsReader, IsReleased}
-use Rattle.chain_release.proofs.Found.{places_append}
-use Rattle.chain_release.proofs.Once.{absent_not}
-use Rattle.deferred_delete.specs.declared.list.Entry.{Entry}
-use Rattle.deferred_delete.specs.Listing.{Listing}
-use Rattle.deferred_delete.specs.Standing.{Files, IsFileOrQuotas, source_at}
-use Rattle.deferred_delete.specs.Steps.{EndsFile, EndsTrim, GivesTagPage, IsWell, LetsPages, LosesQuotaCell, Now, Step, file_ends, leads_to, pages_go, quota_goes, reading_ends, says_trimmed, tag_page_goes, trim_ends}
-use Rattle.deferred_delete.proofs.Lists.{longer}
-use Rattle.deferred_delete.proofs.Spread.{has_reader, none_not}
-use Rattle.deferred_delete.proofs.Standings.{at_itself, chain_inside, linked_at, quota_place, standing}
-use Rattle.deferred_laws.proofs.Ended.{ended_other, file_gone, trim_other, trim_there}
-use Rattle.deferred_laws.proofs.FirstCells.{first_places, trimmed_keeps}
-use Rattle.deferred_laws.proofs.Fits.{Fits, trim_maps, well_fits}
-use Rattle.deferred_laws.proofs.Narrower.{in_last}
-use Rattle.deferred_laws.proofs.PagesGo.{at_other, at_source}
-use Rattle.deferred_laws.proofs.QuotaStep.{quota_beside, quota_is, quota_says}
-use Rattle.deferred_laws.proofs.Said.{SaysSame, says_first, says_trim}
+use Rattle.standing_laws.specs.domain_base.declared.place.CellAt.{CellAt}
+use Rattle.standing_laws.specs.domain_base.declared.place.Home.{Home}
+use Rattle.standing_laws.specs.domain_base.declared.version.Version.{Version}
+use Rattle.standing_laws.specs.page_store.Pages.{Pages}
+use Rattle.standing_laws.specs.metadata_cells.Cell.{Cell}
+use Rattle.standing_laws.specs.metadata_cells.Chain.{AreDistinct, LeavesOthers, PlacedCell, StandsAt, is_at, places}
+use Rattle.standing_laws.specs.extent_maps.declared.run.PagePlace.{PagePlace}
+use Rattle.standing_laws.specs.extent_maps.declared.run.PagePlace.TheVariants.{Absent, At, Hole}
+use Rattle.standing_laws.proofs.OfExtentMaps.EditLemmas.{over}
+use Rattle.standing_laws.specs.free_cells.Cells.{Cells, FreesCell, is_closed, is_free, table_of}
+use Rattle.standing_laws.specs.free_space.Spaces.{Spaces}
+use Rattle.standing_laws.specs.file_chains.Files.{places_of}
+use Rattle.standing_laws.specs.file_chains.MapChanges.{IsHandedOut, LeavesOffTables}
+use Rattle.standing_laws.proofs.OfFileChains.ChainChanges.{at_apart}
+use Rattle.standing_laws.specs.fileset_files.Changes.{with_first}
+use Rattle.standing_laws.specs.file_release.declared.released.Released.{Released}
+use Rattle.standing_laws.specs.file_release.declared.released.Released.TheVariants as released
+use Rattle.standing_laws.specs.file_release.Releases.{Progresses, use_of}
+use Rattle.standing_laws.specs.file_release.Sharing.{HasPages, IsReader, IsReleased}
+use Rattle.standing_laws.proofs.OfFileRelease.Found.{places_append}
+use Rattle.standing_laws.proofs.OfFileRelease.Once.{absent_not}
+use Rattle.standing_laws.specs.release_list.declared.list.Entry.{Entry}
+use Rattle.standing_laws.specs.release_list.Listing.{Listing}
+use Rattle.standing_laws.specs.release_list.Standing.{Files, IsFileOrQuotas, source_at}
+use Rattle.standing_laws.specs.release_list.Steps.{EndsFile, EndsTrim, GivesTagPage, IsWell, LetsPages, LosesQuotaCell, Now, Step, file_ends, leads_to, pages_go, quota_goes, reading_ends, says_trimmed, tag_page_goes, trim_ends}
+use Rattle.standing_laws.proofs.OfReleaseList.Lists.{longer}
+use Rattle.standing_laws.proofs.OfReleaseList.Spread.{has_reader, none_not}
+use Rattle.standing_laws.proofs.OfReleaseList.Standings.{at_itself, chain_inside, linked_at, quota_place, standing}
+use Rattle.standing_laws.proofs.OfReleaseSteps.Ended.{ended_other, file_gone, trim_other, trim_there}
+use Rattle.standing_laws.proofs.OfReleaseSteps.FirstCells.{first_places, trimmed_keeps}
+use Rattle.standing_laws.proofs.OfReleaseSteps.Fits.{Fits, trim_maps, well_fits}
+use Rattle.standing_laws.proofs.OfReleaseSteps.Narrower.{in_last}
+use Rattle.standing_laws.proofs.OfReleaseSteps.PagesGo.{at_other, at_source}
+use Rattle.standing_laws.proofs.OfReleaseSteps.QuotaStep.{quota_beside, quota_is, quota_says}
+use Rattle.standing_laws.proofs.OfReleaseSteps.Said.{SaysSame, says_first, says_trim}
 use Rattle.release_laws.proofs.CellFates.{CellsGo, lets_cells, no_cells, quota_cells, trim_cells}
 use Rattle.release_laws.proofs.CellsLeft.{all_left}
 use Rattle.release_laws.proofs.SpaceWaits.{SpacesKeep, spaces_given, spaces_itself}

@@ -1,19 +1,19 @@
 -- Pages that are of no table of cells are the same after steps.
 use Rattle.std.proofs.Common.{◌≡◌, ◌∙◌, ℕ, length, Contains, refl, sym, ap, subst, arith, ⊎_elim}
-use Rattle.domain_base.specs.declared.place.Home.{Home}
-use Rattle.domain_base.specs.declared.version.Version.{Version}
-use Rattle.log_ring.specs.Homes.{IsMember}
-use Rattle.free_cells.specs.Cells.{table_of}
-use Rattle.deferred_delete.specs.Standing.{Files}
-use Rattle.deferred_delete.specs.Steps.{IsWell, Now, Steps, more, none}
-use Rattle.deferred_laws.proofs.HeldSteps.{tables_on}
-use Rattle.deferred_laws.proofs.Tags.{page_stays, was_listed}
-use Rattle.deferred_laws.proofs.Wells.{well_step}
-use Rattle.domain_standing.specs.Chains.{IndexesAt}
-use Rattle.domain_standing.specs.Domain.{DomainNow, all_of}
-use Rattle.domain_standing.specs.Holders.{Holder, Holds}
-use Rattle.domain_standing.specs.Holders.Holder.{of_cells, of_tags}
-use Rattle.layout_laws.proofs.Reached.{member_or_none}
+use Rattle.standing_laws.specs.domain_base.declared.place.Home.{Home}
+use Rattle.standing_laws.specs.domain_base.declared.version.Version.{Version}
+use Rattle.standing_laws.specs.log_ring.Homes.{IsMember}
+use Rattle.standing_laws.specs.free_cells.Cells.{table_of}
+use Rattle.standing_laws.specs.release_list.Standing.{Files}
+use Rattle.standing_laws.specs.release_list.Steps.{IsWell, Now, Steps, more, none}
+use Rattle.standing_laws.proofs.OfReleaseSteps.HeldSteps.{tables_on}
+use Rattle.standing_laws.proofs.OfReleaseSteps.Tags.{page_stays, was_listed}
+use Rattle.standing_laws.proofs.OfReleaseSteps.Wells.{well_step}
+use Rattle.standing_laws.specs.domain_standing.Chains.{IndexesAt}
+use Rattle.standing_laws.specs.domain_standing.Domain.{DomainNow, all_of}
+use Rattle.standing_laws.specs.domain_standing.Holders.{Holder, Holds}
+use Rattle.standing_laws.specs.domain_standing.Holders.Holder.{of_cells, of_tags}
+use Rattle.standing_laws.proofs.OfDomainLayout.Reached.{member_or_none}
 use Rattle.standing_laws.specs.Leads.{StandsBelow}
 use Rattle.standing_laws.proofs.IndexWell.{listed_has}
 use Rattle.release_laws.specs.Released.{Releases}

@@ -2,28 +2,28 @@
 use Rattle.std.proofs.Common.{◌≡◌, ◌∙◌, ⊎_elim, inl, inr, ℕ, List, Option, Some, None, slice_get, refl, sym, ap, subst, arith}
 use Rattle.std.proofs.lemmas.Bool.{true≢false}
 use Rattle.std.specs.Option.{option_and_then}
-use Rattle.domain_base.specs.declared.place.Home.{Home}
-use Rattle.domain_base.specs.declared.place.Tag.{Tag}
-use Rattle.bmt_mcells.specs.Chain.{PlacedCell}
-use Rattle.dir_pages.specs.declared.row.Row.{Row}
-use Rattle.tag_dirs.specs.Directory.{IsDirectoryAt}
-use Rattle.bitfile_core.specs.Files.{AreFiles, Chains}
-use Rattle.bitfile_core.specs.State.{parent_in, parent_of}
-use Rattle.fileset_model.specs.Filesets.{FilesetMap}
-use Rattle.fileset_table.specs.Table.{Table}
-use Rattle.fileset_table.specs.declared.slot.FilesetEntry.{FilesetEntry}
-use Rattle.fileset_table.specs.declared.slot.SlotItem.{SlotItem}
-use Rattle.fileset_table.specs.declared.slot.SlotItem.TheVariants as slot
-use Rattle.deferred_delete.specs.Standing.{Files}
-use Rattle.deferred_delete.proofs.Spread.{none_not, some_same}
-use Rattle.domain_layout.specs.CellRules.{of_clone}
-use Rattle.domain_layout.specs.DirectoryRules.{Has, IsInItem, IsInOriginal, IsRow, RowPlace}
-use Rattle.domain_layout.specs.Seen.{SeenFile, seen_in}
-use Rattle.domain_standing.specs.Chains.{IndexesAt}
-use Rattle.domain_standing.specs.Domain.{DomainNow, item_in}
-use Rattle.domain_standing.specs.Slots.{StandSlots}
-use Rattle.domain_standing.specs.Sources.{StandAlone}
-use Rattle.domain_standing.specs.Standing.{HaveParents}
+use Rattle.standing_laws.specs.domain_base.declared.place.Home.{Home}
+use Rattle.standing_laws.specs.domain_base.declared.place.Tag.{Tag}
+use Rattle.standing_laws.specs.metadata_cells.Chain.{PlacedCell}
+use Rattle.standing_laws.specs.directory_pages.declared.row.Row.{Row}
+use Rattle.standing_laws.specs.tag_dirs.Directory.{IsDirectoryAt}
+use Rattle.standing_laws.specs.fileset_files.Files.{AreFiles, Chains}
+use Rattle.standing_laws.specs.fileset_files.State.{parent_in, parent_of}
+use Rattle.standing_laws.specs.fileset_model.Filesets.{FilesetMap}
+use Rattle.standing_laws.specs.fileset_table.Table.{Table}
+use Rattle.standing_laws.specs.fileset_table.declared.slot.FilesetEntry.{FilesetEntry}
+use Rattle.standing_laws.specs.fileset_table.declared.slot.SlotItem.{SlotItem}
+use Rattle.standing_laws.specs.fileset_table.declared.slot.SlotItem.TheVariants as slot
+use Rattle.standing_laws.specs.release_list.Standing.{Files}
+use Rattle.standing_laws.proofs.OfReleaseList.Spread.{none_not, some_same}
+use Rattle.standing_laws.specs.domain_layout.CellRules.{of_clone}
+use Rattle.standing_laws.specs.domain_layout.DirectoryRules.{Has, IsInItem, IsInOriginal, IsRow, RowPlace}
+use Rattle.standing_laws.specs.domain_layout.Seen.{SeenFile, seen_in}
+use Rattle.standing_laws.specs.domain_standing.Chains.{IndexesAt}
+use Rattle.standing_laws.specs.domain_standing.Domain.{DomainNow, item_in}
+use Rattle.standing_laws.specs.domain_standing.Slots.{StandSlots}
+use Rattle.standing_laws.specs.domain_standing.Sources.{StandAlone}
+use Rattle.standing_laws.specs.domain_standing.Standing.{HaveParents}
 use Rattle.standing_laws.specs.Leads.{StandsBelow}
 use Rattle.standing_laws.proofs.FilesetPut.{StoodIn, stood_in}
 use Rattle.standing_laws.proofs.ParentsElsewhere.{chain_at, in_original}

@@ -2,21 +2,21 @@
 -- the last thing on its list they may be let go of.
 use Rattle.std.proofs.Common.{◌≡◌, ◌∙◌, inl, inr, ℕ, List, Option, Some, None, IsSome, IsSomeAnd, refl, sym, ap, arith, ⊎_elim, true≢false}
 use Rattle.std.proofs.Math.Logic.{∥∥₁_elim, ∥∥₁_map}
-use Rattle.domain_base.specs.declared.place.CellAt.{CellAt}
-use Rattle.bmt_mcells.specs.Chain.{PlacedCell}
-use Rattle.bitfile_cells.specs.Files.{IsFile}
-use Rattle.bitfile_core.specs.Files.{first_record}
-use Rattle.deferred_delete.specs.Standing.{Files, IsFileOrQuotas, IsQuotas}
-use Rattle.deferred_delete.specs.Steps.{HasQuotas, IsWell}
-use Rattle.deferred_delete.specs.declared.list.Entry.{Entry}
-use Rattle.deferred_delete.proofs.Lists.{last_in}
-use Rattle.deferred_delete.proofs.Standings.{quota_first, standing}
-use Rattle.deferred_laws.specs.Kept.{HasNoEntry}
-use Rattle.deferred_laws.proofs.Tags.{has_attributes}
-use Rattle.domain_layout.proofs.OneShape.{links_same}
-use Rattle.domain_standing.specs.Chains.{AreQuotasOf, IndexesAt, IsQuotaOf, IsRemoved}
-use Rattle.domain_standing.specs.Domain.{DomainNow, all_of, item_in}
-use Rattle.domain_standing.specs.Sources.{StandAlone}
+use Rattle.standing_laws.specs.domain_base.declared.place.CellAt.{CellAt}
+use Rattle.standing_laws.specs.metadata_cells.Chain.{PlacedCell}
+use Rattle.standing_laws.specs.file_chains.Files.{IsFile}
+use Rattle.standing_laws.specs.fileset_files.Files.{first_record}
+use Rattle.standing_laws.specs.release_list.Standing.{Files, IsFileOrQuotas, IsQuotas}
+use Rattle.standing_laws.specs.release_list.Steps.{HasQuotas, IsWell}
+use Rattle.standing_laws.specs.release_list.declared.list.Entry.{Entry}
+use Rattle.standing_laws.proofs.OfReleaseList.Lists.{last_in}
+use Rattle.standing_laws.proofs.OfReleaseList.Standings.{quota_first, standing}
+use Rattle.standing_laws.specs.release_steps.Kept.{HasNoEntry}
+use Rattle.standing_laws.proofs.OfReleaseSteps.Tags.{has_attributes}
+use Rattle.standing_laws.proofs.OfDomainLayout.OneShape.{links_same}
+use Rattle.standing_laws.specs.domain_standing.Chains.{AreQuotasOf, IndexesAt, IsQuotaOf, IsRemoved}
+use Rattle.standing_laws.specs.domain_standing.Domain.{DomainNow, all_of, item_in}
+use Rattle.standing_laws.specs.domain_standing.Sources.{StandAlone}
 use Rattle.standing_laws.specs.Leads.{StandsBelow}
 use Rattle.release_laws.proofs.FilesAtHand.{files_at_hand, links}
 use Rattle.release_laws.proofs.QuotasListed.{quotas_listed, with_quotas}

@@ -3,30 +3,30 @@
 use Rattle.std.proofs.Common.{◌≡◌, ◌∙◌, ◌==◌, ◌&&◌, ◌||◌, ◌⊎◌, inl, inr, ℕ, Bool, true, false, not, List, Option, Some, None, IsSomeAnd, Contains, slice_get, refl, sym, ap, subst, ⊎_elim}
 use Rattle.std.proofs.lemmas.Bool.{both_ways, cases_Bool, eq-eqb, eqb-true, false_from_ne_true, true≢false}
 use Rattle.std.specs.Option.{option_and_then, option_map_or}
-use Rattle.domain_base.specs.declared.place.CellAt.{CellAt}
-use Rattle.domain_base.specs.declared.place.Home.{Home}
-use Rattle.bmt_mcells.specs.Cell.{Cell, record_of}
-use Rattle.tag_dirs.specs.Directory.{has_home}
-use Rattle.fileset_model.specs.Filesets.{FilesetMap}
-use Rattle.fileset_table.specs.Page.{IsTablePage}
-use Rattle.fileset_table.specs.Table.{Table, with_slot}
-use Rattle.fileset_table.specs.declared.slot.FilesetEntry.{FilesetEntry}
-use Rattle.fileset_table.specs.declared.slot.SlotItem.{SlotItem}
-use Rattle.fileset_table.specs.declared.slot.SlotItem.TheVariants as slot
-use Rattle.fileset_table.proofs.Leaving.{get_other}
-use Rattle.free_space.specs.Spaces.{Spaces}
-use Rattle.deferred_delete.specs.Standing.{Files}
-use Rattle.deferred_delete.proofs.Spread.{none_not}
-use Rattle.domain_layout.specs.CellRules.{has_first_records, has_its_kinds, has_kind, is_good_first, keeps_well, of_clone, of_original, say_removed}
-use Rattle.domain_layout.specs.Layout.{first_tag_of}
-use Rattle.domain_layout.specs.TagRules.{quota_of}
-use Rattle.domain_standing.specs.Chains.{IndexesAt, IsQuotaOf, IsRemoved}
-use Rattle.domain_standing.specs.Domain.{DomainNow, item_in}
-use Rattle.domain_standing.specs.Holders.{Holder, Holds}
-use Rattle.domain_standing.specs.Holders.Holder.{of_cells, of_index, of_table}
-use Rattle.domain_standing.specs.Slots.{StandSlots}
-use Rattle.domain_standing.specs.Sources.{StandAlone}
-use Rattle.domain_standing.specs.Standing.{HaveParents, IsMarkedBut}
+use Rattle.standing_laws.specs.domain_base.declared.place.CellAt.{CellAt}
+use Rattle.standing_laws.specs.domain_base.declared.place.Home.{Home}
+use Rattle.standing_laws.specs.metadata_cells.Cell.{Cell, record_of}
+use Rattle.standing_laws.specs.tag_dirs.Directory.{has_home}
+use Rattle.standing_laws.specs.fileset_model.Filesets.{FilesetMap}
+use Rattle.standing_laws.specs.fileset_table.Page.{IsTablePage}
+use Rattle.standing_laws.specs.fileset_table.Table.{Table, with_slot}
+use Rattle.standing_laws.specs.fileset_table.declared.slot.FilesetEntry.{FilesetEntry}
+use Rattle.standing_laws.specs.fileset_table.declared.slot.SlotItem.{SlotItem}
+use Rattle.standing_laws.specs.fileset_table.declared.slot.SlotItem.TheVariants as slot
+use Rattle.standing_laws.proofs.OfFilesetTable.Leaving.{get_other}
+use Rattle.standing_laws.specs.free_space.Spaces.{Spaces}
+use Rattle.standing_laws.specs.release_list.Standing.{Files}
+use Rattle.standing_laws.proofs.OfReleaseList.Spread.{none_not}
+use Rattle.standing_laws.specs.domain_layout.CellRules.{has_first_records, has_its_kinds, has_kind, is_good_first, keeps_well, of_clone, of_original, say_removed}
+use Rattle.standing_laws.specs.domain_layout.Layout.{first_tag_of}
+use Rattle.standing_laws.specs.domain_layout.TagRules.{quota_of}
+use Rattle.standing_laws.specs.domain_standing.Chains.{IndexesAt, IsQuotaOf, IsRemoved}
+use Rattle.standing_laws.specs.domain_standing.Domain.{DomainNow, item_in}
+use Rattle.standing_laws.specs.domain_standing.Holders.{Holder, Holds}
+use Rattle.standing_laws.specs.domain_standing.Holders.Holder.{of_cells, of_index, of_table}
+use Rattle.standing_laws.specs.domain_standing.Slots.{StandSlots}
+use Rattle.standing_laws.specs.domain_standing.Sources.{StandAlone}
+use Rattle.standing_laws.specs.domain_standing.Standing.{HaveParents, IsMarkedBut}
 use Rattle.standing_laws.specs.Leads.{StandsBelow}
 use Rattle.standing_laws.specs.Sound.{StandsSound}
 use Rattle.standing_laws.proofs.FilesetBegins.{get_set}

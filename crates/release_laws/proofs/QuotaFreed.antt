@@ -2,26 +2,26 @@
 -- comes for that; what a table says then that names it no more stands but for that.
 use Rattle.std.proofs.Common.{◌≡◌, ◌∙◌, inl, inr, ℕ, List, [], ◌∷◌, Option, Some, None, IsSomeAnd, Contains, refl, sym, ap, subst, arith, ⊎_elim}
 use Rattle.std.specs.Option.{option_and_then}
-use Rattle.domain_base.specs.declared.place.CellAt.{CellAt}
-use Rattle.record_table.specs.declared.record.Leftover.TheVariants.{Trim}
-use Rattle.page_store.specs.Pages.{Pages}
-use Rattle.bmt_mcells.specs.Chain.{PlacedCell}
-use Rattle.bitfile_core.specs.Files.{first_record}
-use Rattle.bitfile_core.specs.Shown.{index_in, index_of}
-use Rattle.free_cells.specs.Cells.{Cells}
-use Rattle.fileset_table.specs.Table.{Table}
-use Rattle.deferred_delete.specs.Listed.{leftover_in}
-use Rattle.deferred_delete.specs.Listing.{clone_but, without_clone}
-use Rattle.deferred_delete.specs.Standing.{Files, source_at, source_of}
-use Rattle.deferred_delete.specs.Steps.{EndsFile, file_ends, more, none}
-use Rattle.deferred_delete.specs.declared.list.Entry.{Entry}
-use Rattle.deferred_delete.proofs.Spread.{none_not, some_same}
-use Rattle.deferred_delete.proofs.Standings.{file_other, file_there, quota_first, quota_place, same_or_not}
-use Rattle.deferred_laws.specs.Tags.{chains_in}
-use Rattle.domain_layout.specs.Filled.{Contents}
-use Rattle.domain_standing.specs.Chains.{AreQuotasOf, HasFilesAmong, IndexesAt, IsQuotaOf, IsRemoved}
-use Rattle.domain_standing.specs.Domain.{DomainNow, all_of, item_in}
-use Rattle.domain_standing.specs.Sources.{StandAlone}
+use Rattle.standing_laws.specs.domain_base.declared.place.CellAt.{CellAt}
+use Rattle.standing_laws.specs.cell_records.declared.record.Leftover.TheVariants.{Trim}
+use Rattle.standing_laws.specs.page_store.Pages.{Pages}
+use Rattle.standing_laws.specs.metadata_cells.Chain.{PlacedCell}
+use Rattle.standing_laws.specs.fileset_files.Files.{first_record}
+use Rattle.standing_laws.specs.fileset_files.Shown.{index_in, index_of}
+use Rattle.standing_laws.specs.free_cells.Cells.{Cells}
+use Rattle.standing_laws.specs.fileset_table.Table.{Table}
+use Rattle.standing_laws.specs.release_list.Listed.{leftover_in}
+use Rattle.standing_laws.specs.release_list.Listing.{clone_but, without_clone}
+use Rattle.standing_laws.specs.release_list.Standing.{Files, source_at, source_of}
+use Rattle.standing_laws.specs.release_list.Steps.{EndsFile, file_ends, more, none}
+use Rattle.standing_laws.specs.release_list.declared.list.Entry.{Entry}
+use Rattle.standing_laws.proofs.OfReleaseList.Spread.{none_not, some_same}
+use Rattle.standing_laws.proofs.OfReleaseList.Standings.{file_other, file_there, quota_first, quota_place, same_or_not}
+use Rattle.standing_laws.specs.release_steps.Tags.{chains_in}
+use Rattle.standing_laws.specs.domain_layout.Filled.{Contents}
+use Rattle.standing_laws.specs.domain_standing.Chains.{AreQuotasOf, HasFilesAmong, IndexesAt, IsQuotaOf, IsRemoved}
+use Rattle.standing_laws.specs.domain_standing.Domain.{DomainNow, all_of, item_in}
+use Rattle.standing_laws.specs.domain_standing.Sources.{StandAlone}
 use Rattle.standing_laws.specs.Leads.{StandsBelow}
 use Rattle.standing_laws.specs.Sound.{StandsSound}
 use Rattle.standing_laws.proofs.SoundInPlace.{sound_listed}

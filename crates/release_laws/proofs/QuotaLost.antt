@@ -1,28 +1,28 @@
 -- A cell of the quota cells of what is being removed that goes is a step over the list on which they
 -- come for that.
 use Rattle.std.proofs.Common.{◌≡◌, ◌∙◌, ℕ, List, Option, Some, None, IsSomeAnd, Contains, refl, sym, ap, subst, ⊎_elim}
-use Rattle.domain_base.specs.declared.place.CellAt.{CellAt}
-use Rattle.bmt_mcells.specs.Chain.{PlacedCell}
-use Rattle.free_space.specs.Spaces.{Spaces}
-use Rattle.fileset_model.specs.Filesets.{FilesetMap}
-use Rattle.deferred_delete.specs.Standing.{Files, with_file}
-use Rattle.deferred_delete.specs.Steps.{LosesQuotaCell, more, none, quota_goes}
-use Rattle.deferred_delete.proofs.Spread.{none_not}
-use Rattle.deferred_delete.proofs.Standings.{file_other, file_there, same_or_not}
-use Rattle.domain_layout.specs.TagRules.{quota_of}
-use Rattle.domain_standing.specs.Chains.{AreQuotasOf, IndexesAt, IsQuotaOf, IsRemoved}
-use Rattle.domain_standing.specs.Domain.{DomainNow, all_of, item_in, named_by}
-use Rattle.domain_standing.specs.Sources.{StandAlone}
-use Rattle.domain_standing.specs.Slots.{StandSlots}
-use Rattle.domain_standing.specs.Standing.{HaveParents, IsMarkedBut}
+use Rattle.standing_laws.specs.domain_base.declared.place.CellAt.{CellAt}
+use Rattle.standing_laws.specs.metadata_cells.Chain.{PlacedCell}
+use Rattle.standing_laws.specs.free_space.Spaces.{Spaces}
+use Rattle.standing_laws.specs.fileset_model.Filesets.{FilesetMap}
+use Rattle.standing_laws.specs.release_list.Standing.{Files, with_file}
+use Rattle.standing_laws.specs.release_list.Steps.{LosesQuotaCell, more, none, quota_goes}
+use Rattle.standing_laws.proofs.OfReleaseList.Spread.{none_not}
+use Rattle.standing_laws.proofs.OfReleaseList.Standings.{file_other, file_there, same_or_not}
+use Rattle.standing_laws.specs.domain_layout.TagRules.{quota_of}
+use Rattle.standing_laws.specs.domain_standing.Chains.{AreQuotasOf, IndexesAt, IsQuotaOf, IsRemoved}
+use Rattle.standing_laws.specs.domain_standing.Domain.{DomainNow, all_of, item_in, named_by}
+use Rattle.standing_laws.specs.domain_standing.Sources.{StandAlone}
+use Rattle.standing_laws.specs.domain_standing.Slots.{StandSlots}
+use Rattle.standing_laws.specs.domain_standing.Standing.{HaveParents, IsMarkedBut}
 use Rattle.standing_laws.specs.Leads.{StandsBelow}
 use Rattle.standing_laws.specs.Sound.{StandsSound}
 use Rattle.standing_laws.proofs.SoundInPlace.{sound_listed}
 use Rattle.release_laws.specs.QuotaCells.{LosesQuotaOf}
 use Rattle.release_laws.specs.Released.{QuotasStay, Releases}
-use Rattle.domain_base.specs.declared.place.Home.{Home}
-use Rattle.domain_standing.specs.Holders.{Holder, Holds}
-use Rattle.domain_standing.specs.Holders.Holder.{of_cells, of_table}
+use Rattle.standing_laws.specs.domain_base.declared.place.Home.{Home}
+use Rattle.standing_laws.specs.domain_standing.Holders.{Holder, Holds}
+use Rattle.standing_laws.specs.domain_standing.Holders.Holder.{of_cells, of_table}
 use Rattle.release_laws.proofs.Led.{member_of_table}
 use Rattle.release_laws.proofs.SlotsBeside.{LeavesSlots, bits_left, parents_left, slots_left}
 use Rattle.release_laws.proofs.BelowGo.{alone_goes, below_goes}

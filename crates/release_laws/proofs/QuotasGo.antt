@@ -2,25 +2,25 @@
 use Rattle.std.proofs.Common.{◌≡◌, ◌∙◌, ◌++◌, ◌+◌, ℕ, Bool, false, List, [], ◌∷◌, Option, Some, None, IsSomeAnd, Contains, sym, ap, subst, arith, ⊎_elim}
 use Rattle.std.specs.List.{AllByRecursion, IsDistinct, cons_option, filter_map}
 use Rattle.std.specs.Option.{option_and_then}
-use Rattle.domain_base.specs.declared.place.CellAt.{CellAt}
-use Rattle.domain_base.specs.declared.version.Version.{Version}
-use Rattle.record_table.specs.declared.record.Leftover.TheVariants.{Trim}
-use Rattle.bmt_mcells.specs.Chain.{PlacedCell, records_of}
-use Rattle.bitfile_core.specs.Files.{first_record}
-use Rattle.deferred_delete.specs.Listed.{left_of, leftover_in}
-use Rattle.deferred_delete.specs.Standing.{Files, IsQuotas, Source, source_at, source_in, source_of}
-use Rattle.deferred_delete.specs.Steps.{IsWell, Now, Step, Steps, file_ends, leads_to, more, none, pages_go, quota_goes, reading_ends, tag_page_goes, trim_ends, with_clone}
-use Rattle.deferred_delete.specs.declared.list.Entry.{Entry}
-use Rattle.deferred_delete.proofs.Spread.{none_not, some_same}
-use Rattle.deferred_delete.proofs.Standings.{file_other, file_there, quota_first, same_or_not, standing}
-use Rattle.deferred_laws.proofs.Narrower.{in_last}
-use Rattle.deferred_laws.proofs.Others.{clone_other}
-use Rattle.deferred_laws.proofs.QuotaStep.{quota_beside, quota_is}
-use Rattle.deferred_laws.proofs.SaysStill.{said_so}
-use Rattle.deferred_laws.proofs.Tags.{has_attributes}
-use Rattle.deferred_laws.proofs.Wells.{wells_stay}
-use Rattle.domain_standing.specs.Chains.{AreQuotasOf}
-use Rattle.domain_standing.specs.Domain.{DomainNow}
+use Rattle.standing_laws.specs.domain_base.declared.place.CellAt.{CellAt}
+use Rattle.standing_laws.specs.domain_base.declared.version.Version.{Version}
+use Rattle.standing_laws.specs.cell_records.declared.record.Leftover.TheVariants.{Trim}
+use Rattle.standing_laws.specs.metadata_cells.Chain.{PlacedCell, records_of}
+use Rattle.standing_laws.specs.fileset_files.Files.{first_record}
+use Rattle.standing_laws.specs.release_list.Listed.{left_of, leftover_in}
+use Rattle.standing_laws.specs.release_list.Standing.{Files, IsQuotas, Source, source_at, source_in, source_of}
+use Rattle.standing_laws.specs.release_list.Steps.{IsWell, Now, Step, Steps, file_ends, leads_to, more, none, pages_go, quota_goes, reading_ends, tag_page_goes, trim_ends, with_clone}
+use Rattle.standing_laws.specs.release_list.declared.list.Entry.{Entry}
+use Rattle.standing_laws.proofs.OfReleaseList.Spread.{none_not, some_same}
+use Rattle.standing_laws.proofs.OfReleaseList.Standings.{file_other, file_there, quota_first, same_or_not, standing}
+use Rattle.standing_laws.proofs.OfReleaseSteps.Narrower.{in_last}
+use Rattle.standing_laws.proofs.OfReleaseSteps.Others.{clone_other}
+use Rattle.standing_laws.proofs.OfReleaseSteps.QuotaStep.{quota_beside, quota_is}
+use Rattle.standing_laws.proofs.OfReleaseSteps.SaysStill.{said_so}
+use Rattle.standing_laws.proofs.OfReleaseSteps.Tags.{has_attributes}
+use Rattle.standing_laws.proofs.OfReleaseSteps.Wells.{wells_stay}
+use Rattle.standing_laws.specs.domain_standing.Chains.{AreQuotasOf}
+use Rattle.standing_laws.specs.domain_standing.Domain.{DomainNow}
 
 -- ---- a list in which nothing is twice, without a part of it
 

@@ -4,28 +4,28 @@ use Rattle.std.proofs.lemmas.List.{length-append}
 use Rattle.std.proofs.Math.ListN.{get_or-append}
 use Rattle.std.proofs.lemmas.List.Elements.{Contains-append_cases}
 use Rattle.std.specs.Option.{is_some, option_and_then}
-use Rattle.domain_base.specs.declared.place.CellAt.{CellAt}
-use Rattle.domain_base.specs.declared.place.Home.{Home}
-use Rattle.domain_base.specs.declared.place.Tag.{Tag}
-use Rattle.bmt_mcells.specs.Chain.{PlacedCell}
-use Rattle.bitfile_cells.specs.Files.{IsFile}
-use Rattle.bitfile_core.specs.Files.{LeadsToFile, first_record}
-use Rattle.tag_dirs.specs.Directory.{cell_of}
-use Rattle.deferred_delete.specs.Listed.{IsEntry, left_of, leftover_in}
-use Rattle.deferred_delete.specs.Listing.{Adds}
-use Rattle.deferred_delete.specs.Standing.{Files}
-use Rattle.deferred_delete.specs.Steps.{IsWell}
-use Rattle.deferred_delete.specs.declared.list.Entry.{Entry}
-use Rattle.deferred_delete.proofs.Spread.{none_not, some_same}
-use Rattle.deferred_delete.proofs.Standings.{quota_first}
-use Rattle.deferred_laws.specs.Kept.{HasNoEntry}
-use Rattle.deferred_laws.specs.Tags.{start_of}
-use Rattle.deferred_laws.proofs.Listing.{entry_among, entry_listed, which_entry}
-use Rattle.deferred_laws.proofs.Tags.{has_attributes, named}
-use Rattle.domain_layout.specs.Layout.{first_tag_of}
-use Rattle.domain_standing.specs.Chains.{AreQuotasOf, HasFilesAmong, IndexesAt, IsOfFileset, IsOnList, IsQuotaOf, IsQuotaToGo, IsRemoved, IsToDo, StandsInSlot}
-use Rattle.domain_standing.specs.Domain.{DomainNow, all_of, item_in, named_by}
-use Rattle.domain_standing.specs.Sources.{StandAlone}
+use Rattle.standing_laws.specs.domain_base.declared.place.CellAt.{CellAt}
+use Rattle.standing_laws.specs.domain_base.declared.place.Home.{Home}
+use Rattle.standing_laws.specs.domain_base.declared.place.Tag.{Tag}
+use Rattle.standing_laws.specs.metadata_cells.Chain.{PlacedCell}
+use Rattle.standing_laws.specs.file_chains.Files.{IsFile}
+use Rattle.standing_laws.specs.fileset_files.Files.{LeadsToFile, first_record}
+use Rattle.standing_laws.specs.tag_dirs.Directory.{cell_of}
+use Rattle.standing_laws.specs.release_list.Listed.{IsEntry, left_of, leftover_in}
+use Rattle.standing_laws.specs.release_list.Listing.{Adds}
+use Rattle.standing_laws.specs.release_list.Standing.{Files}
+use Rattle.standing_laws.specs.release_list.Steps.{IsWell}
+use Rattle.standing_laws.specs.release_list.declared.list.Entry.{Entry}
+use Rattle.standing_laws.proofs.OfReleaseList.Spread.{none_not, some_same}
+use Rattle.standing_laws.proofs.OfReleaseList.Standings.{quota_first}
+use Rattle.standing_laws.specs.release_steps.Kept.{HasNoEntry}
+use Rattle.standing_laws.specs.release_steps.Tags.{start_of}
+use Rattle.standing_laws.proofs.OfReleaseSteps.Listing.{entry_among, entry_listed, which_entry}
+use Rattle.standing_laws.proofs.OfReleaseSteps.Tags.{has_attributes, named}
+use Rattle.standing_laws.specs.domain_layout.Layout.{first_tag_of}
+use Rattle.standing_laws.specs.domain_standing.Chains.{AreQuotasOf, HasFilesAmong, IndexesAt, IsOfFileset, IsOnList, IsQuotaOf, IsQuotaToGo, IsRemoved, IsToDo, StandsInSlot}
+use Rattle.standing_laws.specs.domain_standing.Domain.{DomainNow, all_of, item_in, named_by}
+use Rattle.standing_laws.specs.domain_standing.Sources.{StandAlone}
 use Rattle.standing_laws.specs.Leads.{StandsBelow}
 use Rattle.standing_laws.proofs.BelowStands.{owned_listed, rest_listed, tables_listed}
 use Rattle.standing_laws.proofs.SourcesSaid.{files_alone}

@@ -3,32 +3,32 @@ use Rattle.std.proofs.Common.{◌≡◌, ◌∙◌, ◌&&◌, ◌||◌, inl, inr
 use Rattle.std.proofs.lemmas.Bool.{and_from, and_parts, cases_Bool, eqb-true, or_cases}
 use Rattle.std.specs.List.{AllByRecursion, list_all, list_any}
 use Rattle.std.specs.Option.{option_and_then, option_map, option_map_or}
-use Rattle.record_table.specs.Records.{kind_of}
-use Rattle.record_table.specs.declared.record.Leftover.{Leftover}
-use Rattle.record_table.specs.declared.record.Leftover.TheVariants.{Trim}
-use Rattle.record_table.specs.declared.record.Record.{Record}
-use Rattle.record_table.specs.declared.record.Record.TheVariants as written
-use Rattle.bmt_mcells.specs.declared.head.CellHead.{CellHead}
-use Rattle.bmt_mcells.specs.declared.head.CellKind.TheVariants.{Chain, Primary}
-use Rattle.bmt_mcells.specs.Cell.{Cell, record_of}
-use Rattle.bmt_mcells.specs.Chain.{PlacedCell}
-use Rattle.extent_records.specs.Writing.{most_rows}
-use Rattle.bitfile_cells.specs.Changes.{with_kind}
-use Rattle.bitfile_cells.specs.FileChanges.{map_kinds, other_records}
-use Rattle.bitfile_cells.specs.Files.{IsMapCell, has_rows}
-use Rattle.bitfile_cells.proofs.MapRecords.{value_has_rows}
-use Rattle.bitfile_cells.proofs.Replaced.{all_filter, filter_false, filter_true}
-use Rattle.bitfile_core.specs.Files.{is_first_kind, says_remove}
-use Rattle.fileset_table.specs.Table.{Table}
-use Rattle.deferred_delete.specs.Listed.{leftover_in}
-use Rattle.deferred_delete.specs.Steps.{kept_all, says_trimmed}
-use Rattle.deferred_delete.proofs.Firsts.{first_same}
-use Rattle.deferred_delete.proofs.Records.{kept_of, trimmed_other}
-use Rattle.deferred_delete.proofs.Spread.{none_not, some_same}
-use Rattle.deferred_laws.proofs.AllKept.{trimmed_first}
-use Rattle.domain_layout.specs.CellRules.{agree, has_first_records, has_its_kinds, has_kind, is_chain_records, is_good_first, item_of, keeps_well, of_clone, of_original, say_removed, says_directory}
-use Rattle.domain_layout.specs.TagRules.{IsLate}
-use Rattle.domain_standing.specs.Rest.{HasNoHoles}
+use Rattle.standing_laws.specs.cell_records.Records.{kind_of}
+use Rattle.standing_laws.specs.cell_records.declared.record.Leftover.{Leftover}
+use Rattle.standing_laws.specs.cell_records.declared.record.Leftover.TheVariants.{Trim}
+use Rattle.standing_laws.specs.cell_records.declared.record.Record.{Record}
+use Rattle.standing_laws.specs.cell_records.declared.record.Record.TheVariants as written
+use Rattle.standing_laws.specs.metadata_cells.declared.head.CellHead.{CellHead}
+use Rattle.standing_laws.specs.metadata_cells.declared.head.CellKind.TheVariants.{Chain, Primary}
+use Rattle.standing_laws.specs.metadata_cells.Cell.{Cell, record_of}
+use Rattle.standing_laws.specs.metadata_cells.Chain.{PlacedCell}
+use Rattle.standing_laws.specs.extent_records.Writing.{most_rows}
+use Rattle.standing_laws.specs.file_chains.Changes.{with_kind}
+use Rattle.standing_laws.specs.file_chains.FileChanges.{map_kinds, other_records}
+use Rattle.standing_laws.specs.file_chains.Files.{IsMapCell, has_rows}
+use Rattle.standing_laws.proofs.OfFileChains.MapRecords.{value_has_rows}
+use Rattle.standing_laws.proofs.OfFileChains.Replaced.{all_filter, filter_false, filter_true}
+use Rattle.standing_laws.specs.fileset_files.Files.{is_first_kind, says_remove}
+use Rattle.standing_laws.specs.fileset_table.Table.{Table}
+use Rattle.standing_laws.specs.release_list.Listed.{leftover_in}
+use Rattle.standing_laws.specs.release_list.Steps.{kept_all, says_trimmed}
+use Rattle.standing_laws.proofs.OfReleaseList.Firsts.{first_same}
+use Rattle.standing_laws.proofs.OfReleaseList.Records.{kept_of, trimmed_other}
+use Rattle.standing_laws.proofs.OfReleaseList.Spread.{none_not, some_same}
+use Rattle.standing_laws.proofs.OfReleaseSteps.AllKept.{trimmed_first}
+use Rattle.standing_laws.specs.domain_layout.CellRules.{agree, has_first_records, has_its_kinds, has_kind, is_chain_records, is_good_first, item_of, keeps_well, of_clone, of_original, say_removed, says_directory}
+use Rattle.standing_laws.specs.domain_layout.TagRules.{IsLate}
+use Rattle.standing_laws.specs.domain_standing.Rest.{HasNoHoles}
 use Rattle.standing_laws.proofs.RestRecords.{AreKinds, all_first, first_alike, good_records, has_by_map, is_of_directory, kinds_by_maps, kinds_of_maps, kinds_put, says_keeps}
 use Rattle.release_laws.proofs.CellFates.{CellGoes, FirstGoes, IsLess, shorter, stays, trims}
 

@@ -2,28 +2,28 @@
 use Rattle.std.proofs.Common.{◌≡◌, ◌∙◌, ℕ, ◌<◌, ◌≤◌, nat_lt, Bool, true, false, List, Option, Some, None, IsSomeAnd, Contains, if◌then◌else◌, refl, sym, ap, subst, arith, ⊎_elim}
 use Rattle.std.proofs.lemmas.Bool.{cases_lt, le-ltb, lt-ltb}
 use Rattle.std.specs.Option.{option_and_then, option_map, unwrap_or}
-use Rattle.domain_base.specs.declared.place.CellAt.{CellAt}
-use Rattle.domain_base.specs.declared.version.Version.{Version}
-use Rattle.record_table.specs.declared.record.Leftover.{Leftover}
-use Rattle.record_table.specs.declared.record.Leftover.TheVariants.{Remove, Trim}
-use Rattle.bmt_mcells.specs.Chain.{PlacedCell}
-use Rattle.extent_maps.specs.Runs.{home_at}
-use Rattle.extent_maps.specs.declared.run.PagePlace.{PagePlace}
-use Rattle.extent_maps.specs.declared.run.PagePlace.TheVariants.{Absent}
-use Rattle.extent_records.specs.Writing.{places_before}
-use Rattle.bitfile_cells.specs.Files.{places_of}
-use Rattle.bitfile_core.specs.Files.{attributes_of, is_removed, keep_of}
-use Rattle.bitfile_core.specs.declared.attributes.Attributes.{Attributes}
-use Rattle.deferred_delete.specs.declared.list.Entry.{Entry}
-use Rattle.deferred_delete.specs.Listed.{from_by, left_of, stale_from}
-use Rattle.deferred_delete.specs.Steps.{IsWell, Now, Steps}
-use Rattle.deferred_delete.proofs.Spread.{none_not, some_same}
-use Rattle.deferred_laws.specs.Kept.{IsTrimmed, KeepsFront, KeepsOrIsTrimmed, SaysTheSame}
-use Rattle.deferred_laws.proofs.Fronts.{fronts_stay}
-use Rattle.deferred_laws.proofs.LeftStill.{left_so}
-use Rattle.deferred_laws.proofs.Others.{others_stay}
-use Rattle.deferred_laws.proofs.SaysStill.{said_so}
-use Rattle.domain_layout.specs.Seen.{SeenFile, kept_by, seen_in}
+use Rattle.standing_laws.specs.domain_base.declared.place.CellAt.{CellAt}
+use Rattle.standing_laws.specs.domain_base.declared.version.Version.{Version}
+use Rattle.standing_laws.specs.cell_records.declared.record.Leftover.{Leftover}
+use Rattle.standing_laws.specs.cell_records.declared.record.Leftover.TheVariants.{Remove, Trim}
+use Rattle.standing_laws.specs.metadata_cells.Chain.{PlacedCell}
+use Rattle.standing_laws.specs.extent_maps.Runs.{home_at}
+use Rattle.standing_laws.specs.extent_maps.declared.run.PagePlace.{PagePlace}
+use Rattle.standing_laws.specs.extent_maps.declared.run.PagePlace.TheVariants.{Absent}
+use Rattle.standing_laws.specs.extent_records.Writing.{places_before}
+use Rattle.standing_laws.specs.file_chains.Files.{places_of}
+use Rattle.standing_laws.specs.fileset_files.Files.{attributes_of, is_removed, keep_of}
+use Rattle.standing_laws.specs.fileset_files.declared.attributes.Attributes.{Attributes}
+use Rattle.standing_laws.specs.release_list.declared.list.Entry.{Entry}
+use Rattle.standing_laws.specs.release_list.Listed.{from_by, left_of, stale_from}
+use Rattle.standing_laws.specs.release_list.Steps.{IsWell, Now, Steps}
+use Rattle.standing_laws.proofs.OfReleaseList.Spread.{none_not, some_same}
+use Rattle.standing_laws.specs.release_steps.Kept.{IsTrimmed, KeepsFront, KeepsOrIsTrimmed, SaysTheSame}
+use Rattle.standing_laws.proofs.OfReleaseSteps.Fronts.{fronts_stay}
+use Rattle.standing_laws.proofs.OfReleaseSteps.LeftStill.{left_so}
+use Rattle.standing_laws.proofs.OfReleaseSteps.Others.{others_stay}
+use Rattle.standing_laws.proofs.OfReleaseSteps.SaysStill.{said_so}
+use Rattle.standing_laws.specs.domain_layout.Seen.{SeenFile, kept_by, seen_in}
 use Rattle.release_laws.proofs.SeenTrimmed.{GiveNone, IsCut, IsTrimming, trimmed_or_cut}
 
 -- an entry is the file's

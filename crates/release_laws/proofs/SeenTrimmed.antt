@@ -1,26 +1,26 @@
 -- What a file keeps of its pages stands where it stood, over steps in which it is trimmed.
 use Rattle.std.proofs.Common.{◌≡◌, ◌∙◌, ◌⊎◌, inl, inr, ℕ, ◌≤◌, List, Some, None, Contains, sym, ap, subst, ⊎_elim}
-use Rattle.domain_base.specs.declared.place.CellAt.{CellAt}
-use Rattle.domain_base.specs.declared.version.Version.{Version}
-use Rattle.record_table.specs.declared.record.Leftover.TheVariants.{Trim}
-use Rattle.bmt_mcells.specs.Chain.{PlacedCell}
-use Rattle.extent_maps.specs.declared.run.PagePlace.TheVariants.{Absent}
-use Rattle.bitfile_cells.specs.Files.{places_of}
-use Rattle.bitfile_core.specs.Changes.{with_first}
-use Rattle.deferred_delete.specs.declared.list.Entry.{Entry}
-use Rattle.deferred_delete.specs.Listed.{left_of, stale_from}
-use Rattle.deferred_delete.specs.Steps.{EndsTrim, IsLast, IsWell, LetsPages, Now, Step, Steps, file_ends, more, none, pages_go, quota_goes, reading_ends, says_trimmed, tag_page_goes, trim_ends}
-use Rattle.deferred_delete.proofs.Lists.{not_last}
-use Rattle.deferred_delete.proofs.Spread.{Which, none_not, other, reading, some_same, source, which}
-use Rattle.deferred_delete.proofs.Standings.{same_or_not}
-use Rattle.deferred_laws.proofs.AllKept.{trimmed_left}
-use Rattle.deferred_laws.proofs.Ended.{ended_other, same_file, trim_front, trim_once, trim_other, trim_there}
-use Rattle.deferred_laws.proofs.FirstCells.{first_places, trimmed_keeps}
-use Rattle.deferred_laws.proofs.Fits.{Fits, trim_maps, well_fits}
-use Rattle.deferred_laws.proofs.Laws.{fits_step}
-use Rattle.deferred_laws.proofs.Narrower.{in_last, narrower_step}
-use Rattle.deferred_laws.proofs.PagesGo.{after_left, after_stale, at_other, at_source}
-use Rattle.deferred_laws.proofs.QuotaStep.{not_trimmed, quota_beside}
+use Rattle.standing_laws.specs.domain_base.declared.place.CellAt.{CellAt}
+use Rattle.standing_laws.specs.domain_base.declared.version.Version.{Version}
+use Rattle.standing_laws.specs.cell_records.declared.record.Leftover.TheVariants.{Trim}
+use Rattle.standing_laws.specs.metadata_cells.Chain.{PlacedCell}
+use Rattle.standing_laws.specs.extent_maps.declared.run.PagePlace.TheVariants.{Absent}
+use Rattle.standing_laws.specs.file_chains.Files.{places_of}
+use Rattle.standing_laws.specs.fileset_files.Changes.{with_first}
+use Rattle.standing_laws.specs.release_list.declared.list.Entry.{Entry}
+use Rattle.standing_laws.specs.release_list.Listed.{left_of, stale_from}
+use Rattle.standing_laws.specs.release_list.Steps.{EndsTrim, IsLast, IsWell, LetsPages, Now, Step, Steps, file_ends, more, none, pages_go, quota_goes, reading_ends, says_trimmed, tag_page_goes, trim_ends}
+use Rattle.standing_laws.proofs.OfReleaseList.Lists.{not_last}
+use Rattle.standing_laws.proofs.OfReleaseList.Spread.{Which, none_not, other, reading, some_same, source, which}
+use Rattle.standing_laws.proofs.OfReleaseList.Standings.{same_or_not}
+use Rattle.standing_laws.proofs.OfReleaseSteps.AllKept.{trimmed_left}
+use Rattle.standing_laws.proofs.OfReleaseSteps.Ended.{ended_other, same_file, trim_front, trim_once, trim_other, trim_there}
+use Rattle.standing_laws.proofs.OfReleaseSteps.FirstCells.{first_places, trimmed_keeps}
+use Rattle.standing_laws.proofs.OfReleaseSteps.Fits.{Fits, trim_maps, well_fits}
+use Rattle.standing_laws.proofs.OfReleaseSteps.DeferredLaws.{fits_step}
+use Rattle.standing_laws.proofs.OfReleaseSteps.Narrower.{in_last, narrower_step}
+use Rattle.standing_laws.proofs.OfReleaseSteps.PagesGo.{after_left, after_stale, at_other, at_source}
+use Rattle.standing_laws.proofs.OfReleaseSteps.QuotaStep.{not_trimmed, quota_beside}
 
 -- no entry gives a clone's file
 abbrev pub GiveNone : Now → Type 0

@@ -2,69 +2,69 @@
 use Rattle.std.proofs.Common.{◌≡◌, ◌∙◌, ⊎_elim, ℕ, ◌≤◌, Bool, true, false, List, [], ◌∷◌, Option, Some, None, IfSome, IsSome, IsSomeAnd, Contains, slice_get, nat_eq, nat_lt, ◌&&◌, is_some, if◌then◌else◌, length, refl, sym, ap, subst, arith}
 use Rattle.std.proofs.lemmas.Bool.{and_parts, eqb-true, ltb-true, or_cases, true≢false}
 use Rattle.std.specs.Option.{option_and_then, option_map_or}
-use Rattle.domain_base.specs.declared.place.CellAt.{CellAt}
-use Rattle.domain_base.specs.declared.place.Home.{Home}
-use Rattle.domain_base.specs.declared.place.Kind.{Kind}
-use Rattle.domain_base.specs.declared.place.Kind.TheVariants.{Directory, File}
-use Rattle.domain_base.specs.declared.place.Tag.{Tag}
-use Rattle.page_store.specs.Bitfiles.{Bitfile}
-use Rattle.record_table.specs.Records.{kind_of}
-use Rattle.record_table.specs.declared.record.Record.{Record}
-use Rattle.record_table.specs.declared.record.Record.TheVariants as written
-use Rattle.record_table.specs.declared.record.Leftover.TheVariants.{Trim}
-use Rattle.bmt_mcells.specs.Chain.{PlacedCell, records_of}
-use Rattle.bmt_mcells.specs.Cell.{record_of}
-use Rattle.tag_dirs.specs.Directory.{IsDirectoryAt, cell_of}
-use Rattle.tag_dirs.specs.declared.dir.TagPlace.{TagPlace}
-use Rattle.tag_dirs.proofs.Reading.{same_directory}
-use Rattle.extent_maps.specs.declared.run.PagePlace.TheVariants.{Absent, At}
-use Rattle.free_cells.specs.Cells.{table_of}
-use Rattle.bitfile_cells.specs.FileChanges.{AreOnTables}
-use Rattle.bitfile_cells.specs.Files.{AreFile, IsFile, places_of}
-use Rattle.bitfile_cells.proofs.MapRecords.{kind_found}
-use Rattle.bitfile_core.specs.Files.{AreFiles, Chains, LeadsToFile, attributes_of, is_removed, keep_in, keep_of, of_live, place_at}
-use Rattle.bitfile_core.specs.declared.attributes.Attributes.{Attributes}
-use Rattle.bitfile_core.specs.Shown.{AreIndexPages, IsWhat, ShowsAt, ShowsFile, index_in, index_of, shown_page}
-use Rattle.bitfile_core.specs.State.{state_of, states_of}
-use Rattle.bitfile_core.specs.Together.{AreTogether}
-use Rattle.bitfile_core.proofs.Created.{one_chains}
-use Rattle.stored_index.specs.Homes.{AreIndexHomes}
-use Rattle.stored_index.proofs.Homes.{kept_same, one_list}
-use Rattle.set_laws.specs.Standing.{StandsShown}
-use Rattle.set_laws.specs.Whole.{IsWholeAt, IsWholeDirectory}
-use Rattle.set_laws.proofs.Kept.{index_kept, page_kept}
-use Rattle.domain_standing.specs.Sets.{StandsAsSet}
-use Rattle.fileset_model.specs.declared.fileset.FilesetSlot.{FilesetSlot}
-use Rattle.fileset_table.specs.Table.{Table}
-use Rattle.fileset_table.specs.declared.slot.FilesetEntry.{FilesetEntry}
-use Rattle.fileset_table.specs.declared.slot.SlotItem.TheVariants as slot
-use Rattle.deferred_delete.specs.declared.list.Entry.{Entry}
-use Rattle.deferred_delete.specs.Listed.{left_of}
-use Rattle.deferred_delete.specs.Standing.{Files}
-use Rattle.deferred_delete.proofs.Spread.{none_not, some_same}
-use Rattle.deferred_laws.specs.Kept.{SaysTheSame}
-use Rattle.deferred_laws.specs.Tags.{AreAmong, chains_in, start_of}
-use Rattle.deferred_laws.specs.Waits.{StandsApart}
-use Rattle.deferred_laws.proofs.HeldSteps.{held_still}
-use Rattle.deferred_laws.proofs.Others.{others_stay}
-use Rattle.deferred_laws.proofs.SaysStill.{said_so}
-use Rattle.deferred_laws.proofs.StillThere.{files_stay}
-use Rattle.deferred_laws.proofs.Tags.{IsNamed, named, tags_stay_together}
-use Rattle.domain_layout.proofs.OneShape.{links_same}
-use Rattle.domain_layout.specs.CellRules.{has_kind, keeps_well, of_original}
-use Rattle.domain_layout.specs.Layout.{first_tag_of}
-use Rattle.domain_layout.specs.Seen.{SeenFile, seen_in}
-use Rattle.domain_layout.specs.Shape.{AreQuotas, FilesetShape, IsOriginal}
-use Rattle.domain_layout.specs.TagRules.{quota_of}
-use Rattle.layout_laws.specs.Agreeing.{AgreeOnShape}
-use Rattle.layout_laws.proofs.FilledAlike.{fills}
-use Rattle.layout_laws.proofs.Reached.{member_or_none}
-use Rattle.log_ring.specs.Homes.{IsMember}
-use Rattle.domain_standing.specs.Chains.{AreQuotasOf, HasFilesAmong, IndexesAt, IsRemoved, StandsInSlot}
-use Rattle.domain_standing.specs.Domain.{DomainNow, all_of, item_in}
-use Rattle.domain_standing.specs.Holders.{Holds}
-use Rattle.domain_standing.specs.Holders.Holder.{of_file, of_index}
-use Rattle.domain_standing.specs.Sources.{StandAlone}
+use Rattle.standing_laws.specs.domain_base.declared.place.CellAt.{CellAt}
+use Rattle.standing_laws.specs.domain_base.declared.place.Home.{Home}
+use Rattle.standing_laws.specs.domain_base.declared.place.Kind.{Kind}
+use Rattle.standing_laws.specs.domain_base.declared.place.Kind.TheVariants.{Directory, File}
+use Rattle.standing_laws.specs.domain_base.declared.place.Tag.{Tag}
+use Rattle.standing_laws.specs.page_store.Bitfiles.{Bitfile}
+use Rattle.standing_laws.specs.cell_records.Records.{kind_of}
+use Rattle.standing_laws.specs.cell_records.declared.record.Record.{Record}
+use Rattle.standing_laws.specs.cell_records.declared.record.Record.TheVariants as written
+use Rattle.standing_laws.specs.cell_records.declared.record.Leftover.TheVariants.{Trim}
+use Rattle.standing_laws.specs.metadata_cells.Chain.{PlacedCell, records_of}
+use Rattle.standing_laws.specs.metadata_cells.Cell.{record_of}
+use Rattle.standing_laws.specs.tag_dirs.Directory.{IsDirectoryAt, cell_of}
+use Rattle.standing_laws.specs.tag_dirs.declared.dir.TagPlace.{TagPlace}
+use Rattle.standing_laws.proofs.OfTagDirs.Reading.{same_directory}
+use Rattle.standing_laws.specs.extent_maps.declared.run.PagePlace.TheVariants.{Absent, At}
+use Rattle.standing_laws.specs.free_cells.Cells.{table_of}
+use Rattle.standing_laws.specs.file_chains.FileChanges.{AreOnTables}
+use Rattle.standing_laws.specs.file_chains.Files.{AreFile, IsFile, places_of}
+use Rattle.standing_laws.proofs.OfFileChains.MapRecords.{kind_found}
+use Rattle.standing_laws.specs.fileset_files.Files.{AreFiles, Chains, LeadsToFile, attributes_of, is_removed, keep_in, keep_of, of_live, place_at}
+use Rattle.standing_laws.specs.fileset_files.declared.attributes.Attributes.{Attributes}
+use Rattle.standing_laws.specs.fileset_files.Shown.{AreIndexPages, IsWhat, ShowsAt, ShowsFile, index_in, index_of, shown_page}
+use Rattle.standing_laws.specs.fileset_files.State.{state_of, states_of}
+use Rattle.standing_laws.specs.fileset_files.Together.{AreTogether}
+use Rattle.standing_laws.proofs.OfFilesetFiles.Created.{one_chains}
+use Rattle.standing_laws.specs.index_pages.Homes.{AreIndexHomes}
+use Rattle.standing_laws.proofs.OfIndexPages.Homes.{kept_same, one_list}
+use Rattle.standing_laws.specs.stored_set.Standing.{StandsShown}
+use Rattle.standing_laws.specs.stored_set.Whole.{IsWholeAt, IsWholeDirectory}
+use Rattle.standing_laws.proofs.OfStoredSet.Kept.{index_kept, page_kept}
+use Rattle.standing_laws.specs.stored_set.Sets.{StandsAsSet}
+use Rattle.standing_laws.specs.fileset_model.declared.fileset.FilesetSlot.{FilesetSlot}
+use Rattle.standing_laws.specs.fileset_table.Table.{Table}
+use Rattle.standing_laws.specs.fileset_table.declared.slot.FilesetEntry.{FilesetEntry}
+use Rattle.standing_laws.specs.fileset_table.declared.slot.SlotItem.TheVariants as slot
+use Rattle.standing_laws.specs.release_list.declared.list.Entry.{Entry}
+use Rattle.standing_laws.specs.release_list.Listed.{left_of}
+use Rattle.standing_laws.specs.release_list.Standing.{Files}
+use Rattle.standing_laws.proofs.OfReleaseList.Spread.{none_not, some_same}
+use Rattle.standing_laws.specs.release_steps.Kept.{SaysTheSame}
+use Rattle.standing_laws.specs.release_steps.Tags.{AreAmong, chains_in, start_of}
+use Rattle.standing_laws.specs.release_steps.Waits.{StandsApart}
+use Rattle.standing_laws.proofs.OfReleaseSteps.HeldSteps.{held_still}
+use Rattle.standing_laws.proofs.OfReleaseSteps.Others.{others_stay}
+use Rattle.standing_laws.proofs.OfReleaseSteps.SaysStill.{said_so}
+use Rattle.standing_laws.proofs.OfReleaseSteps.StillThere.{files_stay}
+use Rattle.standing_laws.proofs.OfReleaseSteps.Tags.{IsNamed, named, tags_stay_together}
+use Rattle.standing_laws.proofs.OfDomainLayout.OneShape.{links_same}
+use Rattle.standing_laws.specs.domain_layout.CellRules.{has_kind, keeps_well, of_original}
+use Rattle.standing_laws.specs.domain_layout.Layout.{first_tag_of}
+use Rattle.standing_laws.specs.domain_layout.Seen.{SeenFile, seen_in}
+use Rattle.standing_laws.specs.domain_layout.Shape.{AreQuotas, FilesetShape, IsOriginal}
+use Rattle.standing_laws.specs.domain_layout.TagRules.{quota_of}
+use Rattle.standing_laws.specs.domain_layout.Agreeing.{AgreeOnShape}
+use Rattle.standing_laws.proofs.OfDomainLayout.FilledAlike.{fills}
+use Rattle.standing_laws.proofs.OfDomainLayout.Reached.{member_or_none}
+use Rattle.standing_laws.specs.log_ring.Homes.{IsMember}
+use Rattle.standing_laws.specs.domain_standing.Chains.{AreQuotasOf, HasFilesAmong, IndexesAt, IsRemoved, StandsInSlot}
+use Rattle.standing_laws.specs.domain_standing.Domain.{DomainNow, all_of, item_in}
+use Rattle.standing_laws.specs.domain_standing.Holders.{Holds}
+use Rattle.standing_laws.specs.domain_standing.Holders.Holder.{of_file, of_index}
+use Rattle.standing_laws.specs.domain_standing.Sources.{StandAlone}
 use Rattle.standing_laws.specs.Leads.{StandsBelow}
 use Rattle.standing_laws.specs.Slots.{StandsSlot}
 use Rattle.standing_laws.proofs.HomeLists.{in_get}

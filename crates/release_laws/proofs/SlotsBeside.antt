@@ -3,40 +3,40 @@
 use Rattle.std.proofs.Common.{◌≡◌, ◌∙◌, ◌==◌, ◌∷◌, ◌⊎◌, inl, inr, ℕ, true, false, List, [], Option, Some, None, IfSome, IsSome, IsSomeAnd, refl, sym, ap, subst, arith, ⊎_elim}
 use Rattle.std.proofs.lemmas.Bool.{both_ways, cases_Bool, eq-eqb, eqb-true, true≢false}
 use Rattle.std.specs.Option.{option_and_then, option_map_or}
-use Rattle.domain_base.specs.declared.place.CellAt.{CellAt}
-use Rattle.domain_base.specs.declared.place.Home.{Home}
-use Rattle.domain_base.specs.declared.place.Tag.{Tag}
-use Rattle.bmt_mcells.specs.Chain.{PlacedCell}
-use Rattle.tag_dirs.specs.Directory.{IsDirectoryAt, cell_of, has_home}
-use Rattle.tag_dirs.specs.declared.dir.TagPlace.{TagPlace}
-use Rattle.extent_maps.specs.declared.run.PagePlace.TheVariants.{Absent, At}
-use Rattle.bitfile_cells.specs.Files.{IsFile, places_of}
-use Rattle.bitfile_core.specs.Files.{AreFiles, LeadsToFile, first_record, place_at}
-use Rattle.fileset_model.specs.Filesets.{FilesetMap}
-use Rattle.fileset_model.specs.Orders.{Name}
-use Rattle.fileset_model.specs.declared.fileset.FilesetSlot.{FilesetSlot}
-use Rattle.fileset_table.specs.Table.{entry_of}
-use Rattle.fileset_table.specs.declared.slot.FilesetEntry.{FilesetEntry}
-use Rattle.fileset_table.specs.declared.slot.SlotItem.{SlotItem}
-use Rattle.fileset_table.specs.declared.slot.SlotItem.TheVariants as slot
-use Rattle.free_space.specs.Spaces.{IsHeld, Spaces}
-use Rattle.deferred_delete.specs.Standing.{Files}
-use Rattle.deferred_delete.proofs.Spread.{none_not}
-use Rattle.deferred_delete.proofs.Standings.{is_file, place_by, quota_first, standing}
-use Rattle.deferred_laws.proofs.StillAmong.{file_of_tag}
-use Rattle.deferred_laws.proofs.Tags.{has_attributes, named}
-use Rattle.domain_layout.specs.CellRules.{of_clone}
-use Rattle.domain_layout.specs.DirectoryRules.{IsInItem}
-use Rattle.domain_layout.specs.Layout.{first_tag_of}
-use Rattle.domain_layout.specs.Seen.{SeenFile}
-use Rattle.domain_layout.specs.Shape.{FilesetShape, HasFileset, IsShapeOf}
-use Rattle.domain_standing.specs.Chains.{AreQuotasOf, HasFilesAmong, IndexesAt, IsQuotaOf, IsRemoved, StandsInSlot}
-use Rattle.domain_standing.specs.Domain.{DomainNow, item_in, named_by}
-use Rattle.domain_standing.specs.Holders.{Holder, Holds}
-use Rattle.domain_standing.specs.Holders.Holder.{of_cells, of_file, of_index, of_table, of_tags, of_volume}
-use Rattle.domain_standing.specs.Slots.{StandSlots}
+use Rattle.standing_laws.specs.domain_base.declared.place.CellAt.{CellAt}
+use Rattle.standing_laws.specs.domain_base.declared.place.Home.{Home}
+use Rattle.standing_laws.specs.domain_base.declared.place.Tag.{Tag}
+use Rattle.standing_laws.specs.metadata_cells.Chain.{PlacedCell}
+use Rattle.standing_laws.specs.tag_dirs.Directory.{IsDirectoryAt, cell_of, has_home}
+use Rattle.standing_laws.specs.tag_dirs.declared.dir.TagPlace.{TagPlace}
+use Rattle.standing_laws.specs.extent_maps.declared.run.PagePlace.TheVariants.{Absent, At}
+use Rattle.standing_laws.specs.file_chains.Files.{IsFile, places_of}
+use Rattle.standing_laws.specs.fileset_files.Files.{AreFiles, LeadsToFile, first_record, place_at}
+use Rattle.standing_laws.specs.fileset_model.Filesets.{FilesetMap}
+use Rattle.standing_laws.specs.fileset_values.Orders.{Name}
+use Rattle.standing_laws.specs.fileset_model.declared.fileset.FilesetSlot.{FilesetSlot}
+use Rattle.standing_laws.specs.fileset_table.Table.{entry_of}
+use Rattle.standing_laws.specs.fileset_table.declared.slot.FilesetEntry.{FilesetEntry}
+use Rattle.standing_laws.specs.fileset_table.declared.slot.SlotItem.{SlotItem}
+use Rattle.standing_laws.specs.fileset_table.declared.slot.SlotItem.TheVariants as slot
+use Rattle.standing_laws.specs.free_space.Spaces.{IsHeld, Spaces}
+use Rattle.standing_laws.specs.release_list.Standing.{Files}
+use Rattle.standing_laws.proofs.OfReleaseList.Spread.{none_not}
+use Rattle.standing_laws.proofs.OfReleaseList.Standings.{is_file, place_by, quota_first, standing}
+use Rattle.standing_laws.proofs.OfReleaseSteps.StillAmong.{file_of_tag}
+use Rattle.standing_laws.proofs.OfReleaseSteps.Tags.{has_attributes, named}
+use Rattle.standing_laws.specs.domain_layout.CellRules.{of_clone}
+use Rattle.standing_laws.specs.domain_layout.DirectoryRules.{IsInItem}
+use Rattle.standing_laws.specs.domain_layout.Layout.{first_tag_of}
+use Rattle.standing_laws.specs.domain_layout.Seen.{SeenFile}
+use Rattle.standing_laws.specs.domain_layout.Shape.{FilesetShape, HasFileset, IsShapeOf}
+use Rattle.standing_laws.specs.domain_standing.Chains.{AreQuotasOf, HasFilesAmong, IndexesAt, IsQuotaOf, IsRemoved, StandsInSlot}
+use Rattle.standing_laws.specs.domain_standing.Domain.{DomainNow, item_in, named_by}
+use Rattle.standing_laws.specs.domain_standing.Holders.{Holder, Holds}
+use Rattle.standing_laws.specs.domain_standing.Holders.Holder.{of_cells, of_file, of_index, of_table, of_tags, of_volume}
+use Rattle.standing_laws.specs.domain_standing.Slots.{StandSlots}
 use Rattle.standing_laws.specs.Slots.{StandsSlot}
-use Rattle.domain_standing.specs.Standing.{HaveParents, IsMarkedBut}
+use Rattle.standing_laws.specs.domain_standing.Standing.{HaveParents, IsMarkedBut}
 use Rattle.standing_laws.specs.Leads.{StandsBelow}
 use Rattle.standing_laws.specs.SlotParents.{HaveParentsIn}
 use Rattle.standing_laws.specs.SlotsStay.{IsPageOfSlot, IsTaggedBy, KeepsSlot}
@@ -44,7 +44,7 @@ use Rattle.standing_laws.proofs.AllStay.{all_stay}
 use Rattle.standing_laws.proofs.BitsStay.{bits_stay}
 use Rattle.standing_laws.proofs.ParentsElsewhere.{FilesStay, slot_parents}
 use Rattle.standing_laws.proofs.SlotStays.{slot_stays_so}
-use Rattle.bitfile_core.proofs.Tags.{cell_same, directory_same, pages_same}
+use Rattle.standing_laws.proofs.OfFilesetFiles.Tags.{cell_same, directory_same, pages_same}
 use Rattle.release_laws.proofs.QuotasListed.{one_slot}
 
 number_or_not : (n number : ℕ) → (n ≡ number) ⊎ (¬ n ≡ number)

@@ -1,32 +1,32 @@
 -- The tag directories and the quota cells of slots stand on over steps.
 use Rattle.std.proofs.Common.{◌≡◌, ◌∙◌, inl, inr, ℕ, false, List, [], Option, Some, None, IfSome, IsSome, IsSomeAnd, Contains, slice_get, refl, sym, ap, subst, arith, ⊎_elim, true≢false}
 use Rattle.std.specs.Option.{option_and_then}
-use Rattle.domain_base.specs.declared.place.CellAt.{CellAt}
-use Rattle.domain_base.specs.declared.place.Home.{Home}
-use Rattle.domain_base.specs.declared.place.Tag.{Tag}
-use Rattle.page_store.specs.Bitfiles.{same_tag}
-use Rattle.record_table.specs.declared.record.Leftover.TheVariants.{Trim}
-use Rattle.bmt_mcells.specs.Chain.{PlacedCell}
-use Rattle.tag_dirs.specs.declared.dir.TagPlace.{TagPlace}
-use Rattle.tag_dirs.specs.Directory.{cell_of}
-use Rattle.bitfile_cells.specs.Files.{IsFile}
-use Rattle.bitfile_core.specs.Files.{AreApart, AreFiles, Chains, LeadsToFile, is_removed}
-use Rattle.bitfile_core.proofs.Tags.{cell_same, directory_same, pages_same}
-use Rattle.fileset_table.specs.declared.slot.SlotItem.{SlotItem}
-use Rattle.deferred_delete.specs.declared.list.Entry.{Entry}
-use Rattle.deferred_delete.specs.Listed.{left_of}
-use Rattle.deferred_delete.specs.Standing.{Files}
-use Rattle.deferred_delete.specs.Steps.{IsWell}
-use Rattle.deferred_delete.proofs.Spread.{none_not, some_same}
-use Rattle.deferred_delete.proofs.Standings.{apart_by, chain_inside, is_file, standing}
-use Rattle.deferred_laws.specs.Tags.{AreAmong, chains_in, start_of}
-use Rattle.deferred_laws.proofs.Said.{SaysSame}
-use Rattle.deferred_laws.proofs.StillThere.{files_stay}
-use Rattle.deferred_laws.proofs.Tags.{IsNamed, file_start, has_attributes, named}
-use Rattle.domain_layout.specs.Layout.{AreTagPlaces, first_tag_of}
-use Rattle.domain_standing.specs.Chains.{AreQuotasOf, HasEmptyTags, HasFilesAmong, IndexesAt, IsQuotaOf, StandsInSlot}
-use Rattle.domain_standing.specs.Domain.{DomainNow, all_of, named_by}
-use Rattle.domain_standing.specs.Sources.{StandAlone}
+use Rattle.standing_laws.specs.domain_base.declared.place.CellAt.{CellAt}
+use Rattle.standing_laws.specs.domain_base.declared.place.Home.{Home}
+use Rattle.standing_laws.specs.domain_base.declared.place.Tag.{Tag}
+use Rattle.standing_laws.specs.page_store.Bitfiles.{same_tag}
+use Rattle.standing_laws.specs.cell_records.declared.record.Leftover.TheVariants.{Trim}
+use Rattle.standing_laws.specs.metadata_cells.Chain.{PlacedCell}
+use Rattle.standing_laws.specs.tag_dirs.declared.dir.TagPlace.{TagPlace}
+use Rattle.standing_laws.specs.tag_dirs.Directory.{cell_of}
+use Rattle.standing_laws.specs.file_chains.Files.{IsFile}
+use Rattle.standing_laws.specs.fileset_files.Files.{AreApart, AreFiles, Chains, LeadsToFile, is_removed}
+use Rattle.standing_laws.proofs.OfFilesetFiles.Tags.{cell_same, directory_same, pages_same}
+use Rattle.standing_laws.specs.fileset_table.declared.slot.SlotItem.{SlotItem}
+use Rattle.standing_laws.specs.release_list.declared.list.Entry.{Entry}
+use Rattle.standing_laws.specs.release_list.Listed.{left_of}
+use Rattle.standing_laws.specs.release_list.Standing.{Files}
+use Rattle.standing_laws.specs.release_list.Steps.{IsWell}
+use Rattle.standing_laws.proofs.OfReleaseList.Spread.{none_not, some_same}
+use Rattle.standing_laws.proofs.OfReleaseList.Standings.{apart_by, chain_inside, is_file, standing}
+use Rattle.standing_laws.specs.release_steps.Tags.{AreAmong, chains_in, start_of}
+use Rattle.standing_laws.proofs.OfReleaseSteps.Said.{SaysSame}
+use Rattle.standing_laws.proofs.OfReleaseSteps.StillThere.{files_stay}
+use Rattle.standing_laws.proofs.OfReleaseSteps.Tags.{IsNamed, file_start, has_attributes, named}
+use Rattle.standing_laws.specs.domain_layout.Layout.{AreTagPlaces, first_tag_of}
+use Rattle.standing_laws.specs.domain_standing.Chains.{AreQuotasOf, HasEmptyTags, HasFilesAmong, IndexesAt, IsQuotaOf, StandsInSlot}
+use Rattle.standing_laws.specs.domain_standing.Domain.{DomainNow, all_of, named_by}
+use Rattle.standing_laws.specs.domain_standing.Sources.{StandAlone}
 use Rattle.standing_laws.specs.Leads.{StandsBelow}
 use Rattle.release_laws.specs.Released.{Releases}
 use Rattle.release_laws.proofs.Led.{go, led, well_now, well_was}

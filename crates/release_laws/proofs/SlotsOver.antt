@@ -1,23 +1,23 @@
 -- The filesets for which a domain stands are the same after steps.
 use Rattle.std.proofs.Common.{◌≡◌, ◌∙◌, ℕ, true, false, Some, IfSome, IsSomeAnd, is_some, slice_get, sym, ap, subst}
-use Rattle.fileset_model.specs.Filesets.{FilesetMap}
-use Rattle.fileset_table.specs.Table.{Table, entry_of}
-use Rattle.fileset_table.specs.declared.slot.FilesetEntry.{FilesetEntry}
-use Rattle.fileset_table.specs.declared.slot.SlotItem.{SlotItem}
-use Rattle.fileset_table.specs.declared.slot.SlotItem.TheVariants as slot
-use Rattle.deferred_delete.specs.Standing.{Files}
-use Rattle.domain_layout.specs.CellRules.{of_clone}
-use Rattle.domain_layout.specs.Shape.{AreShapesOf, FilesetShape, HasFileset, IsOriginal, IsShapeOf}
-use Rattle.layout_laws.specs.Agreeing.{AgreeOn, AgreeOnShape}
-use Rattle.layout_laws.proofs.FilledAlike.{filled_at_homes}
-use Rattle.domain_standing.specs.Chains.{IndexesAt}
-use Rattle.domain_standing.specs.Domain.{DomainNow, item_in}
-use Rattle.domain_standing.specs.Slots.{StandSlots}
-use Rattle.domain_standing.specs.Sources.{StandAlone}
+use Rattle.standing_laws.specs.fileset_model.Filesets.{FilesetMap}
+use Rattle.standing_laws.specs.fileset_table.Table.{Table, entry_of}
+use Rattle.standing_laws.specs.fileset_table.declared.slot.FilesetEntry.{FilesetEntry}
+use Rattle.standing_laws.specs.fileset_table.declared.slot.SlotItem.{SlotItem}
+use Rattle.standing_laws.specs.fileset_table.declared.slot.SlotItem.TheVariants as slot
+use Rattle.standing_laws.specs.release_list.Standing.{Files}
+use Rattle.standing_laws.specs.domain_layout.CellRules.{of_clone}
+use Rattle.standing_laws.specs.domain_layout.Shape.{AreShapesOf, FilesetShape, HasFileset, IsOriginal, IsShapeOf}
+use Rattle.standing_laws.specs.domain_layout.Agreeing.{AgreeOn, AgreeOnShape}
+use Rattle.standing_laws.proofs.OfDomainLayout.FilledAlike.{filled_at_homes}
+use Rattle.standing_laws.specs.domain_standing.Chains.{IndexesAt}
+use Rattle.standing_laws.specs.domain_standing.Domain.{DomainNow, item_in}
+use Rattle.standing_laws.specs.domain_standing.Slots.{StandSlots}
+use Rattle.standing_laws.specs.domain_standing.Sources.{StandAlone}
 use Rattle.standing_laws.specs.Leads.{StandsBelow}
 use Rattle.standing_laws.specs.Slots.{StandsSlot}
 use Rattle.standing_laws.proofs.FilesetPut.{StoodIn, stood_in}
-use Rattle.domain_standing.specs.Sets.{StandsAsSet}
+use Rattle.standing_laws.specs.stored_set.Sets.{StandsAsSet}
 use Rattle.release_laws.specs.Released.{Releases}
 use Rattle.release_laws.specs.Trimmed.{TrimsFiles}
 use Rattle.release_laws.proofs.SlotOver.{agree as agree_on, slot_over}

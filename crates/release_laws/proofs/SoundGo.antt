@@ -1,18 +1,18 @@
 -- What rules of pages ask beside of a domain stays so over steps.
 use Rattle.std.proofs.Common.{◌≡◌, ℕ, true, List, Contains, IsSomeAnd, sym, subst}
-use Rattle.domain_base.specs.declared.place.CellAt.{CellAt}
-use Rattle.domain_base.specs.declared.version.Version.{Version}
-use Rattle.bmt_mcells.specs.declared.head.CellKind.TheVariants.{Chain}
-use Rattle.bmt_mcells.specs.Cell.{Cell}
-use Rattle.bmt_mcells.specs.Chain.{StandsAt}
-use Rattle.free_cells.specs.Cells.{table_of}
-use Rattle.dir_index.specs.Index.{IsIndexPage}
-use Rattle.deferred_delete.specs.Standing.{Files}
-use Rattle.deferred_delete.specs.Steps.{IsWell, Now, Step}
-use Rattle.domain_layout.specs.CellRules.{IsFirstPlace, is_chain_records}
-use Rattle.domain_standing.specs.Chains.{IndexesAt}
-use Rattle.domain_standing.specs.Domain.{DomainNow, all_of}
-use Rattle.domain_standing.specs.Sources.{StandAlone}
+use Rattle.standing_laws.specs.domain_base.declared.place.CellAt.{CellAt}
+use Rattle.standing_laws.specs.domain_base.declared.version.Version.{Version}
+use Rattle.standing_laws.specs.metadata_cells.declared.head.CellKind.TheVariants.{Chain}
+use Rattle.standing_laws.specs.metadata_cells.Cell.{Cell}
+use Rattle.standing_laws.specs.metadata_cells.Chain.{StandsAt}
+use Rattle.standing_laws.specs.free_cells.Cells.{table_of}
+use Rattle.standing_laws.specs.directory_pages.Index.{IsIndexPage}
+use Rattle.standing_laws.specs.release_list.Standing.{Files}
+use Rattle.standing_laws.specs.release_list.Steps.{IsWell, Now, Step}
+use Rattle.standing_laws.specs.domain_layout.CellRules.{IsFirstPlace, is_chain_records}
+use Rattle.standing_laws.specs.domain_standing.Chains.{IndexesAt}
+use Rattle.standing_laws.specs.domain_standing.Domain.{DomainNow, all_of}
+use Rattle.standing_laws.specs.domain_standing.Sources.{StandAlone}
 use Rattle.standing_laws.specs.Leads.{StandsBelow}
 use Rattle.standing_laws.specs.Sound.{IsSound, StandsSound}
 use Rattle.release_laws.specs.Released.{QuotasStay, Releases}

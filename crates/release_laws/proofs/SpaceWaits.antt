@@ -2,13 +2,13 @@
 use Rattle.std.proofs.Common.{◌≡◌, ◌∙◌, ℕ, ◌-◌, Bool, true, false, nat_eq, List, [], ◌∷◌, Option, Some, None, get_or, refl, sym, ap, subst}
 use Rattle.std.proofs.lemmas.Bool.{both_ways, eq-eqb, eqb-true}
 use Rattle.std.specs.Option.{option_map}
-use Rattle.domain_base.specs.declared.place.Home.{Home}
-use Rattle.free_space.specs.declared.waiting.PageUse.{PageUse}
-use Rattle.free_space.specs.declared.waiting.Waiting.{Waiting}
-use Rattle.free_space.specs.Spaces.{Spaces, change_volume, volume_of}
-use Rattle.free_space.specs.VolumeSpace.{VolumeSpace, with_waiting}
-use Rattle.free_space.proofs.Places.{volume_of-change_other, volume_of-change_same}
-use Rattle.chain_release.specs.Releases.{with_given}
+use Rattle.standing_laws.specs.domain_base.declared.place.Home.{Home}
+use Rattle.standing_laws.specs.free_space.declared.waiting.PageUse.{PageUse}
+use Rattle.standing_laws.specs.free_space.declared.waiting.Waiting.{Waiting}
+use Rattle.standing_laws.specs.free_space.Spaces.{Spaces, change_volume, volume_of}
+use Rattle.standing_laws.specs.free_space.VolumeSpace.{VolumeSpace, with_waiting}
+use Rattle.standing_laws.proofs.OfFreeSpace.Places.{volume_of-change_other, volume_of-change_same}
+use Rattle.standing_laws.specs.file_release.Releases.{with_given}
 
 -- a volume has the pages that it had, and those that were used
 pub record KeepsUsed (v w : VolumeSpace) : Type 0 where

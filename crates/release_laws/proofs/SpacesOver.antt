@@ -1,22 +1,22 @@
 -- What was kept of free space is what it was after steps.
 use Rattle.std.proofs.Common.{◌≡◌, ◌∙◌, ℕ, List, [], ◌∷◌, Option, Some, None, refl, sym, ap, subst, ⊎_elim}
-use Rattle.domain_base.specs.declared.place.CellAt.{CellAt}
-use Rattle.domain_base.specs.declared.place.Home.{Home}
-use Rattle.domain_base.specs.declared.version.Version.{Version}
-use Rattle.bmt_mcells.specs.Chain.{PlacedCell}
-use Rattle.extent_maps.specs.declared.run.PagePlace.TheVariants.{Absent, At}
-use Rattle.bitfile_cells.specs.Files.{places_of}
-use Rattle.free_space.specs.declared.waiting.PageUse.{PageUse}
-use Rattle.free_space.specs.Spaces.{Spaces, kept_spaces}
-use Rattle.free_space.proofs.Kept.{kept-with_waiting}
-use Rattle.chain_release.specs.declared.reader.Reader.{Reader}
-use Rattle.chain_release.specs.Releases.{with_given}
-use Rattle.chain_release.specs.Sharing.{IsReader}
-use Rattle.deferred_delete.specs.Standing.{Files}
-use Rattle.deferred_delete.specs.Steps.{IsGiven, IsWell, LetsPages, Now, Step, Steps, file_ends, more, none, pages_go, quota_goes, reading_ends, tag_page_goes, trim_ends}
-use Rattle.deferred_laws.proofs.Fits.{Fits, well_fits}
-use Rattle.deferred_laws.proofs.Laws.{fits_step}
-use Rattle.deferred_laws.proofs.Narrower.{in_last}
+use Rattle.standing_laws.specs.domain_base.declared.place.CellAt.{CellAt}
+use Rattle.standing_laws.specs.domain_base.declared.place.Home.{Home}
+use Rattle.standing_laws.specs.domain_base.declared.version.Version.{Version}
+use Rattle.standing_laws.specs.metadata_cells.Chain.{PlacedCell}
+use Rattle.standing_laws.specs.extent_maps.declared.run.PagePlace.TheVariants.{Absent, At}
+use Rattle.standing_laws.specs.file_chains.Files.{places_of}
+use Rattle.standing_laws.specs.free_space.declared.waiting.PageUse.{PageUse}
+use Rattle.standing_laws.specs.free_space.Spaces.{Spaces, kept_spaces}
+use Rattle.standing_laws.proofs.OfFreeSpace.Kept.{kept-with_waiting}
+use Rattle.standing_laws.specs.file_release.declared.reader.Reader.{Reader}
+use Rattle.standing_laws.specs.file_release.Releases.{with_given}
+use Rattle.standing_laws.specs.file_release.Sharing.{IsReader}
+use Rattle.standing_laws.specs.release_list.Standing.{Files}
+use Rattle.standing_laws.specs.release_list.Steps.{IsGiven, IsWell, LetsPages, Now, Step, Steps, file_ends, more, none, pages_go, quota_goes, reading_ends, tag_page_goes, trim_ends}
+use Rattle.standing_laws.proofs.OfReleaseSteps.Fits.{Fits, well_fits}
+use Rattle.standing_laws.proofs.OfReleaseSteps.DeferredLaws.{fits_step}
+use Rattle.standing_laws.proofs.OfReleaseSteps.Narrower.{in_last}
 use Rattle.release_laws.proofs.SeenTrimmed.{GiveNone, alone_step}
 
 given_kept : (kind : PageUse) (group : ℕ) (homes : List Home) (space : Spaces) → kept_spaces (with_given kind group homes space) ≡ kept_spaces space

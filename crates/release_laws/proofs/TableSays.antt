@@ -2,55 +2,55 @@
 use Rattle.std.proofs.Common.{◌≡◌, ◌⊎◌, ◌∙◌, ⊎_elim, inl, inr, ℕ, true, List, [], ◌∷◌, length, Option, Some, None, IfSome, IsSomeAnd, Contains, slice_get, slice_index, refl, sym, ap, subst, arith}
 use Rattle.std.specs.List.{AllByRecursion}
 use Rattle.std.specs.Option.{option_and_then}
-use Rattle.domain_base.specs.declared.place.CellAt.{CellAt}
-use Rattle.domain_base.specs.declared.place.Home.{Home}
-use Rattle.domain_base.specs.declared.place.Tag.{Tag}
-use Rattle.log_ring.specs.Homes.{IsMember}
-use Rattle.page_store.specs.Pages.{Pages}
-use Rattle.record_table.specs.declared.record.Record.{Record}
-use Rattle.bmt_mcells.specs.Cell.{Cell, record_of}
-use Rattle.bmt_mcells.specs.CellPage.{home_of, is_free_in}
-use Rattle.bmt_mcells.specs.Chain.{PlacedCell, StandsAt}
-use Rattle.tag_dirs.specs.Directory.{cell_of, has_home}
-use Rattle.tag_dirs.specs.declared.dir.TagPlace.{TagPlace}
-use Rattle.free_cells.specs.Cells.{table_of}
-use Rattle.free_space.specs.Spaces.{volume_of}
-use Rattle.free_space.specs.VolumeSpace.{VolumeSpace}
-use Rattle.bitfile_cells.specs.FileChanges.{AreOnTables}
-use Rattle.bitfile_cells.specs.Files.{IsFile}
-use Rattle.bitfile_cells.proofs.ChainChanges.{stand_file}
-use Rattle.bitfile_core.specs.Files.{AreFiles, LeadsToFile, first_record}
-use Rattle.bitfile_core.specs.Shown.{index_of}
-use Rattle.bitfile_core.proofs.Created.{allocated_beside, stands_by_page}
-use Rattle.bitfile_core.proofs.OneChain.{file_by}
-use Rattle.bitfile_core.proofs.Tags.{cell_same, directory_same, pages_same}
-use Rattle.stored_index.specs.Homes.{AreIndexHomes}
-use Rattle.stored_index.proofs.Homes.{kept_same}
-use Rattle.fileset_table.specs.Page.{IsTablePage}
-use Rattle.fileset_table.specs.Table.{Table}
-use Rattle.fileset_table.specs.declared.slot.SlotItem.{SlotItem}
-use Rattle.record_table.specs.declared.record.Leftover.TheVariants.{Remove}
-use Rattle.deferred_delete.specs.Listed.{left_of}
-use Rattle.deferred_delete.specs.Standing.{Files, IsQuotas, IsStanding}
-use Rattle.deferred_delete.specs.Steps.{IsWell}
-use Rattle.deferred_delete.proofs.Spread.{none_not}
-use Rattle.deferred_delete.proofs.Standings.{chain_by, each_from, quota_first, stand_chain, standing}
-use Rattle.deferred_laws.proofs.StillAmong.{file_of_tag}
-use Rattle.deferred_laws.proofs.Tags.{has_attributes}
-use Rattle.layout_laws.proofs.Reached.{member_or_none}
-use Rattle.domain_standing.specs.Space.{IsFreeAt}
-use Rattle.domain_layout.specs.CellRules.{IsFirstPlace, is_good_first, of_original}
-use Rattle.domain_layout.specs.Filled.{Contents}
-use Rattle.domain_layout.specs.Layout.{AreTagPlaces, IsCellTable, IsPageAt, first_tag_of}
-use Rattle.domain_layout.specs.Owners.{IsOnTable}
-use Rattle.domain_layout.specs.Reached.{first_cells}
-use Rattle.domain_layout.specs.TagRules.{IsLate, quota_of}
-use Rattle.domain_standing.specs.Chains.{AreQuotasOf, HasEmptyTags, HasFilesAmong, IndexesAt, IsInChain, IsOnList, IsRemoved, IsSomebodys, IsTagged, IsToDo, StandChains, StandsInSlot}
-use Rattle.domain_standing.specs.Domain.{DomainNow, all_of, layout_of, named_by}
-use Rattle.domain_standing.specs.Holders.{AreHeldAt, Holder, Holds, HoldsOwned}
-use Rattle.domain_standing.specs.Holders.Holder.{of_cells, of_file, of_index, of_log, of_table, of_tags, of_volume}
-use Rattle.domain_standing.specs.Rest.{IsOfOriginal, SaysTheRest, StaysInOriginal}
-use Rattle.domain_standing.specs.Tables.{HasVolumeCell, StandTables, first_place}
+use Rattle.standing_laws.specs.domain_base.declared.place.CellAt.{CellAt}
+use Rattle.standing_laws.specs.domain_base.declared.place.Home.{Home}
+use Rattle.standing_laws.specs.domain_base.declared.place.Tag.{Tag}
+use Rattle.standing_laws.specs.log_ring.Homes.{IsMember}
+use Rattle.standing_laws.specs.page_store.Pages.{Pages}
+use Rattle.standing_laws.specs.cell_records.declared.record.Record.{Record}
+use Rattle.standing_laws.specs.metadata_cells.Cell.{Cell, record_of}
+use Rattle.standing_laws.specs.metadata_cells.CellPage.{home_of, is_free_in}
+use Rattle.standing_laws.specs.metadata_cells.Chain.{PlacedCell, StandsAt}
+use Rattle.standing_laws.specs.tag_dirs.Directory.{cell_of, has_home}
+use Rattle.standing_laws.specs.tag_dirs.declared.dir.TagPlace.{TagPlace}
+use Rattle.standing_laws.specs.free_cells.Cells.{table_of}
+use Rattle.standing_laws.specs.free_space.Spaces.{volume_of}
+use Rattle.standing_laws.specs.free_space.VolumeSpace.{VolumeSpace}
+use Rattle.standing_laws.specs.file_chains.FileChanges.{AreOnTables}
+use Rattle.standing_laws.specs.file_chains.Files.{IsFile}
+use Rattle.standing_laws.proofs.OfFileChains.ChainChanges.{stand_file}
+use Rattle.standing_laws.specs.fileset_files.Files.{AreFiles, LeadsToFile, first_record}
+use Rattle.standing_laws.specs.fileset_files.Shown.{index_of}
+use Rattle.standing_laws.proofs.OfFilesetFiles.Created.{allocated_beside, stands_by_page}
+use Rattle.standing_laws.proofs.OfFilesetFiles.OneChain.{file_by}
+use Rattle.standing_laws.proofs.OfFilesetFiles.Tags.{cell_same, directory_same, pages_same}
+use Rattle.standing_laws.specs.index_pages.Homes.{AreIndexHomes}
+use Rattle.standing_laws.proofs.OfIndexPages.Homes.{kept_same}
+use Rattle.standing_laws.specs.fileset_table.Page.{IsTablePage}
+use Rattle.standing_laws.specs.fileset_table.Table.{Table}
+use Rattle.standing_laws.specs.fileset_table.declared.slot.SlotItem.{SlotItem}
+use Rattle.standing_laws.specs.cell_records.declared.record.Leftover.TheVariants.{Remove}
+use Rattle.standing_laws.specs.release_list.Listed.{left_of}
+use Rattle.standing_laws.specs.release_list.Standing.{Files, IsQuotas, IsStanding}
+use Rattle.standing_laws.specs.release_list.Steps.{IsWell}
+use Rattle.standing_laws.proofs.OfReleaseList.Spread.{none_not}
+use Rattle.standing_laws.proofs.OfReleaseList.Standings.{chain_by, each_from, quota_first, stand_chain, standing}
+use Rattle.standing_laws.proofs.OfReleaseSteps.StillAmong.{file_of_tag}
+use Rattle.standing_laws.proofs.OfReleaseSteps.Tags.{has_attributes}
+use Rattle.standing_laws.proofs.OfDomainLayout.Reached.{member_or_none}
+use Rattle.standing_laws.specs.domain_standing.Space.{IsFreeAt}
+use Rattle.standing_laws.specs.domain_layout.CellRules.{IsFirstPlace, is_good_first, of_original}
+use Rattle.standing_laws.specs.domain_layout.Filled.{Contents}
+use Rattle.standing_laws.specs.domain_layout.Layout.{AreTagPlaces, IsCellTable, IsPageAt, first_tag_of}
+use Rattle.standing_laws.specs.domain_layout.Owners.{IsOnTable}
+use Rattle.standing_laws.specs.domain_layout.Reached.{first_cells}
+use Rattle.standing_laws.specs.domain_layout.TagRules.{IsLate, quota_of}
+use Rattle.standing_laws.specs.domain_standing.Chains.{AreQuotasOf, HasEmptyTags, HasFilesAmong, IndexesAt, IsInChain, IsOnList, IsRemoved, IsSomebodys, IsTagged, IsToDo, StandChains, StandsInSlot}
+use Rattle.standing_laws.specs.domain_standing.Domain.{DomainNow, all_of, layout_of, named_by}
+use Rattle.standing_laws.specs.domain_standing.Holders.{AreHeldAt, Holder, Holds, HoldsOwned}
+use Rattle.standing_laws.specs.domain_standing.Holders.Holder.{of_cells, of_file, of_index, of_log, of_table, of_tags, of_volume}
+use Rattle.standing_laws.specs.domain_standing.Rest.{IsOfOriginal, SaysTheRest, StaysInOriginal}
+use Rattle.standing_laws.specs.domain_standing.Tables.{HasVolumeCell, StandTables, first_place}
 use Rattle.standing_laws.specs.Leads.{StandsBelow}
 use Rattle.standing_laws.proofs.HomeLists.{in_get}
 use Rattle.standing_laws.proofs.OthersStand.{SaysWhere}

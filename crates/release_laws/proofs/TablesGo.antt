@@ -1,28 +1,28 @@
 -- The tables of a domain stand on over steps.
 use Rattle.std.proofs.Common.{◌≡◌, ◌∙◌, ◌↔◌, ℕ, ◌+◌, ◌<◌, Bool, true, List, length, Option, Some, None, IsSomeAnd, slice_index, refl, sym, subst, arith, ⊎_elim, true≢false}
 use Rattle.std.proofs.lemmas.Bool.{cases_Bool, cases_lt}
-use Rattle.domain_base.specs.declared.place.CellAt.{CellAt}
-use Rattle.domain_base.specs.declared.place.Home.{Home}
-use Rattle.log_ring.specs.Homes.{IsMember}
-use Rattle.bmt_mcells.specs.CellPage.{next_of}
-use Rattle.tag_dirs.specs.Directory.{has_home}
-use Rattle.free_cells.specs.Belong.{IsPageOf}
-use Rattle.free_cells.specs.Cells.{is_free, table_of}
-use Rattle.free_cells.proofs.Belongs.{free_below, used_not_free}
-use Rattle.bitfile_cells.proofs.Added.{used_of}
-use Rattle.bitfile_core.proofs.Tags.{directory_same, pages_same}
-use Rattle.fileset_table.specs.Page.{IsTablePage}
-use Rattle.deferred_delete.specs.Standing.{Files}
-use Rattle.deferred_delete.specs.Steps.{IsWell}
-use Rattle.domain_standing.specs.Space.{AreCellsOf, IsFreeAt, IsOpen}
-use Rattle.domain_layout.specs.Layout.{AreTagPlaces, IsCellTable, IsPageAt, first_tag_of}
-use Rattle.domain_layout.specs.Reached.{first_cells}
-use Rattle.domain_standing.specs.Chains.{IndexesAt}
-use Rattle.domain_standing.specs.Domain.{DomainNow, all_of, layout_of}
-use Rattle.domain_standing.specs.Holders.{Holder, Holds}
-use Rattle.domain_standing.specs.Holders.Holder.{of_cells, of_table, of_tags}
-use Rattle.domain_standing.specs.Sources.{StandAlone}
-use Rattle.domain_standing.specs.Tables.{HasVolumeCell, StandTables, first_place}
+use Rattle.standing_laws.specs.domain_base.declared.place.CellAt.{CellAt}
+use Rattle.standing_laws.specs.domain_base.declared.place.Home.{Home}
+use Rattle.standing_laws.specs.log_ring.Homes.{IsMember}
+use Rattle.standing_laws.specs.metadata_cells.CellPage.{next_of}
+use Rattle.standing_laws.specs.tag_dirs.Directory.{has_home}
+use Rattle.standing_laws.specs.free_cells.Belong.{IsPageOf}
+use Rattle.standing_laws.specs.free_cells.Cells.{is_free, table_of}
+use Rattle.standing_laws.proofs.OfFreeCells.Belongs.{free_below, used_not_free}
+use Rattle.standing_laws.proofs.OfFileChains.Added.{used_of}
+use Rattle.standing_laws.proofs.OfFilesetFiles.Tags.{directory_same, pages_same}
+use Rattle.standing_laws.specs.fileset_table.Page.{IsTablePage}
+use Rattle.standing_laws.specs.release_list.Standing.{Files}
+use Rattle.standing_laws.specs.release_list.Steps.{IsWell}
+use Rattle.standing_laws.specs.domain_standing.Space.{AreCellsOf, IsFreeAt, IsOpen}
+use Rattle.standing_laws.specs.domain_layout.Layout.{AreTagPlaces, IsCellTable, IsPageAt, first_tag_of}
+use Rattle.standing_laws.specs.domain_layout.Reached.{first_cells}
+use Rattle.standing_laws.specs.domain_standing.Chains.{IndexesAt}
+use Rattle.standing_laws.specs.domain_standing.Domain.{DomainNow, all_of, layout_of}
+use Rattle.standing_laws.specs.domain_standing.Holders.{Holder, Holds}
+use Rattle.standing_laws.specs.domain_standing.Holders.Holder.{of_cells, of_table, of_tags}
+use Rattle.standing_laws.specs.domain_standing.Sources.{StandAlone}
+use Rattle.standing_laws.specs.domain_standing.Tables.{HasVolumeCell, StandTables, first_place}
 use Rattle.standing_laws.specs.Leads.{StandsBelow}
 use Rattle.standing_laws.proofs.CellsNow.{free_not_used, used_or_free}
 use Rattle.standing_laws.proofs.TablesStand.{default_is, first_in, past}

@@ -1,7 +1,7 @@
 -- A domain that stands with some files.
-use Rattle.deferred_delete.specs.Standing.{Files}
-use Rattle.domain_standing.specs.Chains.{IndexesAt}
-use Rattle.domain_standing.specs.Domain.{DomainNow}
+use Rattle.standing_laws.specs.release_list.Standing.{Files}
+use Rattle.standing_laws.specs.domain_standing.Chains.{IndexesAt}
+use Rattle.standing_laws.specs.domain_standing.Domain.{DomainNow}
 use Rattle.standing_laws.specs.Leads.{StandsBelow}
 
 -- with some files and indexes all of it but its filesets stands

@@ -1,7 +1,7 @@
 -- A domain of which no page waits any more.
-use Rattle.free_space.specs.Spaces.{change_volumes}
-use Rattle.free_space.specs.VolumeSpace.{with_none_waiting}
-use Rattle.domain_standing.specs.Domain.{DomainNow}
+use Rattle.standing_laws.specs.free_space.Spaces.{change_volumes}
+use Rattle.standing_laws.specs.free_space.VolumeSpace.{with_none_waiting}
+use Rattle.standing_laws.specs.domain_standing.Domain.{DomainNow}
 
 -- each page that waits is free, and that is kept
 abbrev pub freed : DomainNow → DomainNow

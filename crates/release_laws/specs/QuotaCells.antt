@@ -1,21 +1,21 @@
 -- Quota cells of what is being removed that go one after the other, as changes of the domain.
 use Rattle.std.specs.Prelude.{◌≡◌, ◌||◌, ◌∷◌, ℕ, List, [], None, Option, Some, IsSomeAnd}
-use Rattle.domain_base.specs.declared.place.CellAt.{CellAt}
-use Rattle.domain_base.specs.declared.place.Home.{Home}
-use Rattle.page_store.specs.Pages.{Pages}
-use Rattle.bmt_mcells.specs.Chain.{LeavesOthers, PlacedCell, is_at}
-use Rattle.free_cells.specs.Cells.{Cells, FreesCell}
-use Rattle.fileset_table.specs.Page.{IsTablePage}
-use Rattle.fileset_table.specs.Table.{with_slot}
-use Rattle.fileset_table.specs.declared.slot.SlotItem.TheVariants as slot
-use Rattle.domain_layout.specs.Filled.{Contents}
-use Rattle.bitfile_cells.specs.Allocated.{AreAllocated}
-use Rattle.bitfile_cells.specs.MapChanges.{ChangesAtMost, LeavesOffTables}
-use Rattle.deferred_delete.specs.Standing.{Files, IsQuotas, with_file}
-use Rattle.deferred_delete.specs.Steps.{leads_to}
-use Rattle.deferred_laws.specs.Kept.{HasNoEntry}
-use Rattle.domain_standing.specs.Chains.{IsQuotaOf, IsRemoved}
-use Rattle.domain_standing.specs.Domain.{DomainNow, item_in}
+use Rattle.standing_laws.specs.domain_base.declared.place.CellAt.{CellAt}
+use Rattle.standing_laws.specs.domain_base.declared.place.Home.{Home}
+use Rattle.standing_laws.specs.page_store.Pages.{Pages}
+use Rattle.standing_laws.specs.metadata_cells.Chain.{LeavesOthers, PlacedCell, is_at}
+use Rattle.standing_laws.specs.free_cells.Cells.{Cells, FreesCell}
+use Rattle.standing_laws.specs.fileset_table.Page.{IsTablePage}
+use Rattle.standing_laws.specs.fileset_table.Table.{with_slot}
+use Rattle.standing_laws.specs.fileset_table.declared.slot.SlotItem.TheVariants as slot
+use Rattle.standing_laws.specs.domain_layout.Filled.{Contents}
+use Rattle.standing_laws.specs.file_chains.Allocated.{AreAllocated}
+use Rattle.standing_laws.specs.file_chains.MapChanges.{ChangesAtMost, LeavesOffTables}
+use Rattle.standing_laws.specs.release_list.Standing.{Files, IsQuotas, with_file}
+use Rattle.standing_laws.specs.release_list.Steps.{leads_to}
+use Rattle.standing_laws.specs.release_steps.Kept.{HasNoEntry}
+use Rattle.standing_laws.specs.domain_standing.Chains.{IsQuotaOf, IsRemoved}
+use Rattle.standing_laws.specs.domain_standing.Domain.{DomainNow, item_in}
 
 -- of the quota cells that the slot of what is being removed names, and that are not on the list,
 -- the second goes: it is free, and the first leads past it. Nothing else changes

@@ -1,14 +1,14 @@
 -- Steps in which things on the list of a domain are let go of, as a change of the domain.
 use Rattle.std.specs.Prelude.{◌≡◌, ℕ, List, None, Some}
-use Rattle.domain_base.specs.declared.place.CellAt.{CellAt}
-use Rattle.domain_base.specs.declared.place.Home.{Home}
-use Rattle.bmt_mcells.specs.Chain.{PlacedCell}
-use Rattle.bitfile_core.specs.Shown.{index_of}
-use Rattle.deferred_delete.specs.Standing.{Files}
-use Rattle.deferred_delete.specs.Steps.{Steps}
-use Rattle.deferred_laws.specs.Kept.{HasNoEntry}
-use Rattle.domain_standing.specs.Chains.{IsQuotaOf, IsRemoved}
-use Rattle.domain_standing.specs.Domain.{DomainNow, all_of, item_in}
+use Rattle.standing_laws.specs.domain_base.declared.place.CellAt.{CellAt}
+use Rattle.standing_laws.specs.domain_base.declared.place.Home.{Home}
+use Rattle.standing_laws.specs.metadata_cells.Chain.{PlacedCell}
+use Rattle.standing_laws.specs.fileset_files.Shown.{index_of}
+use Rattle.standing_laws.specs.release_list.Standing.{Files}
+use Rattle.standing_laws.specs.release_list.Steps.{Steps}
+use Rattle.standing_laws.specs.release_steps.Kept.{HasNoEntry}
+use Rattle.standing_laws.specs.domain_standing.Chains.{IsQuotaOf, IsRemoved}
+use Rattle.standing_laws.specs.domain_standing.Domain.{DomainNow, all_of, item_in}
 
 -- quota cells that a slot names do not all go
 abbrev pub QuotasStay : DomainNow → Files → Type 0

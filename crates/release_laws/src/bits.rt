@@ -1,15 +1,15 @@
 //! Bits of bitmaps, and what was kept of free space.
 ghost use Rattle.std.specs.Prelude.{◌≡◌, ℕ};
-ghost use Rattle.deferred_delete.specs.Standing.{Files};
-ghost use Rattle.domain_standing.specs.Chains.{IndexesAt};
-ghost use Rattle.domain_standing.specs.Domain.{DomainNow};
-ghost use Rattle.domain_standing.specs.Sources.{StandAlone};
-ghost use Rattle.domain_standing.specs.Standing.{IsMarkedBut};
-ghost use Rattle.free_space.specs.Spaces.{Spaces, kept_spaces};
+ghost use Rattle.standing_laws.specs.release_list.Standing.{Files};
+ghost use Rattle.standing_laws.specs.domain_standing.Chains.{IndexesAt};
+ghost use Rattle.standing_laws.specs.domain_standing.Domain.{DomainNow};
+ghost use Rattle.standing_laws.specs.domain_standing.Sources.{StandAlone};
+ghost use Rattle.standing_laws.specs.domain_standing.Standing.{IsMarkedBut};
+ghost use Rattle.standing_laws.specs.free_space.Spaces.{Spaces, kept_spaces};
 ghost use Rattle.standing_laws.specs.Leads.{StandsBelow};
 ghost use Rattle.release_laws.specs.Released.{Releases};
 
-/// Bits of bitmaps say of free space what they said, once things on the list of a domain were let go
+/// Bits of bitmaps say what they said of free space once things on the list of a domain were let go
 /// of.
 pub fn bits_stay_over_steps()
     ensures { (group count : ℕ) (d now : DomainNow) (files files_now : Files)
@@ -19,7 +19,7 @@ pub fn bits_stay_over_steps()
         → IsMarkedBut (record now { space = space }) }
 {}
 
-/// And what was kept of free space is what it was.
+/// What was kept of free space is what it was.
 pub fn kept_space_stays_over_steps()
     ensures { (group count : ℕ) (d now : DomainNow) (files files_now : Files)
         (indexes : IndexesAt) → StandsBelow d files indexes → StandAlone d

@@ -1,14 +1,14 @@
-//! Pages that wait, and come free.
-ghost use Rattle.deferred_delete.specs.Standing.{Files};
-ghost use Rattle.fileset_model.specs.Filesets.{FilesetMap};
-ghost use Rattle.domain_standing.specs.Chains.{IndexesAt};
-ghost use Rattle.domain_standing.specs.Domain.{DomainNow};
-ghost use Rattle.domain_standing.specs.Slots.{StandSlots};
-ghost use Rattle.domain_standing.specs.Standing.{IsMarkedBut};
+//! Freeing pages that wait.
+ghost use Rattle.standing_laws.specs.release_list.Standing.{Files};
+ghost use Rattle.standing_laws.specs.fileset_model.Filesets.{FilesetMap};
+ghost use Rattle.standing_laws.specs.domain_standing.Chains.{IndexesAt};
+ghost use Rattle.standing_laws.specs.domain_standing.Domain.{DomainNow};
+ghost use Rattle.standing_laws.specs.domain_standing.Slots.{StandSlots};
+ghost use Rattle.standing_laws.specs.domain_standing.Standing.{IsMarkedBut};
 ghost use Rattle.standing_laws.specs.Leads.{StandsBelow};
 ghost use Rattle.release_laws.specs.Freed.{freed};
 
-/// Where a domain stands, it does so with all pages free that wait: those are held for nothing.
+/// If a domain stands, it also stands once all pages that wait are free: they are held for nothing.
 pub fn all_below_stands_on_where_pages_come_free()
     ensures { (d : DomainNow) (files : Files) (indexes : IndexesAt) → StandsBelow d files indexes
         → StandsBelow (freed d) files indexes }
@@ -20,7 +20,7 @@ pub fn filesets_stand_on_where_pages_come_free()
         → (all : FilesetMap) → StandSlots d all → StandSlots (freed d) all }
 {}
 
-/// And bits of bitmaps say still which pages are used and do not wait.
+/// Bits of bitmaps still say which pages are used and do not wait.
 pub fn bits_say_what_is_held_where_pages_come_free()
     ensures { (d : DomainNow) → IsMarkedBut d → IsMarkedBut (freed d) }
 {}

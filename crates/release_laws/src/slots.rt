@@ -1,12 +1,12 @@
 //! The filesets of slots.
 ghost use Rattle.std.specs.Prelude.{ℕ};
-ghost use Rattle.deferred_delete.specs.Standing.{Files};
-ghost use Rattle.fileset_model.specs.Filesets.{FilesetMap};
-ghost use Rattle.domain_standing.specs.Chains.{IndexesAt};
-ghost use Rattle.domain_standing.specs.Domain.{DomainNow};
-ghost use Rattle.domain_standing.specs.Slots.{StandSlots};
-ghost use Rattle.domain_standing.specs.Sources.{StandAlone};
-ghost use Rattle.domain_standing.specs.Standing.{HaveParents};
+ghost use Rattle.standing_laws.specs.release_list.Standing.{Files};
+ghost use Rattle.standing_laws.specs.fileset_model.Filesets.{FilesetMap};
+ghost use Rattle.standing_laws.specs.domain_standing.Chains.{IndexesAt};
+ghost use Rattle.standing_laws.specs.domain_standing.Domain.{DomainNow};
+ghost use Rattle.standing_laws.specs.domain_standing.Slots.{StandSlots};
+ghost use Rattle.standing_laws.specs.domain_standing.Sources.{StandAlone};
+ghost use Rattle.standing_laws.specs.domain_standing.Standing.{HaveParents};
 ghost use Rattle.standing_laws.specs.Leads.{StandsBelow};
 ghost use Rattle.release_laws.specs.Released.{Releases};
 ghost use Rattle.release_laws.specs.Trimmed.{TrimsFiles};
@@ -21,7 +21,7 @@ pub fn filesets_stand_over_steps()
         → StandSlots d all → StandSlots now all }
 {}
 
-/// And each directory says still the one in which its row stands.
+/// Each directory still says the one in which its row stands.
 pub fn parents_stay_over_steps()
     ensures { (group count : ℕ) (d now : DomainNow) (files files_now : Files)
         (indexes : IndexesAt) → StandsBelow d files indexes

@@ -1,14 +1,14 @@
 //! The tables of a domain.
 ghost use Rattle.std.specs.Prelude.{ℕ};
-ghost use Rattle.deferred_delete.specs.Standing.{Files};
-ghost use Rattle.domain_standing.specs.Chains.{IndexesAt};
-ghost use Rattle.domain_standing.specs.Domain.{DomainNow};
-ghost use Rattle.domain_standing.specs.Sources.{StandAlone};
-ghost use Rattle.domain_standing.specs.Tables.{StandTables};
+ghost use Rattle.standing_laws.specs.release_list.Standing.{Files};
+ghost use Rattle.standing_laws.specs.domain_standing.Chains.{IndexesAt};
+ghost use Rattle.standing_laws.specs.domain_standing.Domain.{DomainNow};
+ghost use Rattle.standing_laws.specs.domain_standing.Sources.{StandAlone};
+ghost use Rattle.standing_laws.specs.domain_standing.Tables.{StandTables};
 ghost use Rattle.standing_laws.specs.Leads.{StandsBelow};
 ghost use Rattle.release_laws.specs.Released.{Releases};
 
-/// Where a domain stands, its tables do once things on its list were let go of.
+/// If a domain stands, its tables also stand once things on its list were let go of.
 pub fn tables_stand_on_over_steps()
     ensures { (group count : ℕ) (d now : DomainNow) (files files_now : Files)
         (indexes : IndexesAt) → StandsBelow d files indexes → StandAlone d

@@ -1,42 +1,42 @@
 -- A file that was cut is let go of, and calls go on.
 use Rattle.std.proofs.Common.{◌≡◌, ◌∙◌, ◌⊎◌, ⊎_elim, inl, inr, ℕ, ◌≤◌, false, List, [], ◌∷◌, Option, Some, None, IsSomeAnd, is_some, Contains, refl, sym, ap, subst}
 use Rattle.std.specs.Option.{option_and_then}
-use Rattle.domain_base.specs.declared.place.CellAt.{CellAt}
-use Rattle.domain_base.specs.declared.place.Home.{Home}
-use Rattle.domain_base.specs.declared.place.Tag.{Tag}
-use Rattle.domain_base.specs.declared.version.Version.{Version}
-use Rattle.page_store.specs.Bitfiles.{same_tag}
-use Rattle.page_store.specs.Pages.{Pages}
-use Rattle.page_store.specs.declared.fault.StoreFault.{StoreFault}
-use Rattle.page_store.specs.declared.fault.StoreFault.TheVariants.{NoPage, OutOfMemory}
-use Rattle.record_table.specs.declared.record.Leftover.TheVariants.{Trim}
-use Rattle.bmt_mcells.specs.Chain.{PlacedCell}
-use Rattle.free_cells.specs.Cells.{Cells, table_of}
-use Rattle.free_space.specs.Spaces.{Spaces, missed}
-use Rattle.bitfile_cells.specs.Allocated.{FindsNone}
-use Rattle.bitfile_cells.specs.Files.{IsFile}
-use Rattle.deferred_delete.specs.declared.list.Entry.{Entry}
-use Rattle.deferred_delete.specs.Listed.{IsEntry, left_of}
-use Rattle.deferred_delete.specs.Listing.{Adds, Listing}
-use Rattle.deferred_delete.specs.Standing.{ReadsThrough, Source}
-use Rattle.deferred_delete.specs.Steps.{IsWell, LetsGo, Now, Steps, now_of}
-use Rattle.deferred_laws.specs.Calls.{FilesetNow, StandsWell, no_call, one_more, refused}
-use Rattle.deferred_laws.specs.Kept.{IsBeside}
-use Rattle.deferred_laws.specs.Lists.{with_list}
-use Rattle.deferred_laws.specs.Tags.{AreAmong, chains_in, start_of}
-use Rattle.deferred_laws.specs.Taken.{IsHeldAt, IsTaken}
-use Rattle.deferred_laws.specs.Waits.{IsGivenUp}
-use Rattle.deferred_laws.proofs.CallsWell.{stands_still}
-use Rattle.bitfile_core.specs.Files.{first_record}
-use Rattle.deferred_laws.proofs.FirstWell.{are_file, some_record}
-use Rattle.deferred_laws.proofs.HeldPages.{held_exactly}
-use Rattle.deferred_laws.proofs.HeldSteps.{held_after}
-use Rattle.deferred_laws.proofs.Listing.{entry_among, entry_listed, list_stays, which_entry}
-use Rattle.deferred_laws.proofs.SourcesStay.{sources_stay}
-use Rattle.deferred_laws.proofs.TagCalls.{others_same}
-use Rattle.deferred_laws.proofs.Tags.{tags_stay_together}
-use Rattle.deferred_laws.proofs.TagsBeside.{begin_apart, beside_stay}
-use Rattle.deferred_laws.proofs.Wells.{wells_stay}
+use Rattle.release_steps.specs.domain_base.declared.place.CellAt.{CellAt}
+use Rattle.release_steps.specs.domain_base.declared.place.Home.{Home}
+use Rattle.release_steps.specs.domain_base.declared.place.Tag.{Tag}
+use Rattle.release_steps.specs.domain_base.declared.version.Version.{Version}
+use Rattle.release_steps.specs.page_store.Bitfiles.{same_tag}
+use Rattle.release_steps.specs.page_store.Pages.{Pages}
+use Rattle.release_steps.specs.page_store.declared.fault.StoreFault.{StoreFault}
+use Rattle.release_steps.specs.page_store.declared.fault.StoreFault.TheVariants.{NoPage, OutOfMemory}
+use Rattle.release_steps.specs.cell_records.declared.record.Leftover.TheVariants.{Trim}
+use Rattle.release_steps.specs.metadata_cells.Chain.{PlacedCell}
+use Rattle.release_steps.specs.free_cells.Cells.{Cells, table_of}
+use Rattle.release_steps.specs.free_space.Spaces.{Spaces, missed}
+use Rattle.release_steps.specs.file_chains.Allocated.{FindsNone}
+use Rattle.release_steps.specs.file_chains.Files.{IsFile}
+use Rattle.release_steps.specs.release_list.declared.list.Entry.{Entry}
+use Rattle.release_steps.specs.release_list.Listed.{IsEntry, left_of}
+use Rattle.release_steps.specs.release_list.Listing.{Adds, Listing}
+use Rattle.release_steps.specs.release_list.Standing.{ReadsThrough, Source}
+use Rattle.release_steps.specs.release_list.Steps.{IsWell, LetsGo, Now, Steps, now_of}
+use Rattle.release_steps.specs.Calls.{FilesetNow, StandsWell, no_call, one_more, refused}
+use Rattle.release_steps.specs.Kept.{IsBeside}
+use Rattle.release_steps.specs.Lists.{with_list}
+use Rattle.release_steps.specs.Tags.{AreAmong, chains_in, start_of}
+use Rattle.release_steps.specs.Taken.{IsHeldAt, IsTaken}
+use Rattle.release_steps.specs.Waits.{IsGivenUp}
+use Rattle.release_steps.proofs.CallsWell.{stands_still}
+use Rattle.release_steps.specs.fileset_files.Files.{first_record}
+use Rattle.release_steps.proofs.FirstWell.{are_file, some_record}
+use Rattle.release_steps.proofs.HeldPages.{held_exactly}
+use Rattle.release_steps.proofs.HeldSteps.{held_after}
+use Rattle.release_steps.proofs.Listing.{entry_among, entry_listed, list_stays, which_entry}
+use Rattle.release_steps.proofs.SourcesStay.{sources_stay}
+use Rattle.release_steps.proofs.TagCalls.{others_same}
+use Rattle.release_steps.proofs.Tags.{tags_stay_together}
+use Rattle.release_steps.proofs.TagsBeside.{begin_apart, beside_stay}
+use Rattle.release_steps.proofs.Wells.{wells_stay}
 use Rattle.release_tests.specs.Called.{HasCalled, HasCut, HasLetGo, HasNoClone, IsCut, IsWrittenAgain, Parts, fileset_in}
 use Rattle.release_tests.proofs.Wells.{none_some, some_same}
 

@@ -1,27 +1,27 @@
 -- Two filesets of one domain go on beside each other.
 use Rattle.std.proofs.Common.{◌≡◌, ◌∙◌, ℕ, true, false, List, [], ◌∷◌, Some, None, refl, sym, ⊎_elim}
 use Rattle.std.proofs.lemmas.Bool.{cases_Bool, true≢false}
-use Rattle.domain_base.specs.declared.place.Home.{Home}
-use Rattle.domain_base.specs.declared.place.Tag.{Tag}
-use Rattle.domain_base.specs.declared.version.Version.{Version}
-use Rattle.page_store.specs.Pages.{Pages}
-use Rattle.tag_dirs.specs.declared.dir.TagPlace.{TagPlace}
-use Rattle.tag_dirs.specs.Directory.{has_home}
-use Rattle.extent_maps.specs.declared.run.PagePlace.TheVariants.{Absent, At}
-use Rattle.free_cells.specs.Cells.{Cells}
-use Rattle.free_space.specs.Spaces.{Spaces}
-use Rattle.bitfile_cells.specs.Allocated.{AreAllocated}
-use Rattle.bitfile_cells.specs.FileChanges.{LeavesOtherCells}
-use Rattle.bitfile_core.specs.Creation.{Creates, LeavesBeside, TakesForFile, with_new}
-use Rattle.bitfile_core.specs.declared.new_cells.NewFile.{NewFile}
-use Rattle.bitfile_core.specs.Files.{Chains}
-use Rattle.chain_release.proofs.Once.{absent_not}
-use Rattle.deferred_delete.specs.Listing.{Listing}
-use Rattle.deferred_delete.specs.Standing.{Files, with_file}
-use Rattle.deferred_laws.specs.Beside.{StandsBeside}
-use Rattle.deferred_laws.specs.Calls.{Call, FilesetNow, StandsWell, made, no_call, one_more}
-use Rattle.deferred_laws.proofs.CallsWell.{stands_still}
-use Rattle.deferred_laws.proofs.OtherFilesets.{other_filesets_same}
+use Rattle.release_steps.specs.domain_base.declared.place.Home.{Home}
+use Rattle.release_steps.specs.domain_base.declared.place.Tag.{Tag}
+use Rattle.release_steps.specs.domain_base.declared.version.Version.{Version}
+use Rattle.release_steps.specs.page_store.Pages.{Pages}
+use Rattle.release_steps.specs.tag_dirs.declared.dir.TagPlace.{TagPlace}
+use Rattle.release_steps.specs.tag_dirs.Directory.{has_home}
+use Rattle.release_steps.specs.extent_maps.declared.run.PagePlace.TheVariants.{Absent, At}
+use Rattle.release_steps.specs.free_cells.Cells.{Cells}
+use Rattle.release_steps.specs.free_space.Spaces.{Spaces}
+use Rattle.release_steps.specs.file_chains.Allocated.{AreAllocated}
+use Rattle.release_steps.specs.file_chains.FileChanges.{LeavesOtherCells}
+use Rattle.release_steps.specs.fileset_files.Creation.{Creates, LeavesBeside, TakesForFile, with_new}
+use Rattle.release_steps.specs.fileset_files.declared.new_cells.NewFile.{NewFile}
+use Rattle.release_steps.specs.fileset_files.Files.{Chains}
+use Rattle.release_steps.proofs.OfFileRelease.Once.{absent_not}
+use Rattle.release_steps.specs.release_list.Listing.{Listing}
+use Rattle.release_steps.specs.release_list.Standing.{Files, with_file}
+use Rattle.release_steps.specs.Beside.{StandsBeside}
+use Rattle.release_steps.specs.Calls.{Call, FilesetNow, StandsWell, made, no_call, one_more}
+use Rattle.release_steps.proofs.CallsWell.{stands_still}
+use Rattle.release_steps.proofs.OtherFilesets.{other_filesets_same}
 use Rattle.file_tests.specs.First.{IsEmpty}
 use Rattle.release_tests.specs.Called.{Parts, fileset_in}
 use Rattle.release_tests.proofs.Wells.{no_files, none_stands}

@@ -1,36 +1,36 @@
 -- Calls on a tag from what the calls answer.
 use Rattle.std.proofs.Common.{◌≡◌, ◌∙◌, ◌⊎◌, inl, inr, ℕ, List, [], ◌∷◌, Option, Some, None, IfSome, IsSomeAnd, IfOk, IfErr, OnErr, Ok, Err, Result, refl, ap}
 use Rattle.std.specs.Option.{option_and_then, option_map}
-use Rattle.domain_base.specs.declared.place.CellAt.{CellAt}
-use Rattle.domain_base.specs.declared.place.Home.{Home}
-use Rattle.domain_base.specs.declared.place.Tag.{Tag}
-use Rattle.domain_base.specs.declared.version.Version.{Version}
-use Rattle.page_store.specs.Pages.{Pages}
-use Rattle.page_store.specs.declared.fault.StoreFault.{StoreFault}
-use Rattle.page_store.specs.declared.fault.StoreFault.TheVariants.{NoPage, OutOfMemory}
-use Rattle.record_table.specs.declared.record.Record.{Record}
-use Rattle.bmt_mcells.specs.Cell.{record_of}
-use Rattle.bmt_mcells.specs.Chain.{PlacedCell}
-use Rattle.tag_dirs.specs.declared.dir.TagPlace.{TagPlace}
-use Rattle.tag_dirs.specs.Directory.{cell_of}
-use Rattle.extent_maps.specs.declared.run.PagePlace.TheVariants.{At}
-use Rattle.free_cells.specs.Cells.{Cells}
-use Rattle.free_space.specs.Spaces.{Spaces, missed}
-use Rattle.bitfile_cells.specs.FileChanges.{LeavesOtherCells}
-use Rattle.bitfile_cells.specs.Files.{IsFile}
-use Rattle.bitfile_cells.specs.MapChanges.{LeavesOffTables}
-use Rattle.bitfile_core.specs.Changes.{ChangesFirst, with_chain, with_first}
-use Rattle.bitfile_core.specs.Creation.{Creates, LeavesBeside, TakesForFile, with_new}
-use Rattle.bitfile_core.specs.declared.new_cells.NewFile.{NewFile}
-use Rattle.bitfile_core.specs.Files.{Chains, LeadsToFile}
-use Rattle.bitfile_core.specs.Pages.{ChangesFile, GetsNone, TakesHome}
-use Rattle.bitfile_core.specs.Truncation.{Truncates, TruncatesTogether, pending_cell, says_truncated}
-use Rattle.bitfile_core.proofs.OneChain.{chain_same, same_tag_itself}
-use Rattle.deferred_delete.specs.Listing.{Listing}
-use Rattle.deferred_delete.specs.Standing.{Files, with_file}
-use Rattle.deferred_laws.specs.Calls.{FilesetNow, StandsWell, cut, given, made, no_call, one_more, refused}
-use Rattle.deferred_laws.specs.Tags.{start_of}
-use Rattle.deferred_laws.proofs.CallsWell.{stands_still}
+use Rattle.release_steps.specs.domain_base.declared.place.CellAt.{CellAt}
+use Rattle.release_steps.specs.domain_base.declared.place.Home.{Home}
+use Rattle.release_steps.specs.domain_base.declared.place.Tag.{Tag}
+use Rattle.release_steps.specs.domain_base.declared.version.Version.{Version}
+use Rattle.release_steps.specs.page_store.Pages.{Pages}
+use Rattle.release_steps.specs.page_store.declared.fault.StoreFault.{StoreFault}
+use Rattle.release_steps.specs.page_store.declared.fault.StoreFault.TheVariants.{NoPage, OutOfMemory}
+use Rattle.release_steps.specs.cell_records.declared.record.Record.{Record}
+use Rattle.release_steps.specs.metadata_cells.Cell.{record_of}
+use Rattle.release_steps.specs.metadata_cells.Chain.{PlacedCell}
+use Rattle.release_steps.specs.tag_dirs.declared.dir.TagPlace.{TagPlace}
+use Rattle.release_steps.specs.tag_dirs.Directory.{cell_of}
+use Rattle.release_steps.specs.extent_maps.declared.run.PagePlace.TheVariants.{At}
+use Rattle.release_steps.specs.free_cells.Cells.{Cells}
+use Rattle.release_steps.specs.free_space.Spaces.{Spaces, missed}
+use Rattle.release_steps.specs.file_chains.FileChanges.{LeavesOtherCells}
+use Rattle.release_steps.specs.file_chains.Files.{IsFile}
+use Rattle.release_steps.specs.file_chains.MapChanges.{LeavesOffTables}
+use Rattle.release_steps.specs.fileset_files.Changes.{ChangesFirst, with_chain, with_first}
+use Rattle.release_steps.specs.fileset_files.Creation.{Creates, LeavesBeside, TakesForFile, with_new}
+use Rattle.release_steps.specs.fileset_files.declared.new_cells.NewFile.{NewFile}
+use Rattle.release_steps.specs.fileset_files.Files.{Chains, LeadsToFile}
+use Rattle.release_steps.specs.fileset_files.Pages.{ChangesFile, GetsNone, TakesHome}
+use Rattle.release_steps.specs.fileset_files.Truncation.{Truncates, TruncatesTogether, pending_cell, says_truncated}
+use Rattle.release_steps.proofs.OfFilesetFiles.OneChain.{chain_same, same_tag_itself}
+use Rattle.release_steps.specs.release_list.Listing.{Listing}
+use Rattle.release_steps.specs.release_list.Standing.{Files, with_file}
+use Rattle.release_steps.specs.Calls.{FilesetNow, StandsWell, cut, given, made, no_call, one_more, refused}
+use Rattle.release_steps.specs.Tags.{start_of}
+use Rattle.release_steps.proofs.CallsWell.{stands_still}
 use Rattle.release_tests.specs.Called.{HasCalled, HasCut, Parts, fileset_in}
 
 -- where calls led all belongs together

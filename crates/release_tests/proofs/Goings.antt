@@ -1,30 +1,30 @@
 -- Files of which something is to be let go of, once they were cut or removed.
 use Rattle.std.proofs.Common.{◌≡◌, ◌∙◌, ℕ, List, [], ◌∷◌, Option, Some, None, IfSome, IsSomeAnd, refl, sym, ap, subst}
 use Rattle.std.specs.Option.{option_map, option_map_or}
-use Rattle.domain_base.specs.declared.place.CellAt.{CellAt}
-use Rattle.domain_base.specs.declared.place.Home.{Home}
-use Rattle.domain_base.specs.declared.place.Tag.{Tag}
-use Rattle.page_store.specs.Pages.{Pages}
-use Rattle.record_table.specs.declared.record.Record.{Record}
-use Rattle.bmt_mcells.specs.Cell.{record_of}
-use Rattle.bmt_mcells.specs.Chain.{PlacedCell}
-use Rattle.tag_dirs.specs.declared.dir.TagPlace.{TagPlace}
-use Rattle.tag_dirs.specs.Directory.{cell_of}
-use Rattle.extent_maps.specs.declared.run.PagePlace.TheVariants.{Absent, At}
-use Rattle.extent_maps.specs.Runs.{place_of}
-use Rattle.free_cells.specs.Cells.{Cells}
-use Rattle.free_space.specs.Spaces.{Spaces}
-use Rattle.bitfile_cells.specs.Allocated.{AreAllocated}
-use Rattle.bitfile_cells.specs.FileChanges.{AreOnTables}
-use Rattle.bitfile_cells.specs.Files.{AreFile, IsFile, places_of}
-use Rattle.bitfile_core.specs.Changes.{says_removed, with_chain, with_first}
-use Rattle.bitfile_core.specs.Files.{Chains, LeadsToFile, place_at}
-use Rattle.bitfile_core.specs.Together.{AreTogether}
-use Rattle.bitfile_core.specs.Truncation.{Truncates, TruncatesTogether, pending_cell, says_truncated}
-use Rattle.bitfile_core.proofs.Created.{one_chains}
-use Rattle.bitfile_core.proofs.FirstTogether.{runs_kept}
-use Rattle.bitfile_core.proofs.OneChain.{chain_same, same_tag_itself}
-use Rattle.bitfile_core.proofs.RemovedTogether.{removed_keeps}
+use Rattle.release_steps.specs.domain_base.declared.place.CellAt.{CellAt}
+use Rattle.release_steps.specs.domain_base.declared.place.Home.{Home}
+use Rattle.release_steps.specs.domain_base.declared.place.Tag.{Tag}
+use Rattle.release_steps.specs.page_store.Pages.{Pages}
+use Rattle.release_steps.specs.cell_records.declared.record.Record.{Record}
+use Rattle.release_steps.specs.metadata_cells.Cell.{record_of}
+use Rattle.release_steps.specs.metadata_cells.Chain.{PlacedCell}
+use Rattle.release_steps.specs.tag_dirs.declared.dir.TagPlace.{TagPlace}
+use Rattle.release_steps.specs.tag_dirs.Directory.{cell_of}
+use Rattle.release_steps.specs.extent_maps.declared.run.PagePlace.TheVariants.{Absent, At}
+use Rattle.release_steps.specs.extent_maps.Runs.{place_of}
+use Rattle.release_steps.specs.free_cells.Cells.{Cells}
+use Rattle.release_steps.specs.free_space.Spaces.{Spaces}
+use Rattle.release_steps.specs.file_chains.Allocated.{AreAllocated}
+use Rattle.release_steps.specs.file_chains.FileChanges.{AreOnTables}
+use Rattle.release_steps.specs.file_chains.Files.{AreFile, IsFile, places_of}
+use Rattle.release_steps.specs.fileset_files.Changes.{says_removed, with_chain, with_first}
+use Rattle.release_steps.specs.fileset_files.Files.{Chains, LeadsToFile, place_at}
+use Rattle.release_steps.specs.fileset_files.Together.{AreTogether}
+use Rattle.release_steps.specs.fileset_files.Truncation.{Truncates, TruncatesTogether, pending_cell, says_truncated}
+use Rattle.release_steps.proofs.OfFilesetFiles.Created.{one_chains}
+use Rattle.release_steps.proofs.OfFilesetFiles.FirstTogether.{runs_kept}
+use Rattle.release_steps.proofs.OfFilesetFiles.OneChain.{chain_same, same_tag_itself}
+use Rattle.release_steps.proofs.OfFilesetFiles.RemovedTogether.{removed_keeps}
 use Rattle.release_tests.specs.Going.{IsGoing}
 
 pub placed : (chains : Chains) (tag : Tag) (chain : List PlacedCell) (p : ℕ) → chains tag ≡ Some chain → place_at chains tag p ≡ places_of chain p

@@ -1,43 +1,43 @@
 -- A file that goes, and one that reads through it.
 use Rattle.std.proofs.Common.{◌≡◌, ◌∙◌, ◌⊎◌, inl, inr, ℕ, ◌≤◌, false, nat_le, List, [], ◌∷◌, ◌++◌, Option, Some, is_some, None, IsSome, IsSomeAnd, Contains, refl, sym, ap, subst, arith, ⊎_elim}
 use Rattle.std.specs.Option.{option_and_then, option_map_or}
-use Rattle.domain_base.specs.declared.place.CellAt.{CellAt}
-use Rattle.domain_base.specs.declared.place.Home.{Home}
-use Rattle.page_store.specs.Pages.{Pages}
-use Rattle.record_table.specs.declared.record.Record.{Record}
-use Rattle.record_table.specs.Records.{kind_of}
-use Rattle.bmt_mcells.specs.Cell.{Cell, record_of}
-use Rattle.bmt_mcells.specs.CellPage.{KeepsHeaders, KeepsWellFormed}
-use Rattle.bmt_mcells.specs.Chain.{LeavesOthers, PlacedCell, StandsAt, is_at, places as cell_places}
-use Rattle.extent_maps.specs.declared.run.PagePlace.TheVariants.{Absent, At}
-use Rattle.extent_maps.specs.Runs.{place_of}
-use Rattle.extent_records.specs.Writing.{most_rows}
-use Rattle.free_cells.specs.Cells.{Cells}
-use Rattle.free_space.specs.VolumeSpace.{with_page}
-use Rattle.free_space.specs.Spaces.{CanTake, Spaces, change_volume}
-use Rattle.bitfile_cells.specs.Allocated.{AreAllocated}
-use Rattle.bitfile_cells.specs.Changes.{HasRoom, with_kind, with_record}
-use Rattle.bitfile_cells.specs.Files.{AreFile, IsFile, has_rows, places_of}
-use Rattle.bitfile_cells.proofs.Added.{not_zeros}
-use Rattle.bitfile_cells.proofs.ChainChanges.{at_apart}
-use Rattle.bitfile_cells.proofs.Spaces.{not_held}
-use Rattle.bitfile_cells.proofs.Still.{allocated_still}
-use Rattle.bitfile_core.specs.Changes.{with_first}
-use Rattle.bitfile_core.specs.Files.{AreApart, first_record, is_first_kind}
-use Rattle.bitfile_core.proofs.FirstCell.{file_now, find_other, find_put, map_stays}
-use Rattle.bitfile_core.proofs.FirstRoom.{first_room, kinds_replaced}
-use Rattle.bitfile_core.proofs.FirstTogether.{not_of, rows, runs_kept}
-use Rattle.bitfile_core.proofs.Grown.{allocated_taken, apart_now, apart_taken}
-use Rattle.chain_release.proofs.Once.{absent_not}
-use Rattle.deferred_delete.specs.Listed.{IsEntry, IsListed, SaysWhatGoes}
-use Rattle.deferred_delete.specs.Listing.{Adds, Listing}
-use Rattle.deferred_delete.specs.Standing.{Files, IsStanding, ReadsThrough, Source, StandTogether, place_in, source_in, source_of, with_file}
-use Rattle.deferred_delete.specs.Steps.{IsWell, now_of}
-use Rattle.deferred_delete.proofs.Spread.{Which, other, reading, source, which}
-use Rattle.deferred_delete.proofs.Standings.{apart_from, each_from, file_beside, file_other, file_there, source_by}
-use Rattle.deferred_laws.specs.Waits.{IsNowhere}
-use Rattle.deferred_laws.proofs.CallsWell.{well_held}
-use Rattle.deferred_laws.proofs.Listing.{entry_listed, page_listed}
+use Rattle.release_steps.specs.domain_base.declared.place.CellAt.{CellAt}
+use Rattle.release_steps.specs.domain_base.declared.place.Home.{Home}
+use Rattle.release_steps.specs.page_store.Pages.{Pages}
+use Rattle.release_steps.specs.cell_records.declared.record.Record.{Record}
+use Rattle.release_steps.specs.cell_records.Records.{kind_of}
+use Rattle.release_steps.specs.metadata_cells.Cell.{Cell, record_of}
+use Rattle.release_steps.specs.metadata_cells.CellPage.{KeepsHeaders, KeepsWellFormed}
+use Rattle.release_steps.specs.metadata_cells.Chain.{LeavesOthers, PlacedCell, StandsAt, is_at, places as cell_places}
+use Rattle.release_steps.specs.extent_maps.declared.run.PagePlace.TheVariants.{Absent, At}
+use Rattle.release_steps.specs.extent_maps.Runs.{place_of}
+use Rattle.release_steps.specs.extent_records.Writing.{most_rows}
+use Rattle.release_steps.specs.free_cells.Cells.{Cells}
+use Rattle.release_steps.specs.free_space.VolumeSpace.{with_page}
+use Rattle.release_steps.specs.free_space.Spaces.{CanTake, Spaces, change_volume}
+use Rattle.release_steps.specs.file_chains.Allocated.{AreAllocated}
+use Rattle.release_steps.specs.file_chains.Changes.{HasRoom, with_kind, with_record}
+use Rattle.release_steps.specs.file_chains.Files.{AreFile, IsFile, has_rows, places_of}
+use Rattle.release_steps.proofs.OfFileChains.Added.{not_zeros}
+use Rattle.release_steps.proofs.OfFileChains.ChainChanges.{at_apart}
+use Rattle.release_steps.proofs.OfFileChains.Spaces.{not_held}
+use Rattle.release_steps.proofs.OfFileChains.Still.{allocated_still}
+use Rattle.release_steps.specs.fileset_files.Changes.{with_first}
+use Rattle.release_steps.specs.fileset_files.Files.{AreApart, first_record, is_first_kind}
+use Rattle.release_steps.proofs.OfFilesetFiles.FirstCell.{file_now, find_other, find_put, map_stays}
+use Rattle.release_steps.proofs.OfFilesetFiles.FirstRoom.{first_room, kinds_replaced}
+use Rattle.release_steps.proofs.OfFilesetFiles.FirstTogether.{not_of, rows, runs_kept}
+use Rattle.release_steps.proofs.OfFilesetFiles.Grown.{allocated_taken, apart_now, apart_taken}
+use Rattle.release_steps.proofs.OfFileRelease.Once.{absent_not}
+use Rattle.release_steps.specs.release_list.Listed.{IsEntry, IsListed, SaysWhatGoes}
+use Rattle.release_steps.specs.release_list.Listing.{Adds, Listing}
+use Rattle.release_steps.specs.release_list.Standing.{Files, IsStanding, ReadsThrough, Source, StandTogether, place_in, source_in, source_of, with_file}
+use Rattle.release_steps.specs.release_list.Steps.{IsWell, now_of}
+use Rattle.release_steps.proofs.OfReleaseList.Spread.{Which, other, reading, source, which}
+use Rattle.release_steps.proofs.OfReleaseList.Standings.{apart_from, each_from, file_beside, file_other, file_there, source_by}
+use Rattle.release_steps.specs.Waits.{IsNowhere}
+use Rattle.release_steps.proofs.CallsWell.{well_held}
+use Rattle.release_steps.proofs.Listing.{entry_listed, page_listed}
 use Rattle.release_tests.specs.Pairs.{AreTwo, IsCloneOf, IsPair}
 use Rattle.release_tests.proofs.Wells.{in_none, listing, no_files, none_some, some_same}
 

@@ -1,31 +1,31 @@
 -- Two files whose names were taken.
 use Rattle.std.proofs.Common.{◌≡◌, ◌∙◌, ℕ, Bool, false, cond, List, [], ◌∷◌, Option, Some, None, IfSome, IsSomeAnd, refl, sym, ap, subst, arith}
-use Rattle.domain_base.specs.declared.place.CellAt.{CellAt}
-use Rattle.domain_base.specs.declared.place.Home.{Home}
-use Rattle.domain_base.specs.declared.place.Tag.{Tag}
-use Rattle.page_store.specs.Bitfiles.{same_tag}
-use Rattle.page_store.specs.Pages.{Pages}
-use Rattle.record_table.specs.declared.record.Record.TheVariants as written
-use Rattle.record_table.specs.declared.record.Leftover.TheVariants.{Remove}
-use Rattle.bmt_mcells.specs.CellPage.{cell_at}
-use Rattle.bmt_mcells.specs.Chain.{LeavesOthers, PlacedCell, is_at}
-use Rattle.tag_dirs.specs.declared.dir.TagPlace.{TagPlace}
-use Rattle.tag_dirs.specs.Directory.{cell_of}
-use Rattle.extent_maps.specs.declared.run.PagePlace.TheVariants.{At}
-use Rattle.extent_maps.specs.Runs.{place_of}
-use Rattle.free_cells.specs.Cells.{Cells}
-use Rattle.free_space.specs.Spaces.{Spaces}
-use Rattle.bitfile_cells.specs.Allocated.{AreAllocated}
-use Rattle.bitfile_cells.specs.Files.{AreFile, IsFile, places_of}
-use Rattle.bitfile_core.specs.Changes.{ChangesBeside, is_first, says_removed, with_first, without_chain}
-use Rattle.bitfile_core.specs.Files.{AreApart, Chains, HasFirstKinds}
-use Rattle.bitfile_core.specs.Together.{AreTogether}
-use Rattle.bitfile_core.proofs.FirstRoom.{kinds_replaced}
-use Rattle.bitfile_core.proofs.FirstTogether.{runs_kept}
-use Rattle.bitfile_core.proofs.RemovedTogether.{removed_keeps}
+use Rattle.release_steps.specs.domain_base.declared.place.CellAt.{CellAt}
+use Rattle.release_steps.specs.domain_base.declared.place.Home.{Home}
+use Rattle.release_steps.specs.domain_base.declared.place.Tag.{Tag}
+use Rattle.release_steps.specs.page_store.Bitfiles.{same_tag}
+use Rattle.release_steps.specs.page_store.Pages.{Pages}
+use Rattle.release_steps.specs.cell_records.declared.record.Record.TheVariants as written
+use Rattle.release_steps.specs.cell_records.declared.record.Leftover.TheVariants.{Remove}
+use Rattle.release_steps.specs.metadata_cells.CellPage.{cell_at}
+use Rattle.release_steps.specs.metadata_cells.Chain.{LeavesOthers, PlacedCell, is_at}
+use Rattle.release_steps.specs.tag_dirs.declared.dir.TagPlace.{TagPlace}
+use Rattle.release_steps.specs.tag_dirs.Directory.{cell_of}
+use Rattle.release_steps.specs.extent_maps.declared.run.PagePlace.TheVariants.{At}
+use Rattle.release_steps.specs.extent_maps.Runs.{place_of}
+use Rattle.release_steps.specs.free_cells.Cells.{Cells}
+use Rattle.release_steps.specs.free_space.Spaces.{Spaces}
+use Rattle.release_steps.specs.file_chains.Allocated.{AreAllocated}
+use Rattle.release_steps.specs.file_chains.Files.{AreFile, IsFile, places_of}
+use Rattle.release_steps.specs.fileset_files.Changes.{ChangesBeside, is_first, says_removed, with_first, without_chain}
+use Rattle.release_steps.specs.fileset_files.Files.{AreApart, Chains, HasFirstKinds}
+use Rattle.release_steps.specs.fileset_files.Together.{AreTogether}
+use Rattle.release_steps.proofs.OfFilesetFiles.FirstRoom.{kinds_replaced}
+use Rattle.release_steps.proofs.OfFilesetFiles.FirstTogether.{runs_kept}
+use Rattle.release_steps.proofs.OfFilesetFiles.RemovedTogether.{removed_keeps}
 use Rattle.std.proofs.lemmas.Bool.{true≢false}
-use Rattle.bitfile_core.proofs.OneChain.{same_tag_itself}
-use Rattle.deferred_delete.proofs.Standings.{file_beside}
+use Rattle.release_steps.proofs.OfFilesetFiles.OneChain.{same_tag_itself}
+use Rattle.release_steps.proofs.OfReleaseList.Standings.{file_beside}
 use Rattle.release_tests.specs.Going.{IsGoing}
 use Rattle.release_tests.specs.Pairs.{AreTwo}
 use Rattle.release_tests.proofs.Goings.{file_in, led, on_tables, once, placed}

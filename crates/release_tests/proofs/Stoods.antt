@@ -2,44 +2,44 @@
 use Rattle.std.proofs.Common.{◌≡◌, ◌∙◌, ◌⊎◌, inl, inr, ℕ, ◌<◌, Bool, true, cond, is_some, List, [], ◌∷◌, ◌++◌, Option, Some, None, IsSomeAnd, get_or, length, refl, sym, ap, subst, arith, ⊎_elim}
 use Rattle.std.proofs.lemmas.Bool.{cases_Bool, or_left, true≢false}
 use Rattle.std.specs.Option.{option_and_then}
-use Rattle.domain_base.specs.declared.place.CellAt.{CellAt}
-use Rattle.domain_base.specs.declared.place.Home.{Home}
-use Rattle.domain_base.specs.declared.place.Tag.{Tag}
-use Rattle.domain_base.specs.declared.version.Version.{Version}
-use Rattle.page_store.specs.Bitfiles.{same_tag}
-use Rattle.page_store.specs.Pages.{Pages, same_home}
-use Rattle.page_store.specs.declared.fault.StoreFault.{StoreFault}
-use Rattle.page_store.specs.declared.fault.StoreFault.TheVariants.{NoPage, OutOfMemory}
-use Rattle.record_table.specs.declared.record.Leftover.TheVariants.{Remove, Trim}
-use Rattle.record_table.specs.declared.record.Record.TheVariants as written
-use Rattle.bmt_mcells.specs.Chain.{PlacedCell}
-use Rattle.bmt_mcells.proofs.Changed.{same_itself}
-use Rattle.tag_dirs.specs.declared.dir.TagPlace.{TagPlace}
-use Rattle.tag_dirs.specs.Directory.{has_home}
-use Rattle.free_cells.specs.Cells.{Cells}
-use Rattle.free_space.specs.Spaces.{Spaces, missed}
-use Rattle.bitfile_cells.specs.Allocated.{FindsNone}
-use Rattle.bitfile_cells.specs.Files.{IsFile}
-use Rattle.bitfile_core.specs.Changes.{ChangesBeside, Removes, says_removed, with_first, without_chain}
-use Rattle.bitfile_core.specs.Files.{Chains, first_record}
-use Rattle.bitfile_core.specs.Together.{AreTogether}
-use Rattle.bitfile_core.proofs.FirstCell.{find_put}
-use Rattle.deferred_delete.specs.Listed.{IsEntry, left_of}
-use Rattle.deferred_delete.specs.Listing.{Adds, Listing}
-use Rattle.deferred_delete.specs.Standing.{Files, ReadsThrough, Source, source_at, with_file}
-use Rattle.deferred_delete.specs.Steps.{IsWell, LetsGo, Now, Steps, now_of}
-use Rattle.deferred_delete.proofs.Standings.{file_there}
-use Rattle.deferred_laws.specs.Calls.{Calls, Drops, FilesetNow, StandsWell, dropped, no_call, one_more, refused}
-use Rattle.deferred_laws.specs.Lists.{with_list}
-use Rattle.deferred_laws.specs.Tags.{chains_in, start_of}
-use Rattle.deferred_laws.proofs.CallsWell.{stands_still}
-use Rattle.deferred_laws.proofs.Listing.{entry_among, entry_listed, page_listed}
-use Rattle.deferred_laws.proofs.ReadBack.{no_more_read}
-use Rattle.deferred_laws.proofs.ReadHomes.{through}
-use Rattle.deferred_laws.proofs.SourcesStay.{sources_stay}
-use Rattle.deferred_laws.proofs.Tags.{tags_stay_together}
-use Rattle.deferred_laws.proofs.TagsBeside.{begin_apart}
-use Rattle.deferred_laws.proofs.Wells.{wells_stay}
+use Rattle.release_steps.specs.domain_base.declared.place.CellAt.{CellAt}
+use Rattle.release_steps.specs.domain_base.declared.place.Home.{Home}
+use Rattle.release_steps.specs.domain_base.declared.place.Tag.{Tag}
+use Rattle.release_steps.specs.domain_base.declared.version.Version.{Version}
+use Rattle.release_steps.specs.page_store.Bitfiles.{same_tag}
+use Rattle.release_steps.specs.page_store.Pages.{Pages, same_home}
+use Rattle.release_steps.specs.page_store.declared.fault.StoreFault.{StoreFault}
+use Rattle.release_steps.specs.page_store.declared.fault.StoreFault.TheVariants.{NoPage, OutOfMemory}
+use Rattle.release_steps.specs.cell_records.declared.record.Leftover.TheVariants.{Remove, Trim}
+use Rattle.release_steps.specs.cell_records.declared.record.Record.TheVariants as written
+use Rattle.release_steps.specs.metadata_cells.Chain.{PlacedCell}
+use Rattle.release_steps.proofs.OfMetadataCells.Changed.{same_itself}
+use Rattle.release_steps.specs.tag_dirs.declared.dir.TagPlace.{TagPlace}
+use Rattle.release_steps.specs.tag_dirs.Directory.{has_home}
+use Rattle.release_steps.specs.free_cells.Cells.{Cells}
+use Rattle.release_steps.specs.free_space.Spaces.{Spaces, missed}
+use Rattle.release_steps.specs.file_chains.Allocated.{FindsNone}
+use Rattle.release_steps.specs.file_chains.Files.{IsFile}
+use Rattle.release_steps.specs.fileset_files.Changes.{ChangesBeside, Removes, says_removed, with_first, without_chain}
+use Rattle.release_steps.specs.fileset_files.Files.{Chains, first_record}
+use Rattle.release_steps.specs.fileset_files.Together.{AreTogether}
+use Rattle.release_steps.proofs.OfFilesetFiles.FirstCell.{find_put}
+use Rattle.release_steps.specs.release_list.Listed.{IsEntry, left_of}
+use Rattle.release_steps.specs.release_list.Listing.{Adds, Listing}
+use Rattle.release_steps.specs.release_list.Standing.{Files, ReadsThrough, Source, source_at, with_file}
+use Rattle.release_steps.specs.release_list.Steps.{IsWell, LetsGo, Now, Steps, now_of}
+use Rattle.release_steps.proofs.OfReleaseList.Standings.{file_there}
+use Rattle.release_steps.specs.Calls.{Calls, Drops, FilesetNow, StandsWell, dropped, no_call, one_more, refused}
+use Rattle.release_steps.specs.Lists.{with_list}
+use Rattle.release_steps.specs.Tags.{chains_in, start_of}
+use Rattle.release_steps.proofs.CallsWell.{stands_still}
+use Rattle.release_steps.proofs.Listing.{entry_among, entry_listed, page_listed}
+use Rattle.release_steps.proofs.ReadBack.{no_more_read}
+use Rattle.release_steps.proofs.ReadHomes.{through}
+use Rattle.release_steps.proofs.SourcesStay.{sources_stay}
+use Rattle.release_steps.proofs.Tags.{tags_stay_together}
+use Rattle.release_steps.proofs.TagsBeside.{begin_apart}
+use Rattle.release_steps.proofs.Wells.{wells_stay}
 use Rattle.release_tests.specs.Called.{HasCalled, HasCut, HasNoClone, IsCut, Parts, fileset_in}
 use Rattle.release_tests.specs.Stood.{IsStood}
 use Rattle.release_tests.proofs.Agains.{among, cut_chain, stands, well}

@@ -2,31 +2,31 @@
 use Rattle.std.proofs.Common.{◌≡◌, ◌∙◌, ℕ, Bool, false, cond, List, [], ◌∷◌, Option, Some, None, IfSome, IsSomeAnd, refl, sym, ap, subst, arith}
 use Rattle.std.specs.Option.{option_map}
 use Rattle.std.proofs.lemmas.Bool.{true≢false}
-use Rattle.domain_base.specs.declared.place.CellAt.{CellAt}
-use Rattle.domain_base.specs.declared.place.Home.{Home}
-use Rattle.domain_base.specs.declared.place.Tag.{Tag}
-use Rattle.page_store.specs.Bitfiles.{same_tag}
-use Rattle.page_store.specs.Pages.{Pages}
-use Rattle.record_table.specs.declared.record.Record.TheVariants as written
-use Rattle.record_table.specs.declared.record.Leftover.TheVariants.{Remove}
-use Rattle.bmt_mcells.specs.Chain.{LeavesOthers, PlacedCell, is_at}
-use Rattle.tag_dirs.specs.declared.dir.TagPlace.{TagPlace}
-use Rattle.tag_dirs.specs.Directory.{cell_of}
-use Rattle.extent_maps.specs.declared.run.PagePlace.TheVariants.{At}
-use Rattle.extent_maps.specs.Runs.{place_of}
-use Rattle.free_cells.specs.Cells.{Cells}
-use Rattle.free_space.specs.Spaces.{Spaces}
-use Rattle.bitfile_cells.specs.Files.{AreFile, IsFile, places_of}
-use Rattle.bitfile_core.specs.Changes.{ChangesFirst, says_removed, with_chain, with_first, without_chain}
-use Rattle.bitfile_core.specs.Files.{AreApart, Chains}
-use Rattle.bitfile_core.specs.Together.{AreTogether}
-use Rattle.bitfile_core.specs.Truncation.{Truncates, TruncatesTogether, pending_cell, says_truncated}
-use Rattle.bitfile_core.proofs.Created.{one_chains}
-use Rattle.bitfile_core.proofs.FirstRoom.{kinds_replaced}
-use Rattle.bitfile_core.proofs.FirstTogether.{runs_kept, truncated_keeps}
-use Rattle.bitfile_core.proofs.OneChain.{chain_same, same_tag_itself}
-use Rattle.bitfile_core.proofs.RemovedTogether.{removed_keeps}
-use Rattle.deferred_delete.proofs.Standings.{file_beside}
+use Rattle.release_steps.specs.domain_base.declared.place.CellAt.{CellAt}
+use Rattle.release_steps.specs.domain_base.declared.place.Home.{Home}
+use Rattle.release_steps.specs.domain_base.declared.place.Tag.{Tag}
+use Rattle.release_steps.specs.page_store.Bitfiles.{same_tag}
+use Rattle.release_steps.specs.page_store.Pages.{Pages}
+use Rattle.release_steps.specs.cell_records.declared.record.Record.TheVariants as written
+use Rattle.release_steps.specs.cell_records.declared.record.Leftover.TheVariants.{Remove}
+use Rattle.release_steps.specs.metadata_cells.Chain.{LeavesOthers, PlacedCell, is_at}
+use Rattle.release_steps.specs.tag_dirs.declared.dir.TagPlace.{TagPlace}
+use Rattle.release_steps.specs.tag_dirs.Directory.{cell_of}
+use Rattle.release_steps.specs.extent_maps.declared.run.PagePlace.TheVariants.{At}
+use Rattle.release_steps.specs.extent_maps.Runs.{place_of}
+use Rattle.release_steps.specs.free_cells.Cells.{Cells}
+use Rattle.release_steps.specs.free_space.Spaces.{Spaces}
+use Rattle.release_steps.specs.file_chains.Files.{AreFile, IsFile, places_of}
+use Rattle.release_steps.specs.fileset_files.Changes.{ChangesFirst, says_removed, with_chain, with_first, without_chain}
+use Rattle.release_steps.specs.fileset_files.Files.{AreApart, Chains}
+use Rattle.release_steps.specs.fileset_files.Together.{AreTogether}
+use Rattle.release_steps.specs.fileset_files.Truncation.{Truncates, TruncatesTogether, pending_cell, says_truncated}
+use Rattle.release_steps.proofs.OfFilesetFiles.Created.{one_chains}
+use Rattle.release_steps.proofs.OfFilesetFiles.FirstRoom.{kinds_replaced}
+use Rattle.release_steps.proofs.OfFilesetFiles.FirstTogether.{runs_kept, truncated_keeps}
+use Rattle.release_steps.proofs.OfFilesetFiles.OneChain.{chain_same, same_tag_itself}
+use Rattle.release_steps.proofs.OfFilesetFiles.RemovedTogether.{removed_keeps}
+use Rattle.release_steps.proofs.OfReleaseList.Standings.{file_beside}
 use Rattle.release_tests.specs.Going.{IsGoing}
 use Rattle.release_tests.specs.Pairs.{AreTwo}
 use Rattle.release_tests.proofs.Goings.{file_in, led, live_going, on_tables, once, placed}

@@ -1,32 +1,32 @@
 -- Lists of one file, or of a page of a tag directory, that belong together with all else.
 use Rattle.std.proofs.Common.{◌≡◌, ◌∙◌, inl, ℕ, ◌≤◌, zero, suc, List, [], ◌∷◌, ◌++◌, Some, None, Result, Ok, Err, IfOk, IfErr, OnErr, is_some, IsSome, IsSomeAnd, Contains, get_or, arith, refl, sym, ap, subst, ⊎_elim}
 use Rattle.std.specs.Option.{option_and_then, option_map_or}
-use Rattle.domain_base.specs.declared.place.CellAt.{CellAt}
-use Rattle.domain_base.specs.declared.place.Home.{Home}
-use Rattle.domain_base.specs.declared.version.Version.{Version}
-use Rattle.page_store.specs.Pages.{Pages}
-use Rattle.page_store.specs.declared.fault.StoreFault.{StoreFault}
-use Rattle.bmt_mcells.specs.Chain.{PlacedCell}
-use Rattle.extent_maps.specs.declared.run.PagePlace.TheVariants.{Absent, At}
-use Rattle.free_cells.specs.Cells.{Cells}
-use Rattle.free_space.specs.Spaces.{Spaces}
-use Rattle.bitfile_cells.specs.Allocated.{AreAllocated, FindsNone}
-use Rattle.bitfile_cells.specs.Files.{places_of}
-use Rattle.bitfile_core.specs.Together.{IsHeldApart}
-use Rattle.chain_release.proofs.Once.{absent_not}
-use Rattle.deferred_delete.specs.declared.list.Entry.{Entry}
-use Rattle.bitfile_core.specs.Files.{first_record}
-use Rattle.deferred_delete.specs.Cursors.{Deferral}
-use Rattle.deferred_delete.specs.Listed.{IsEntry, IsListed}
-use Rattle.deferred_delete.specs.Listing.{Adds, AreInOrder, Listing}
-use Rattle.deferred_delete.specs.Standing.{Files, IsStanding, ReadsThrough, Source, StandTogether, place_in, source_at, source_of, with_file}
-use Rattle.deferred_delete.specs.Steps.{IsWell, LetsGo, now_of}
-use Rattle.deferred_delete.proofs.Loops.{well_same}
-use Rattle.deferred_delete.proofs.Well.{well_still}
-use Rattle.deferred_delete.proofs.Standings.{apart_from, each_from, file_other, file_there, place_by, same_or_not, source_by}
+use Rattle.release_steps.specs.domain_base.declared.place.CellAt.{CellAt}
+use Rattle.release_steps.specs.domain_base.declared.place.Home.{Home}
+use Rattle.release_steps.specs.domain_base.declared.version.Version.{Version}
+use Rattle.release_steps.specs.page_store.Pages.{Pages}
+use Rattle.release_steps.specs.page_store.declared.fault.StoreFault.{StoreFault}
+use Rattle.release_steps.specs.metadata_cells.Chain.{PlacedCell}
+use Rattle.release_steps.specs.extent_maps.declared.run.PagePlace.TheVariants.{Absent, At}
+use Rattle.release_steps.specs.free_cells.Cells.{Cells}
+use Rattle.release_steps.specs.free_space.Spaces.{Spaces}
+use Rattle.release_steps.specs.file_chains.Allocated.{AreAllocated, FindsNone}
+use Rattle.release_steps.specs.file_chains.Files.{places_of}
+use Rattle.release_steps.specs.fileset_files.Together.{IsHeldApart}
+use Rattle.release_steps.proofs.OfFileRelease.Once.{absent_not}
+use Rattle.release_steps.specs.release_list.declared.list.Entry.{Entry}
+use Rattle.release_steps.specs.fileset_files.Files.{first_record}
+use Rattle.release_steps.specs.release_list.Cursors.{Deferral}
+use Rattle.release_steps.specs.release_list.Listed.{IsEntry, IsListed}
+use Rattle.release_steps.specs.release_list.Listing.{Adds, AreInOrder, Listing}
+use Rattle.release_steps.specs.release_list.Standing.{Files, IsStanding, ReadsThrough, Source, StandTogether, place_in, source_at, source_of, with_file}
+use Rattle.release_steps.specs.release_list.Steps.{IsWell, LetsGo, now_of}
+use Rattle.release_steps.proofs.OfReleaseList.Loops.{well_same}
+use Rattle.release_steps.proofs.OfReleaseList.Well.{well_still}
+use Rattle.release_steps.proofs.OfReleaseList.Standings.{apart_from, each_from, file_other, file_there, place_by, same_or_not, source_by}
 use Rattle.release_tests.specs.Going.{IsGoing}
-use Rattle.tag_dirs.specs.declared.dir.TagPlace.{TagPlace}
-use Rattle.deferred_laws.specs.Calls.{StandsWell}
+use Rattle.release_steps.specs.tag_dirs.declared.dir.TagPlace.{TagPlace}
+use Rattle.release_steps.specs.Calls.{StandsWell}
 use Rattle.file_tests.specs.First.{IsEmpty}
 use Rattle.release_tests.specs.Called.{fileset_in}
 

@@ -1,15 +1,15 @@
 -- Steps go on in a file of the domain, and calls on files lead to where they do so.
 use Rattle.std.proofs.Common.{◌≡◌, ◌∙◌, ℕ, Option, None, sym, subst}
-use Rattle.domain_base.specs.declared.place.Tag.{Tag}
-use Rattle.domain_base.specs.declared.version.Version.{Version}
-use Rattle.deferred_delete.specs.declared.cursor.Cursor.{Cursor}
-use Rattle.deferred_delete.specs.Cursors.{IsAhead, IsOfEntry}
-use Rattle.deferred_delete.specs.Steps.{now_of}
-use Rattle.deferred_laws.specs.Ahead.{GoesOnIn}
-use Rattle.deferred_laws.specs.Calls.{FilesetNow, StandsWell}
-use Rattle.deferred_laws.proofs.GoneOn.{goes_on_in}
-use Rattle.deferred_laws.proofs.InFiles.{in_a_file}
-use Rattle.deferred_laws.proofs.SourcesStay.{sources_stay}
+use Rattle.release_steps.specs.domain_base.declared.place.Tag.{Tag}
+use Rattle.release_steps.specs.domain_base.declared.version.Version.{Version}
+use Rattle.release_steps.specs.release_list.declared.cursor.Cursor.{Cursor}
+use Rattle.release_steps.specs.release_list.Cursors.{IsAhead, IsOfEntry}
+use Rattle.release_steps.specs.release_list.Steps.{now_of}
+use Rattle.release_steps.specs.Ahead.{GoesOnIn}
+use Rattle.release_steps.specs.Calls.{FilesetNow, StandsWell}
+use Rattle.release_steps.proofs.GoneOn.{goes_on_in}
+use Rattle.release_steps.proofs.InFiles.{in_a_file}
+use Rattle.release_steps.proofs.SourcesStay.{sources_stay}
 use Rattle.release_tests.specs.Called.{HasCalled, HasNoClone, Parts, fileset_in}
 use Rattle.release_tests.specs.Onward.{IsGoingOn}
 use Rattle.release_tests.specs.Stood.{IsStood}

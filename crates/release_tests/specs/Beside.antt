@@ -1,11 +1,11 @@
 -- Two filesets of one domain.
 use Rattle.std.specs.Prelude.{◌≡◌, ℕ}
-use Rattle.bitfile_core.specs.declared.bitfiles.Bitfiles.{Bitfiles}
-use Rattle.bitfile_core.specs.Files.{Chains}
-use Rattle.deferred_delete.specs.Listing.{Listing}
-use Rattle.deferred_delete.specs.Standing.{Files}
-use Rattle.deferred_laws.specs.Beside.{StandsBeside}
-use Rattle.deferred_laws.specs.Calls.{StandsWell}
+use Rattle.release_steps.specs.fileset_files.declared.bitfiles.Bitfiles.{Bitfiles}
+use Rattle.release_steps.specs.fileset_files.Files.{Chains}
+use Rattle.release_steps.specs.release_list.Listing.{Listing}
+use Rattle.release_steps.specs.release_list.Standing.{Files}
+use Rattle.release_steps.specs.Beside.{StandsBeside}
+use Rattle.release_steps.specs.Calls.{StandsWell}
 use Rattle.file_tests.specs.declared.world.World.{World}
 use Rattle.release_tests.specs.Called.{fileset_in, parts_of}
 

@@ -1,26 +1,26 @@
 -- Calls on one tag of a world's fileset, and what is let go of between them.
 use Rattle.std.specs.Prelude.{◌≡◌, ◌≤◌, ◌⊎◌, ◌↔◌, ℕ, false, List, Option, Some, None, IfSome, Contains}
 use Rattle.std.specs.Option.{option_and_then}
-use Rattle.domain_base.specs.declared.place.CellAt.{CellAt}
-use Rattle.domain_base.specs.declared.place.Home.{Home}
-use Rattle.domain_base.specs.declared.place.Tag.{Tag}
-use Rattle.domain_base.specs.declared.version.Version.{Version}
-use Rattle.page_store.specs.Bitfiles.{same_tag}
-use Rattle.page_store.specs.Pages.{Pages}
-use Rattle.memory_store.specs.Homes.{pages_of}
-use Rattle.tag_dirs.specs.declared.dir.TagPlace.{TagPlace}
-use Rattle.free_cells.specs.Cells.{Cells, table_of}
-use Rattle.free_space.specs.Spaces.{Spaces}
-use Rattle.bitfile_core.specs.Files.{Chains}
-use Rattle.deferred_delete.specs.Listing.{Adds, Listing}
-use Rattle.deferred_delete.specs.Standing.{Files, source_at}
-use Rattle.deferred_delete.specs.Steps.{IsWell, Steps, now_of}
-use Rattle.deferred_laws.specs.Calls.{Calls, FilesetNow, StandsWell}
-use Rattle.deferred_laws.specs.Kept.{IsBeside}
-use Rattle.deferred_laws.specs.Lists.{with_list}
-use Rattle.deferred_laws.specs.Tags.{AreAmong, chains_in, start_of}
-use Rattle.deferred_laws.specs.Taken.{IsHeldAt, IsTaken}
-use Rattle.deferred_laws.specs.Waits.{IsGivenUp}
+use Rattle.release_steps.specs.domain_base.declared.place.CellAt.{CellAt}
+use Rattle.release_steps.specs.domain_base.declared.place.Home.{Home}
+use Rattle.release_steps.specs.domain_base.declared.place.Tag.{Tag}
+use Rattle.release_steps.specs.domain_base.declared.version.Version.{Version}
+use Rattle.release_steps.specs.page_store.Bitfiles.{same_tag}
+use Rattle.release_steps.specs.page_store.Pages.{Pages}
+use Rattle.release_steps.specs.page_store.Homes.{pages_of}
+use Rattle.release_steps.specs.tag_dirs.declared.dir.TagPlace.{TagPlace}
+use Rattle.release_steps.specs.free_cells.Cells.{Cells, table_of}
+use Rattle.release_steps.specs.free_space.Spaces.{Spaces}
+use Rattle.release_steps.specs.fileset_files.Files.{Chains}
+use Rattle.release_steps.specs.release_list.Listing.{Adds, Listing}
+use Rattle.release_steps.specs.release_list.Standing.{Files, source_at}
+use Rattle.release_steps.specs.release_list.Steps.{IsWell, Steps, now_of}
+use Rattle.release_steps.specs.Calls.{Calls, FilesetNow, StandsWell}
+use Rattle.release_steps.specs.Kept.{IsBeside}
+use Rattle.release_steps.specs.Lists.{with_list}
+use Rattle.release_steps.specs.Tags.{AreAmong, chains_in, start_of}
+use Rattle.release_steps.specs.Taken.{IsHeldAt, IsTaken}
+use Rattle.release_steps.specs.Waits.{IsGivenUp}
 use Rattle.file_tests.specs.declared.world.World.{World}
 
 -- what a world and a list hold

@@ -1,20 +1,20 @@
 -- A file of which something is to be let go of, and lists of such.
 use Rattle.std.specs.Prelude.{◌≡◌, ℕ, List}
-use Rattle.domain_base.specs.declared.place.CellAt.{CellAt}
-use Rattle.domain_base.specs.declared.place.Home.{Home}
-use Rattle.page_store.specs.Pages.{Pages}
-use Rattle.bmt_mcells.specs.Chain.{PlacedCell}
-use Rattle.extent_maps.specs.declared.run.PagePlace.TheVariants.{At}
-use Rattle.memory_store.specs.Homes.{pages_of}
-use Rattle.free_cells.specs.Cells.{Cells}
-use Rattle.free_space.specs.Spaces.{Spaces}
-use Rattle.bitfile_cells.specs.Allocated.{AreAllocated}
-use Rattle.bitfile_cells.specs.FileChanges.{AreOnTables}
-use Rattle.bitfile_cells.specs.Files.{IsFile, places_of}
-use Rattle.bitfile_core.specs.Together.{IsHeldApart}
-use Rattle.deferred_delete.specs.Listing.{Listing}
-use Rattle.deferred_delete.specs.Standing.{Files}
-use Rattle.deferred_delete.specs.Steps.{IsWell, now_of}
+use Rattle.release_steps.specs.domain_base.declared.place.CellAt.{CellAt}
+use Rattle.release_steps.specs.domain_base.declared.place.Home.{Home}
+use Rattle.release_steps.specs.page_store.Pages.{Pages}
+use Rattle.release_steps.specs.metadata_cells.Chain.{PlacedCell}
+use Rattle.release_steps.specs.extent_maps.declared.run.PagePlace.TheVariants.{At}
+use Rattle.release_steps.specs.page_store.Homes.{pages_of}
+use Rattle.release_steps.specs.free_cells.Cells.{Cells}
+use Rattle.release_steps.specs.free_space.Spaces.{Spaces}
+use Rattle.release_steps.specs.file_chains.Allocated.{AreAllocated}
+use Rattle.release_steps.specs.file_chains.FileChanges.{AreOnTables}
+use Rattle.release_steps.specs.file_chains.Files.{IsFile, places_of}
+use Rattle.release_steps.specs.fileset_files.Together.{IsHeldApart}
+use Rattle.release_steps.specs.release_list.Listing.{Listing}
+use Rattle.release_steps.specs.release_list.Standing.{Files}
+use Rattle.release_steps.specs.release_list.Steps.{IsWell, now_of}
 use Rattle.file_tests.specs.declared.world.World.{World}
 
 -- the chain of a file begins there, whose cells and pages stand where free space and free cells

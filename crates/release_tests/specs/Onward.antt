@@ -1,12 +1,12 @@
 -- A fileset whose files belong together with a list, and with where its steps go on.
 use Rattle.std.specs.Prelude.{ℕ, Option}
-use Rattle.bitfile_core.specs.Files.{Chains}
-use Rattle.deferred_delete.specs.declared.cursor.Cursor.{Cursor}
-use Rattle.deferred_delete.specs.Cursors.{Deferral}
-use Rattle.deferred_delete.specs.Standing.{Files}
-use Rattle.deferred_delete.specs.Steps.{now_of}
-use Rattle.deferred_laws.specs.Ahead.{GoesOnIn}
-use Rattle.deferred_laws.specs.Calls.{StandsWell}
+use Rattle.release_steps.specs.fileset_files.Files.{Chains}
+use Rattle.release_steps.specs.release_list.declared.cursor.Cursor.{Cursor}
+use Rattle.release_steps.specs.release_list.Cursors.{Deferral}
+use Rattle.release_steps.specs.release_list.Standing.{Files}
+use Rattle.release_steps.specs.release_list.Steps.{now_of}
+use Rattle.release_steps.specs.Ahead.{GoesOnIn}
+use Rattle.release_steps.specs.Calls.{StandsWell}
 use Rattle.file_tests.specs.declared.world.World.{World}
 use Rattle.release_tests.specs.Called.{HasNoClone, Parts, fileset_in, parts_of}
 

@@ -1,21 +1,21 @@
 -- Two files of a world, of which the second may read through the first.
 use Rattle.std.specs.Prelude.{◌≡◌, ℕ, List, None, Some}
-use Rattle.domain_base.specs.declared.place.CellAt.{CellAt}
-use Rattle.domain_base.specs.declared.place.Home.{Home}
-use Rattle.page_store.specs.Pages.{Pages}
-use Rattle.record_table.specs.declared.record.Record.{Record}
-use Rattle.record_table.specs.Records.{Allowed, kind_of}
-use Rattle.bmt_mcells.specs.Chain.{PlacedCell}
-use Rattle.extent_maps.specs.declared.run.PagePlace.TheVariants.{At}
-use Rattle.memory_store.specs.Homes.{pages_of}
-use Rattle.free_cells.specs.Cells.{Cells}
-use Rattle.free_space.specs.Spaces.{Spaces}
-use Rattle.bitfile_cells.specs.Files.{places_of}
-use Rattle.bitfile_core.specs.Files.{AreApart, HasFirstKinds}
-use Rattle.deferred_delete.specs.Listed.{IsEntry}
-use Rattle.deferred_delete.specs.Listing.{Listing}
-use Rattle.deferred_delete.specs.Standing.{Files, source_in}
-use Rattle.deferred_delete.specs.Steps.{IsWell, now_of}
+use Rattle.release_steps.specs.domain_base.declared.place.CellAt.{CellAt}
+use Rattle.release_steps.specs.domain_base.declared.place.Home.{Home}
+use Rattle.release_steps.specs.page_store.Pages.{Pages}
+use Rattle.release_steps.specs.cell_records.declared.record.Record.{Record}
+use Rattle.release_steps.specs.cell_records.Records.{Allowed, kind_of}
+use Rattle.release_steps.specs.metadata_cells.Chain.{PlacedCell}
+use Rattle.release_steps.specs.extent_maps.declared.run.PagePlace.TheVariants.{At}
+use Rattle.release_steps.specs.page_store.Homes.{pages_of}
+use Rattle.release_steps.specs.free_cells.Cells.{Cells}
+use Rattle.release_steps.specs.free_space.Spaces.{Spaces}
+use Rattle.release_steps.specs.file_chains.Files.{places_of}
+use Rattle.release_steps.specs.fileset_files.Files.{AreApart, HasFirstKinds}
+use Rattle.release_steps.specs.release_list.Listed.{IsEntry}
+use Rattle.release_steps.specs.release_list.Listing.{Listing}
+use Rattle.release_steps.specs.release_list.Standing.{Files, source_in}
+use Rattle.release_steps.specs.release_list.Steps.{IsWell, now_of}
 use Rattle.file_tests.specs.declared.world.World.{World}
 use Rattle.release_tests.specs.declared.pair.Pair.{Pair}
 use Rattle.release_tests.specs.Going.{IsGoing}

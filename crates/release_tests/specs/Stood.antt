@@ -1,9 +1,9 @@
 -- A fileset whose files belong together with a list, and with all else.
 use Rattle.std.specs.Prelude.{ℕ}
-use Rattle.bitfile_core.specs.Files.{Chains}
-use Rattle.deferred_delete.specs.Listing.{Listing}
-use Rattle.deferred_delete.specs.Standing.{Files}
-use Rattle.deferred_laws.specs.Calls.{StandsWell}
+use Rattle.release_steps.specs.fileset_files.Files.{Chains}
+use Rattle.release_steps.specs.release_list.Listing.{Listing}
+use Rattle.release_steps.specs.release_list.Standing.{Files}
+use Rattle.release_steps.specs.Calls.{StandsWell}
 use Rattle.file_tests.specs.declared.world.World.{World}
 use Rattle.release_tests.specs.Called.{HasNoClone, Parts, fileset_in, parts_of}
 

@@ -1,24 +1,21 @@
 //! A file that is made, cut and written again, beside all else that a domain has.
 ghost use Rattle.std.specs.Prelude.{◌≡◌, IfOk, IsTrue, List, Some};
-ghost use Rattle.record_table.specs.declared.record.Leftover.TheVariants.{Trim};
-ghost use Rattle.memory_store.specs.Homes.{pages_of};
-ghost use Rattle.bmt_mcells.specs.Chain.{PlacedCell};
-ghost use Rattle.bitfile_cells.specs.Files.{IsFile};
-ghost use Rattle.bitfile_core.specs.Files.{Chains};
-ghost use Rattle.deferred_delete.specs.Listed.{left_of};
-ghost use Rattle.deferred_delete.specs.Standing.{Files};
-ghost use Rattle.deferred_laws.specs.Calls.{FilesetNow, StandsWell};
+ghost use Rattle.release_steps.specs.cell_records.declared.record.Leftover.TheVariants.{Trim};
+ghost use Rattle.release_steps.specs.page_store.Homes.{pages_of};
+ghost use Rattle.release_steps.specs.metadata_cells.Chain.{PlacedCell};
+ghost use Rattle.release_steps.specs.file_chains.Files.{IsFile};
+ghost use Rattle.release_steps.specs.fileset_files.Files.{Chains};
+ghost use Rattle.release_steps.specs.release_list.Listed.{left_of};
+ghost use Rattle.release_steps.specs.release_list.Standing.{Files};
+ghost use Rattle.release_steps.specs.Calls.{FilesetNow, StandsWell};
 ghost use Rattle.release_tests.specs.Called.{HasLetGo, HasNoClone, IsCut, IsWrittenAgain, fileset_in, parts_of};
 
 use crate::clones::{Row, rows};
 use crate::going::counts;
 use crate::making::{cut, give_pages, make};
 use crate::seen::kept;
-use bmt_mcells::find_record;
-use deferred_delete::Deferred;
-use domain_base::{CellAt, Kind, Tag, Version};
 use file_tests::world::{World, new_world};
-use record_table::{Leftover, Record};
+use release_steps::{CellAt, Deferred, Kind, Leftover, Record, Tag, Version, find_record};
 use std::alloc::Global;
 use std::test::Fail;
 

@@ -1,14 +1,12 @@
 //! Two filesets of one domain.
 ghost use Rattle.std.specs.Prelude.{◌≡◌, [], IfOk};
-ghost use Rattle.deferred_delete.specs.Listing.{IsEmpty as IsEmptyList, Listing};
+ghost use Rattle.release_steps.specs.release_list.Listing.{IsEmpty as IsEmptyList, Listing};
 ghost use Rattle.release_tests.specs.Beside.{HasBeside};
 
-use bitfile_core::Bitfiles;
-use domain_base::{FilesetNo, Kind, Tag, Version};
 use file_tests::world::{World, new_world, volume};
+use release_steps::{Bitfiles, FilesetNo, Kind, Tag, TagDir, Version};
 use std::alloc::Global;
 use std::test::Fail;
-use tag_dirs::TagDir;
 
 /// The files of a fileset over the pages of a domain, and those of another one over the same pages.
 #[derive(Drop)]

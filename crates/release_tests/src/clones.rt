@@ -7,13 +7,11 @@ ghost use Rattle.release_tests.specs.Pairs.{HasPair, HasTwo, IsCloneOf};
 use crate::going::{counts, may_go, release, release_all};
 use crate::making::{first_pages, give_pages, make, second_pages};
 use crate::pair::Pair;
-use bitfile_cells::set_record;
-use bmt_mcells::find_record;
-use deferred_delete::{Deferred, Entry};
-use domain_base::{CellAt, Kind, Tag, Version};
 use file_tests::world::{World, new_world, volume};
-use page_store::StoreFault;
-use record_table::{ExtentField, Record};
+use release_steps::{
+    CellAt, Deferred, Entry, ExtentField, Kind, Record, StoreFault, Tag, Version, find_record,
+    set_record,
+};
 use std::alloc::Global;
 use std::test::Fail;
 

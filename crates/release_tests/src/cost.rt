@@ -7,12 +7,8 @@ use crate::clones::listed_beside;
 use crate::going::{listed, release_by};
 use crate::looks::Counted;
 use crate::making::{cut, give_pages, make, mixed_pages, remove, second_pages, second_pages_down};
-use deferred_delete::Deferred;
-use domain_base::{Kind, Tag, Version};
 use file_tests::world::{World, new_world};
-use free_cells::FreeCells;
-use free_space::FreeSpace;
-use page_store::{MetaPages, StoreFault};
+use release_steps::{Deferred, FreeCells, FreeSpace, Kind, MetaPages, StoreFault, Tag, Version};
 use std::alloc::Global;
 use std::test::Fail;
 

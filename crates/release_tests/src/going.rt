@@ -1,23 +1,19 @@
 //! Lists of files and pages that are let go of.
 ghost use Rattle.std.specs.Prelude.{◌≡◌, ◌≤◌, IfOk, IsSome, IsTrue, List, None};
-ghost use Rattle.memory_store.specs.Homes.{pages_of};
-ghost use Rattle.bmt_mcells.specs.Chain.{PlacedCell};
-ghost use Rattle.bitfile_cells.specs.Files.{IsFile};
-ghost use Rattle.bitfile_core.specs.Files.{first_record};
-ghost use Rattle.chain_release.specs.Sharing.{IsKnown};
-ghost use Rattle.deferred_delete.specs.Cursors.{IsAhead};
-ghost use Rattle.deferred_delete.specs.Standing.{source_of};
+ghost use Rattle.release_steps.specs.page_store.Homes.{pages_of};
+ghost use Rattle.release_steps.specs.metadata_cells.Chain.{PlacedCell};
+ghost use Rattle.release_steps.specs.file_chains.Files.{IsFile};
+ghost use Rattle.release_steps.specs.fileset_files.Files.{first_record};
+ghost use Rattle.release_steps.specs.file_release.Sharing.{IsKnown};
+ghost use Rattle.release_steps.specs.release_list.Cursors.{IsAhead};
+ghost use Rattle.release_steps.specs.release_list.Standing.{source_of};
 ghost use Rattle.file_tests.specs.Worlds.{IsWorld};
 ghost use Rattle.release_tests.specs.Going.{HasGoing, HasWell, HasWellBy};
 
-use bmt_mcells::find_record;
-use deferred_delete::Deferred;
-use domain_base::{CellAt, Version};
 use file_tests::world::{World, volume};
-use free_cells::FreeCells;
-use free_space::FreeSpace;
-use page_store::{MetaPages, StoreFault};
-use record_table::Record;
+use release_steps::{
+    CellAt, Deferred, FreeCells, FreeSpace, MetaPages, Record, StoreFault, Version, find_record,
+};
 use std::alloc::Global;
 use std::test::Fail;
 

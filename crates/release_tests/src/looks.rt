@@ -1,10 +1,8 @@
 //! Pages of metadata that count how often they are looked at and changed.
 ghost use Rattle.std.specs.Prelude.{◌≡◌};
-ghost use Rattle.memory_store.specs.Homes.{are_whole};
+ghost use Rattle.release_steps.specs.page_store.Homes.{are_whole};
 
-use domain_base::{Home, OutOfMemory, Page};
-use memory_store::MemoryPages;
-use page_store::MetaPages;
+use release_steps::{Home, MemoryPages, MetaPages, OutOfMemory, Page};
 use std::alloc::Global;
 use std::cell::Cell;
 

@@ -1,19 +1,17 @@
 //! Files that are made, given pages, cut and removed.
 ghost use Rattle.std.specs.Prelude.{◌≡◌, ◌≤◌, IfOk, IfSome};
-ghost use Rattle.domain_base.specs.declared.version.Version.{Version as VersionOf};
-ghost use Rattle.bitfile_core.specs.Files.{Chains};
-ghost use Rattle.deferred_delete.specs.Listing.{Listing};
-ghost use Rattle.deferred_delete.specs.Standing.{Files};
-ghost use Rattle.deferred_laws.specs.Calls.{FilesetNow, StandsWell};
+ghost use Rattle.release_steps.specs.domain_base.declared.version.Version.{Version as VersionOf};
+ghost use Rattle.release_steps.specs.fileset_files.Files.{Chains};
+ghost use Rattle.release_steps.specs.release_list.Listing.{Listing};
+ghost use Rattle.release_steps.specs.release_list.Standing.{Files};
+ghost use Rattle.release_steps.specs.Calls.{FilesetNow, StandsWell};
 ghost use Rattle.file_tests.specs.Worlds.{IsWorld};
 ghost use Rattle.release_tests.specs.Called.{HasCalled, HasCut, fileset_in, parts_of};
 ghost use Rattle.release_tests.specs.Going.{HasGoing};
 
-use domain_base::limits::FILE_PAGES;
-use domain_base::{CellAt, Home, Kind, Tag, Version};
-use extent_maps::PagePlace;
 use file_tests::world::{World, volume};
-use page_store::StoreFault;
+use release_steps::from_domain_base::limits::FILE_PAGES;
+use release_steps::{CellAt, Home, Kind, PagePlace, StoreFault, Tag, Version};
 use std::alloc::Global;
 use std::test::Fail;
 

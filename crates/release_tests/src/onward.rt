@@ -7,9 +7,8 @@ ghost use Rattle.release_tests.specs.Stood.{HasStood};
 use crate::going::counts;
 use crate::making::{give_pages, make};
 use crate::removing::{cut_listed, make_with, new_scene};
-use deferred_delete::Deferred;
-use domain_base::{Kind, Tag, Version};
 use file_tests::world::World;
+use release_steps::{Deferred, Kind, Tag, Version};
 use std::alloc::Global;
 use std::test::Fail;
 

@@ -1,5 +1,5 @@
 //! Two files of which the second may read through the first.
-use domain_base::CellAt;
+use release_steps::CellAt;
 
 /// The first cells of two files that no tag names.
 #[derive(Clone, Copy)]

@@ -7,10 +7,8 @@ ghost use Rattle.release_tests.specs.Stood.{HasStood};
 use crate::again::is_trimmed;
 use crate::going::{counts, release_all};
 use crate::making::{cut, give_pages, make};
-use bmt_mcells::find_record;
-use deferred_delete::Deferred;
-use domain_base::{Kind, Tag, Version};
 use file_tests::world::{World, new_world};
+use release_steps::{Deferred, Kind, Tag, Version, find_record};
 use std::alloc::Global;
 use std::test::Fail;
 

@@ -1,8 +1,7 @@
 //! Files that are put on a list that has room for them.
 ghost use Rattle.std.specs.Prelude.{◌+◌, ◌≤◌};
 
-use deferred_delete::Deferred;
-use domain_base::{CellAt, VolIx};
+use release_steps::{CellAt, Deferred, VolIx};
 use std::alloc::Global;
 use std::test::Fail;
 

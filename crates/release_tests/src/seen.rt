@@ -3,10 +3,8 @@ ghost use Rattle.std.specs.Prelude.{◌≤◌};
 
 use crate::going::{counts, listed, listed_page, release_all};
 use crate::making::{cut, give_pages, make, remove, second_pages};
-use bmt_mcells::find_record;
-use domain_base::{CellAt, Kind, Version};
 use file_tests::world::{World, new_world};
-use record_table::Record;
+use release_steps::{CellAt, Kind, Record, Version, find_record};
 use std::alloc::Global;
 use std::test::Fail;
 

@@ -10,7 +10,7 @@ use crate::onward::nine_files;
 use crate::removing::{Leads, Seen, removed_fileset};
 use crate::room::last_of_three;
 use crate::seen::{TrimSeen, many_extents, many_removed, removed, tag_page, trim};
-use domain_base::{Kind, Version};
+use release_steps::{Kind, Version};
 use std::alloc::Global;
 use std::test::Fail;
 

@@ -3,13 +3,13 @@ use Rattle.std.proofs.Common.{◌≡◌, inl, inr, ℕ, ◌+◌, ◌<◌, Option
 use Rattle.std.proofs.Math.Seq.{take-suc}
 use Rattle.std.proofs.lemmas.Grind.{flat_map-append}
 use Rattle.std.proofs.lemmas.List.{append-nil}
-use Rattle.volume_disk.specs.Disk.{Disk, Tells}
-use Rattle.domain_layout.specs.Faults.{FaultRow}
+use Rattle.domain_faults.specs.volume_disk.Disk.{Disk, Tells}
+use Rattle.domain_faults.specs.domain_layout.Faults.{FaultRow}
 use Rattle.domain_faults.specs.Rows.{row_there, rows_there}
 use Rattle.domain_faults.specs.declared.rows.FaultRow.{FaultRow as Told}
-use Rattle.image_meaning.specs.Meaning.{IsMeaningOf}
-use Rattle.image_meaning.specs.declared.meaning.Meaning.{Meaning}
-use Rattle.image_meaning.specs.declared.meaning.Meaning.TheVariants.{Faulty, Filesets, NoDomain}
+use Rattle.domain_faults.specs.Meaning.{IsMeaningOf}
+use Rattle.domain_faults.specs.declared.meaning.Meaning.{Meaning}
+use Rattle.domain_faults.specs.declared.meaning.Meaning.TheVariants.{Faulty, Filesets, NoDomain}
 use Rattle.run_parts.specs.Verified.{ListsFaults, PrintEnds, VerifyEnds, fault_line, faults_text, rows_of}
 use Rattle.run_parts.specs.declared.status.Status.{Status}
 use Rattle.run_parts.specs.declared.status.Status.TheVariants as status

@@ -4,8 +4,8 @@ use Rattle.std.proofs.KnownBytes.{Appends-trans}
 use Rattle.std.proofs.Math.Seq.{take-suc}
 use Rattle.std.proofs.lemmas.Grind.{flat_map-append}
 use Rattle.std.proofs.lemmas.List.{append-nil}
-use Rattle.fileset_model.specs.declared.entry.Entry.{Entry}
-use Rattle.history_text.specs.History.{history_text, line_of}
+use Rattle.domain_faults.specs.fileset_values.declared.entry.Entry.{Entry}
+use Rattle.script_text.specs.History.{history_text, line_of}
 use Rattle.run_parts.specs.Transfer.{AppendsFront, HandsOn}
 
 -- the text of one entry more

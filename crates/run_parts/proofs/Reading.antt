@@ -5,7 +5,7 @@ use Rattle.script_text.specs.Script.{Reports, script_of}
 use Rattle.script_text.specs.declared.script.Script.{Script}
 use Rattle.script_text.specs.declared.script.ScriptFault.{ScriptFault}
 use Rattle.script_text.specs.declared.script.ScriptFault.TheVariants as fault
-use Rattle.fileset_model.specs.declared.entry.Entry.{Entry}
+use Rattle.domain_faults.specs.fileset_values.declared.entry.Entry.{Entry}
 use Rattle.run_parts.specs.Answering.{AnswersScript}
 use Rattle.run_parts.specs.Exit.{status_of_fault, status_of_read}
 use Rattle.run_parts.specs.Reading.{Follows, GetsNoScript, IsScript}

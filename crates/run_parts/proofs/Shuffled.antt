@@ -9,11 +9,11 @@ use Rattle.std.specs.List.{All, flat_map}
 use Rattle.std.specs.List.Sorted.{IsStableByKey, ties}
 use Rattle.std.specs.Ordering.{is_lt, nat_cmp}
 use Rattle.std.proofs.lemmas.Bool.Decides.{nat_tests}
-use Rattle.fileset_model.specs.Shuffle.{Shuffle, commands_of, same_actor}
-use Rattle.fileset_model.specs.declared.command.Actor.{Actor}
-use Rattle.fileset_model.specs.declared.command.Actor.TheVariants.{Client, Mover}
-use Rattle.fileset_model.specs.declared.command.Command.{Command}
-use Rattle.fileset_model.specs.declared.entry.Entry.{Entry}
+use Rattle.domain_faults.specs.fileset_values.Shuffle.{Shuffle, commands_of, same_actor}
+use Rattle.domain_faults.specs.fileset_values.declared.command.Actor.{Actor}
+use Rattle.domain_faults.specs.fileset_values.declared.command.Actor.TheVariants.{Client, Mover}
+use Rattle.domain_faults.specs.fileset_values.declared.command.Command.{Command}
+use Rattle.domain_faults.specs.fileset_values.declared.entry.Entry.{Entry}
 use Rattle.script_text.specs.Script.{BadLine, first_bad, script_of, sections_in}
 use Rattle.script_text.specs.declared.script.Script.{Script}
 use Rattle.script_text.specs.declared.script.Section.{Section}

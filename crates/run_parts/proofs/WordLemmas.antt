@@ -6,7 +6,7 @@ use Rattle.std.specs.Char.{is_ascii_digit}
 use Rattle.std.specs.List.{list_all}
 use Rattle.std.specs.Result.{OkIff}
 use Rattle.std.specs.Str.Parse.{ParsesUnsigned, digits_value}
-use Rattle.word_forms.specs.Forms.{number_below}
+use Rattle.domain_faults.specs.word_forms.Forms.{number_below}
 use Rattle.run_parts.specs.Usage.{are_plain_digits, in_range, asked_pages}
 
 decimals : IsNumeralModel (λ ds. list_all is_ascii_digit ds ≡ true) (digits_value 10)

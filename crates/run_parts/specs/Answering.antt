@@ -2,10 +2,10 @@
 use Rattle.std.specs.Prelude.{◌≡◌, ℕ, ◌==◌, if◌then◌else◌, List, [], map, filter}
 use Rattle.std.specs.List.{flat_map}
 use Rattle.std.specs.Option.{option_map_or}
-use Rattle.fileset_model.specs.declared.command.Actor.{Actor}
-use Rattle.fileset_model.specs.declared.command.Actor.TheVariants.{Client, Mover}
-use Rattle.fileset_model.specs.declared.command.Command.{Command}
-use Rattle.fileset_model.specs.declared.entry.Entry.{Entry}
+use Rattle.domain_faults.specs.fileset_values.declared.command.Actor.{Actor}
+use Rattle.domain_faults.specs.fileset_values.declared.command.Actor.TheVariants.{Client, Mover}
+use Rattle.domain_faults.specs.fileset_values.declared.command.Command.{Command}
+use Rattle.domain_faults.specs.fileset_values.declared.entry.Entry.{Entry}
 use Rattle.script_text.specs.Turns.{turn_of, turns_of}
 use Rattle.script_text.specs.declared.script.Script.{Script}
 use Rattle.script_text.specs.declared.script.Section.{Section}

@@ -1,10 +1,10 @@
 -- How making a domain ends.
 use Rattle.std.specs.Prelude.{◌≡◌, ◌⊎◌, ◌<◌}
-use Rattle.domain_base.specs.Limits.{min_first_volume_pages}
-use Rattle.domain_base.specs.declared.version.Version.{Version}
-use Rattle.volume_disk.specs.Disk.{Disk, Tells, volume_pages}
-use Rattle.disk_label.specs.Fault.{HasSlotCause}
-use Rattle.disk_label.specs.declared.fault.SlotFault.TheVariants.{Read, Write}
+use Rattle.domain_faults.specs.domain_base.Limits.{min_first_volume_pages}
+use Rattle.domain_faults.specs.domain_base.declared.version.Version.{Version}
+use Rattle.domain_faults.specs.volume_disk.Disk.{Disk, Tells, volume_pages}
+use Rattle.domain_faults.specs.disk_label.Fault.{HasSlotCause}
+use Rattle.domain_faults.specs.disk_label.declared.fault.SlotFault.TheVariants.{Read, Write}
 use Rattle.domain_making.specs.Making.{IsMade, new_anchor, pages_in_use}
 use Rattle.domain_making.specs.declared.fault.MakeFault.{MakeFault}
 use Rattle.domain_making.specs.declared.fault.MakeFault.TheVariants as fault

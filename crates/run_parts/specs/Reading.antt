@@ -1,8 +1,8 @@
 -- What a run has read, by how it ended.
 use Rattle.std.specs.Prelude.{◌≡◌, ◌⊎◌, ℕ, Option, Ok, List, []}
 use Rattle.std.specs.Io.KnownBytes.{IsAtEnd}
-use Rattle.fileset_model.specs.Shuffle.{Shuffle}
-use Rattle.fileset_model.specs.declared.entry.Entry.{Entry}
+use Rattle.domain_faults.specs.fileset_values.Shuffle.{Shuffle}
+use Rattle.domain_faults.specs.fileset_values.declared.entry.Entry.{Entry}
 use Rattle.script_text.specs.Script.{Reports, script_of}
 use Rattle.script_text.specs.declared.script.Script.{Script}
 use Rattle.script_text.specs.declared.script.ScriptFault.TheVariants.{Bad}

@@ -4,8 +4,8 @@ use Rattle.std.specs.Char.{is_ascii_digit}
 use Rattle.std.specs.List.{list_all}
 use Rattle.std.specs.Option.{option_map_or}
 use Rattle.std.specs.Str.{bytes_eq}
-use Rattle.domain_base.specs.declared.version.Version.TheVariants.{Three, Four}
-use Rattle.word_forms.specs.Forms.{number_below}
+use Rattle.domain_faults.specs.domain_base.declared.version.Version.TheVariants.{Three, Four}
+use Rattle.domain_faults.specs.word_forms.Forms.{number_below}
 use Rattle.run_parts.specs.declared.words.Form.{Form}
 use Rattle.run_parts.specs.declared.words.Form.TheVariants.{Try, Run, Make, Verify}
 

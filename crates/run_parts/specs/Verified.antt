@@ -1,18 +1,18 @@
 -- What is printed of an image that is verified.
 use Rattle.std.specs.Prelude.{◌≡◌, ◌⊎◌, ◌==◌, ◌++◌, ℕ, ◌∷◌, [], List, Option, codes, decimal, flat_map, if◌then◌else◌, length}
 use Rattle.std.specs.Io.KnownBytes.{Appends}
-use Rattle.volume_disk.specs.Disk.{Disk, Tells, raised_at}
-use Rattle.volume_disk.specs.Image.{Image}
-use Rattle.log_recovery.specs.Outcome.{IsFirstFault}
-use Rattle.fileset_model.specs.Filesets.{FilesetMap}
-use Rattle.domain_layout.specs.Faults.{FaultRow}
-use Rattle.domain_layout.specs.Read.{Means}
+use Rattle.domain_faults.specs.volume_disk.Disk.{Disk, Tells, raised_at}
+use Rattle.domain_faults.specs.volume_disk.Image.{Image}
+use Rattle.domain_faults.specs.log_recovery.Outcome.{IsFirstFault}
+use Rattle.domain_faults.specs.fileset_model.Filesets.{FilesetMap}
+use Rattle.domain_faults.specs.domain_layout.Faults.{FaultRow}
+use Rattle.domain_faults.specs.domain_layout.Read.{Means}
 use Rattle.domain_faults.specs.Rows.{rows_there}
-use Rattle.image_meaning.specs.Faulty.{HasFaults}
-use Rattle.image_meaning.specs.declared.meaning.Meaning.{Meaning}
-use Rattle.image_meaning.specs.declared.meaning.Meaning.TheVariants.{Faulty, Filesets, NoDomain}
-use Rattle.image_meaning.specs.declared.fault.ReadFault.{ReadFault}
-use Rattle.image_meaning.specs.declared.fault.ReadFault.TheVariants as fault
+use Rattle.domain_faults.specs.filesets_reading.Faulty.{HasFaults}
+use Rattle.domain_faults.specs.declared.meaning.Meaning.{Meaning}
+use Rattle.domain_faults.specs.declared.meaning.Meaning.TheVariants.{Faulty, Filesets, NoDomain}
+use Rattle.domain_faults.specs.declared.fault.ReadFault.{ReadFault}
+use Rattle.domain_faults.specs.declared.fault.ReadFault.TheVariants as fault
 use Rattle.run_parts.specs.Transfer.{AppendsFront}
 use Rattle.run_parts.specs.declared.status.Status.{Status}
 use Rattle.run_parts.specs.declared.status.Status.TheVariants as status

@@ -1,7 +1,7 @@
 //! What the program tells about itself.
 
-/// What `--help` prints, on one screen: the command line, the commands with their words, and the
-/// forms of these in short.
+/// What `--help` prints, on one screen: the command line, the commands with their words, and a
+/// short form of each word.
 pub const HELP: &str = "\
 usage: advfs mkfdmn [-3] IMAGE     makes an empty domain: what was there is gone
        advfs run SCRIPT IMAGE      runs a script over it; -: standard input

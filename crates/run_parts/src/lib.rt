@@ -1,5 +1,5 @@
-//! The parts of a run: the words of the command line, where a script comes from, where lines go, how
-//! a run ends, a domain that is made, and an image that is verified.
+//! The parts of a run: the words of the command line, where a script comes from, where lines go,
+//! how a run ends, making a domain, and verifying an image.
 #![tactic(auto)]
 
 mod help;
@@ -23,3 +23,6 @@ pub use status::{Status, Unattached};
 pub use transfer::{ReadError, read_all, write_all, zeros};
 pub use verifying::verify;
 pub use words::{Form, form_asked};
+
+// What stands below and is named above.
+pub use script_text::{FaultKind, ScriptFault, Section, history_line, read_script};

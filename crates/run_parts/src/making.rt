@@ -1,17 +1,16 @@
-//! A domain that is made in an image.
+//! Making a domain in an image.
 ghost use Rattle.std.specs.Prelude.{◌≡◌, length};
-ghost use Rattle.volume_disk.specs.Disk.{Tells};
-ghost use Rattle.volume_disk.specs.Run.{LeavesOnly, Touches};
+ghost use Rattle.domain_faults.specs.volume_disk.Disk.{Tells};
+ghost use Rattle.domain_faults.specs.volume_disk.Run.{LeavesOnly, Touches};
 ghost use Rattle.domain_making.specs.Making.{AreSlotsReady, IsNoneOrEmpty, IsOnFirst, pages_in_use};
 ghost use Rattle.run_parts.specs.Made.{MakeEnds, status_of_make_fault};
 
 use crate::status::Status;
-use domain_base::Version;
+use domain_faults::{Rack, Version};
 use domain_making::{MakeFault, make_domain};
 use std::alloc::Global;
-use volume_disk::Rack;
 
-/// How making ends where no domain is made.
+/// The status if no domain was made.
 fn status_of(fault: &MakeFault) -> Status
     ensures { result ≡ status_of_make_fault fault.now }
 {
@@ -22,9 +21,9 @@ fn status_of(fault: &MakeFault) -> Status
     }
 }
 
-/// Makes an empty domain of this version on a rack's only volume, whatever that held. Where no
-/// anchor could count before, each image that a stop leaves meanwhile has none, or is the empty
-/// domain.
+/// Makes an empty domain of this version on a rack's only volume, whatever that held before. If no
+/// anchor could count before, each image that a stop leaves on the way has no anchor, or is the
+/// empty domain.
 pub fn make<R: Rack>(alloc: Global, rack: &mut R, version: Version) -> Status
     requires { length (R.disk rack.old).sizes ≡ 1 }
     ensures touches { Touches (R.disk rack.old) (R.disk rack.new) IsOnFirst }

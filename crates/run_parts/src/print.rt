@@ -1,20 +1,19 @@
-//! The printing of a history.
+//! Printing a history.
 ghost use Rattle.std.specs.Prelude.{◌≡◌, ◌≤◌, [], ◌++◌, OnOk, OnErr};
 ghost use Rattle.std.specs.Io.KnownBytes.{Appends};
-ghost use Rattle.domain_base.specs.Counts.{HasRisen};
-ghost use Rattle.history_text.specs.History.{history_text, line_of};
+ghost use Rattle.domain_faults.specs.domain_base.Counts.{HasRisen};
+ghost use Rattle.script_text.specs.History.{history_text, line_of};
 ghost use Rattle.run_parts.specs.Transfer.{AppendsFront, HandsOn};
 
 use crate::sinks::Sink;
 use crate::transfer::write_all;
-use domain_base::Failed;
-use fileset_model::Entry;
+use domain_faults::{Entry, Failed};
 use script_text::history_line;
 use std::alloc::{AllocError, Global};
 use std::error::Error;
 use std::fmt;
 
-/// A buffer with so many bytes or more is written.
+/// A buffer is written once it has this many bytes.
 const BUFFER_BYTES: usize = 65_536;
 
 /// Why a history was not printed whole.
@@ -22,7 +21,7 @@ const BUFFER_BYTES: usize = 65_536;
 pub enum PrintError {
     /// The sink failed.
     SinkFault,
-    /// No memory could be had.
+    /// Memory ran out.
     OutOfMemory,
 }
 
@@ -59,8 +58,8 @@ impl From<AllocError> for PrintError {
     }
 }
 
-/// Writes what waits in the buffer, and empties it. After a failure the sink holds a part of what
-/// waited, from its front.
+/// Writes what waits in the buffer, and empties it. After a failure the sink has received a prefix
+/// of what waited.
 fn flush<K: Sink>(sink: &mut K, buffer: &mut Vec<u8>) -> Result<(), Failed>
     ensures ok { OnOk result (Appends (K.held sink.old) (K.held sink.new) buffer.old.items) }
     ensures empty { OnOk result (buffer.new.items ≡ []) }
@@ -74,7 +73,7 @@ fn flush<K: Sink>(sink: &mut K, buffer: &mut Vec<u8>) -> Result<(), Failed>
 }
 
 /// Adds the line of an entry to the buffer, which is written once it is full. After an error the
-/// sink holds a part of what waited and of the line, from its front.
+/// sink has received a prefix of what waited and of the line.
 fn push_line<K: Sink>(
     alloc: Global,
     sink: &mut K,
@@ -97,8 +96,9 @@ fn push_line<K: Sink>(
     Ok(())
 }
 
-/// Prints a history, a line for each entry, in pieces of 65,536 bytes and more. After an error the
-/// sink holds a part of its text, from its front.
+/// Prints a history, a line for each entry, in pieces of 65,536 bytes and more. Returns `SinkFault`
+/// if a call of the sink was refused, and `OutOfMemory` if memory ran out. After an error the sink
+/// has received a prefix of the text.
 pub fn print_history<K: Sink>(
     alloc: Global,
     sink: &mut K,

@@ -2,9 +2,9 @@
 ghost use Rattle.std.specs.Prelude.{◌≡◌, ℕ, ◌≤◌, ◌<◌, ◌+◌, List, [], Option, Some, None, OnOk, IfOk, OnErr, IsErr, Contains, min, length};
 ghost use Rattle.std.specs.Io.{WritesAtMost};
 ghost use Rattle.std.specs.Io.KnownBytes.{WriteAppends};
-ghost use Rattle.domain_base.specs.Counts.{HasRisen, raised};
+ghost use Rattle.domain_faults.specs.domain_base.Counts.{HasRisen, raised};
 
-use domain_base::Failed;
+use domain_faults::Failed;
 use std::alloc::Global;
 use std::io::Write;
 use std::marker::Model;
@@ -17,8 +17,8 @@ pub trait Sink {
     /// How many calls were refused.
     ghost faults: { Self → ℕ };
 
-    /// Writes a part of the piece, from its front, and answers how many bytes that are, which is
-    /// none only for an empty piece. A call that is refused writes nothing.
+    /// Writes a prefix of `bytes` and returns its length, which is 0 only if `bytes` is empty. A
+    /// refused call writes nothing.
     fn write(&mut self, bytes: &[u8]) -> Result<usize, Failed>
         ensures bound { WritesAtMost result bytes.now }
         ensures takes { IfOk result (λ count. 0 < length bytes.now → 0 < count) }
@@ -31,8 +31,8 @@ pub trait Sink {
         ensures { result ≡ faults self.now };
 }
 
-/// A sink that keeps its bytes in memory. It refuses the calls that it was told to refuse, and
-/// those for which memory runs out.
+/// A sink that keeps its bytes in memory. It refuses the calls that it was told to refuse, and any
+/// call for which memory runs out.
 #[derive(Debug, Drop)]
 pub struct MemorySink {
     bytes: Vec<u8>,
@@ -55,7 +55,7 @@ impl Model for MemorySink {
 }
 
 impl MemorySink {
-    /// A sink with nothing in it. `fails` names the calls that it refuses, the first call by 1.
+    /// An empty sink. `fails` lists the calls that it refuses, counted from 1.
     pub fn new(alloc: Global, fails: Vec<u64>) -> Self
         ensures { result ≡ record { held = []; fails = fails.items; calls = 0; faults = 0 } }
     {
@@ -103,7 +103,7 @@ impl Sink for MemorySink {
     }
 }
 
-/// Makes a sink of a writer, as standard output is one. Contracts see none of its bytes.
+/// Makes a sink of a writer, such as standard output. Contracts see none of its bytes.
 #[derive(Debug, Drop)]
 pub struct WriterSink<T> {
     writer: T,
@@ -111,7 +111,7 @@ pub struct WriterSink<T> {
 }
 
 impl<T> WriterSink<T> {
-    /// A sink that hands everything on to the writer, with no call refused so far.
+    /// A sink that passes everything on to the writer, with no call refused so far.
     pub fn new(writer: T) -> Self
         ensures kept { result.writer ≡ writer }
         ensures faults { result.faults ≡ 0 }

@@ -2,14 +2,13 @@
 ghost use Rattle.std.specs.Prelude.{◌≡◌, ℕ, ◌≤◌, ◌↔◌, ◌+◌, List, Option, Some, None, OnErr, IsErr, Contains, min, length, drop};
 ghost use Rattle.std.specs.Io.{ReadsAtMost};
 ghost use Rattle.std.specs.Io.KnownBytes.{ReadConsumes};
-ghost use Rattle.domain_base.specs.Counts.{HasRisen, raised};
+ghost use Rattle.domain_faults.specs.domain_base.Counts.{HasRisen, raised};
 
-use domain_base::Failed;
+use domain_faults::Failed;
 use std::io::Read;
 use std::marker::Model;
 
-/// An input of bytes, read piece by piece. It is over once a call that has room for a byte gives
-/// none.
+/// An input of bytes, read piece by piece. It has ended once a call with room for a byte returns 0.
 pub trait Source {
     /// What is still to come. A source whose bytes contracts do not see has None.
     ghost left: { Self → Option (List ℕ) };
@@ -17,8 +16,8 @@ pub trait Source {
     /// How many calls were refused.
     ghost faults: { Self → ℕ };
 
-    /// Fills a piece from its front with the next bytes, as far as they come, and answers how many
-    /// these are. Nothing is lost by a call that is refused: the next one goes on at the same byte.
+    /// Fills `out` from its start with the next bytes, as many as come, and returns how many. A
+    /// refused call loses nothing: the next call goes on at the same byte.
     fn read(&mut self, out: &mut [u8]) -> Result<usize, Failed>
         ensures bound { ReadsAtMost result out.new }
         ensures bytes { ReadConsumes (left self.old) (left self.new) result out.new }
@@ -57,8 +56,7 @@ impl Model for MemorySource {
 }
 
 impl MemorySource {
-    /// A source that gives these bytes. `fails` names the calls that it refuses, the first call by
-    /// 1.
+    /// A source that gives these bytes. `fails` lists the calls that it refuses, counted from 1.
     pub fn new(bytes: Vec<u8>, fails: Vec<u64>) -> Self
         ensures { result
             ≡ record { left = bytes.items; fails = fails.items; calls = 0; faults = 0 } }
@@ -104,7 +102,7 @@ impl Source for MemorySource {
     }
 }
 
-/// Makes a source of a reader, as standard input is one. Contracts see none of its bytes.
+/// Makes a source of a reader, such as standard input. Contracts see none of its bytes.
 #[derive(Debug, Drop)]
 pub struct ReaderSource<T> {
     reader: T,

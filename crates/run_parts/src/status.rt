@@ -8,7 +8,7 @@ use script_text::{FaultKind, ScriptFault};
 use std::alloc::AllocError;
 use std::fmt;
 
-/// Why a domain of which no rule is broken is not attached.
+/// Why a domain that breaks no rule is still not attached.
 #[derive(Clone, Copy, Debug, PartialEq, Eq)]
 pub enum Unattached {
     /// It has a clone.
@@ -17,7 +17,7 @@ pub enum Unattached {
     ReadThrough,
     /// What is being removed names quota cells that are not the first ones of its fileset.
     WrongQuotas,
-    /// A tag leads to a file of which all is to be removed.
+    /// A tag leads to a file that is to be removed whole.
     RemovedFile,
     /// A tag leads to a directory that is to be cut.
     CutDirectory,
@@ -43,8 +43,8 @@ impl fmt::Display for Unattached {
 pub enum Status {
     /// The script was run, and its whole history is in the sink.
     Ok,
-    /// The command line is not understood. So many words stand in front of the first one that is
-    /// out of place, and where the line stops too early that is all of them.
+    /// The command line is not understood. `word` words stand before the first one that is out of
+    /// place; if the line stops too early, these are all of its words.
     Usage { word: u32 },
     /// A call of the source was refused, so the script is not known.
     SourceFault,
@@ -55,19 +55,19 @@ pub enum Status {
     BadScript { line: u32, kind: FaultKind },
     /// There is no domain: at this page of this volume the first of its rules is broken.
     NotADomain { vol: u32, at: u32 },
-    /// A read, a write or a sync of this volume was refused, as a domain was made, attached, closed
-    /// or verified.
+    /// A read, a write or a sync of this volume was refused while a domain was made, attached,
+    /// closed or verified.
     VolumeFault { vol: u32 },
-    /// A call of the sink was refused. What went out before it are the first bytes of the text, and
-    /// no others.
+    /// A call of the sink was refused. What was written before it is a prefix of the text, and
+    /// nothing else.
     SinkFault,
-    /// The image that was verified has so many faults, one at least, and each is in the sink.
+    /// The image that was verified has `faults` faults, at least one, and each is in the sink.
     Found { faults: u64 },
     /// Memory ran out, at any point of the run.
     OutOfMemory,
-    /// The volume on which a domain was to be made has so many pages, which is fewer than 160.
+    /// The volume on which a domain was to be made has only `pages` pages, fewer than 160.
     VolumeSmall { pages: u32 },
-    /// There is a domain of which no rule is broken, but it is not attached.
+    /// There is a domain that breaks no rule, but it is not attached.
     Unfit { why: Unattached },
 }
 

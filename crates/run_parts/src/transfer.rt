@@ -1,17 +1,17 @@
-//! Whole inputs and whole texts, over sources and sinks that take and give pieces.
+//! Whole inputs and whole texts, over sources and sinks that give and take pieces.
 ghost use Rattle.std.specs.Prelude.{◌≡◌, ℕ, ◌≤◌, ◌<◌, ◌+◌, ◌^◌, List, OnOk, OnErr, IfOk, MatchResult, length, vec_len};
 ghost use Rattle.std.specs.Io.KnownBytes.{Appends, Consumes, IsAtEnd};
-ghost use Rattle.domain_base.specs.Counts.{HasRisen};
+ghost use Rattle.domain_faults.specs.domain_base.Counts.{HasRisen};
 ghost use Rattle.run_parts.specs.Transfer.{AppendsFront, StopsAfter};
 
 use crate::sinks::Sink;
 use crate::sources::Source;
-use domain_base::Failed;
+use domain_faults::Failed;
 use std::alloc::{AllocError, Global};
 use std::error::Error;
 use std::fmt;
 
-/// The bytes that one call of a source is asked for at most.
+/// How many bytes one call of a source is asked for at most.
 const PIECE_BYTES: usize = 65_536;
 
 /// Why an input could not be read whole.
@@ -21,7 +21,7 @@ pub enum ReadError {
     SourceFault,
     /// More bytes were read than the limit.
     TooLong,
-    /// No memory could be had.
+    /// Memory ran out.
     OutOfMemory,
 }
 
@@ -59,21 +59,22 @@ impl From<AllocError> for ReadError {
     }
 }
 
-/// As many zeros.
+/// A vector of `count` zero bytes. Fails only if memory runs out.
 pub fn zeros(alloc: Global, count: usize) -> Result<Vec<u8>, AllocError>
     ensures { IfOk result (λ bytes. vec_len bytes ≡ count) }
 {
     vec![in alloc; 0; count]
 }
 
-/// Reads a source to its end, or until more than `limit` bytes were read.
+/// Reads a source to its end. Returns `TooLong` if more than `limit` bytes were read, `SourceFault`
+/// if a call was refused, and `OutOfMemory` if memory ran out.
 pub fn read_all<S: Source>(
     alloc: Global,
     source: &mut S,
     limit: usize,
 ) -> Result<Vec<u8>, ReadError>
     requires { limit < usize.MAX }
-    // What was taken from the source is what is given at Ok, where nothing is left.
+    // At Ok, what was taken from the source is what is returned, and nothing is left.
     ensures taken { (read : List ℕ) × Consumes (S.left source.old) (S.left source.new) read
         × MatchResult result
         (λ bytes. (bytes.items ≡ read) × (length read ≤ limit))
@@ -97,7 +98,7 @@ pub fn read_all<S: Source>(
     Err(ReadError::TooLong)
 }
 
-/// Writes a whole text to a sink. After a failure the sink holds a part of it, from its front.
+/// Writes a whole text to a sink. After a failure the sink has received a prefix of it.
 pub fn write_all<K: Sink>(sink: &mut K, text: &[u8]) -> Result<(), Failed>
     ensures ok { OnOk result (Appends (K.held sink.old) (K.held sink.new) text.now) }
     ensures err { OnErr result (AppendsFront (K.held sink.old) (K.held sink.new) text.now) }

@@ -1,22 +1,18 @@
-//! The faults of an image, printed.
+//! Printing the faults of an image.
 ghost use Rattle.std.specs.Prelude.{◌≡◌, ◌≤◌, ◌++◌, IfOk, OnOk, length};
-ghost use Rattle.domain_base.specs.Counts.{HasRisen};
-ghost use Rattle.volume_disk.specs.Run.{OnlyReads};
+ghost use Rattle.domain_faults.specs.domain_base.Counts.{HasRisen};
+ghost use Rattle.domain_faults.specs.volume_disk.Run.{OnlyReads};
 ghost use Rattle.domain_faults.specs.Rows.{rows_there};
 ghost use Rattle.run_parts.specs.Verified.{PrintEnds, VerifyEnds, fault_line, faults_text, first_code, rows_of, status_of_read_fault};
 
 use crate::sinks::Sink;
 use crate::status::Status;
 use crate::transfer::write_all;
-use domain_base::OutOfMemory;
-use domain_faults::FaultRow;
-use image_meaning::{Meaning, ReadFault, read_image};
+use domain_faults::{FaultRow, Meaning, OutOfMemory, Rack, ReadFault, push_number, read_image};
 use std::alloc::Global;
-use volume_disk::Rack;
-use word_forms::push_number;
 
-/// The code of the fault at the first page that is none of a domain: of a label, of the anchors, or
-/// of a group of the log.
+/// The code of the fault at the first page that does not belong to a domain: 1 for a label, 2 for
+/// the anchors, 3 for a group of the log.
 fn first_code(at: u32) -> u32
     ensures { result ≡ first_code at }
 {
@@ -55,7 +51,7 @@ fn push_faults(out: &mut Vec<u8>, rows: &[FaultRow]) -> Result<(), OutOfMemory>
     Ok(())
 }
 
-/// The lines of the faults of what an image means, and how many these are.
+/// The lines that tell the faults of what an image means, and how many there are.
 fn lines_of(alloc: Global, meaning: &Meaning) -> Result<(Vec<u8>, u64), OutOfMemory>
     ensures { IfOk result (λ told. (told.0.items ≡ faults_text (rows_of meaning.now))
         × (told.1 ≡ length (rows_of meaning.now))) }
@@ -75,7 +71,7 @@ fn lines_of(alloc: Global, meaning: &Meaning) -> Result<(Vec<u8>, u64), OutOfMem
     Ok((lines, count))
 }
 
-/// How verifying ends where it is not known what an image means.
+/// The status if it is not known what an image means.
 fn status_of(fault: &ReadFault) -> Status
     ensures { result ≡ status_of_read_fault fault.now }
 {
@@ -102,8 +98,8 @@ fn print_faults<K: Sink>(alloc: Global, sink: &mut K, meaning: &Meaning) -> Stat
     }
 }
 
-/// Prints a line for each fault of the domain on a rack, which is only read: `Found` tells how many
-/// these are, and `Ok` comes where there is none. Nothing is printed where a read failed.
+/// Prints a line for each fault of the domain on a rack, which is only read. Returns `Found` with
+/// the number of faults, or `Ok` if there are none. Prints nothing if a read failed.
 pub fn verify<R: Rack, K: Sink>(alloc: Global, rack: &mut R, sink: &mut K) -> Status
     ensures reads { OnlyReads (R.disk rack.old) (R.disk rack.new) }
     ensures ends { VerifyEnds (R.disk rack.old) (R.disk rack.new) result

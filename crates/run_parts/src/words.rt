@@ -4,13 +4,13 @@ ghost use Rattle.std.specs.Char.{is_ascii_digit};
 ghost use Rattle.std.specs.List.{list_all};
 ghost use Rattle.run_parts.specs.Usage.{are_plain_digits, asked_pages, form_end, form_of, image_form, make_form, run_form, try_form, verb_form};
 
-use domain_base::Version;
-use domain_base::limits::MAX_VOLUME_PAGES;
+use domain_faults::Version;
+use domain_faults::limits::MAX_VOLUME_PAGES;
 
 /// What a command line asks for.
 #[derive(Clone, Copy, Debug, PartialEq, Eq)]
 pub enum Form {
-    /// A script over a new domain in memory, on a volume of so many pages.
+    /// A script over a new domain in memory, on a volume of `pages` pages.
     Try { pages: u32 },
     /// A script over the domain in an image.
     Run,
@@ -32,17 +32,17 @@ fn begins_with_zero(bytes: &[u8]) -> bool
     bytes.first() == Some(&b'0')
 }
 
-/// Whether the bytes are decimal digits, of which the first is not 0.
+/// Whether the bytes are decimal digits and the first is not 0.
 fn are_plain_digits(bytes: &[u8]) -> bool
     ensures { result ≡ are_plain_digits bytes.now }
 {
     are_digits(bytes) && !begins_with_zero(bytes)
 }
 
-/// The fewest pages that a volume of `try` may be asked to have. A domain wants more.
+/// The smallest number of pages that may be asked for a volume of `try`. A domain needs more.
 const MIN_PAGES_ASKED: u32 = 64;
 
-/// How many pages a word asks for, where a volume may have so many.
+/// How many pages a word asks for; None if a volume may not have that many.
 fn pages_in(word: &str) -> Option<u32>
     ensures { result ≡ asked_pages word.now }
 {
@@ -55,7 +55,7 @@ fn pages_in(word: &str) -> Option<u32>
     }
 }
 
-/// The form, where no word is left behind it, which has so many words.
+/// The form, which has `count` words, if no word is left after it.
 fn end_form(words: &[String], count: u32, form: Form) -> Result<Form, u32>
     ensures { result ≡ form_end count form (map string_bytes words.now) }
 {
@@ -65,7 +65,7 @@ fn end_form(words: &[String], count: u32, form: Form) -> Result<Form, u32>
     }
 }
 
-/// The form of `try`, of the words behind that.
+/// The form of `try`, from the words after it.
 fn try_asked(words: &[String]) -> Result<Form, u32>
     ensures { result ≡ try_form (map string_bytes words.now) }
 {
@@ -79,7 +79,7 @@ fn try_asked(words: &[String]) -> Result<Form, u32>
     }
 }
 
-/// The form of an image, whose name comes behind so many words.
+/// The form of an image whose name comes after `count` words.
 fn image_asked(words: &[String], count: u32, form: Form) -> Result<Form, u32>
     requires { count ≤ 2 }
     ensures { result ≡ image_form count form (map string_bytes words.now) }
@@ -94,7 +94,7 @@ fn image_asked(words: &[String], count: u32, form: Form) -> Result<Form, u32>
     end_form(rest, count + 1, form)
 }
 
-/// The form of `run`, of the words behind that: a script, and an image.
+/// The form of `run`, from the words after it: a script, and an image.
 fn run_asked(words: &[String]) -> Result<Form, u32>
     ensures { result ≡ run_form (map string_bytes words.now) }
 {
@@ -108,7 +108,7 @@ fn run_asked(words: &[String]) -> Result<Form, u32>
     image_asked(rest, 2, Form::Run)
 }
 
-/// The form of `mkfdmn`, of the words behind that.
+/// The form of `mkfdmn`, from the words after it.
 fn make_asked(words: &[String]) -> Result<Form, u32>
     ensures { result ≡ make_form (map string_bytes words.now) }
 {
@@ -124,9 +124,8 @@ fn make_asked(words: &[String]) -> Result<Form, u32>
     image_asked(words, 1, Form::Make { version })
 }
 
-/// What the command line asks for. A line that is not understood gives, as its error, how many
-/// words stand in front of the first one that is out of place; where the line stops too early that
-/// is all of them.
+/// What the command line asks for. If it is not understood, the error is how many words stand
+/// before the first one that is out of place; if the line stops too early, that is all of them.
 #[tactic(auto, unfolding(crate::specs::Usage::form_of))]
 pub fn form_asked(words: &[String]) -> Result<Form, u32>
     ensures { result ≡ form_of (map string_bytes words.now) }

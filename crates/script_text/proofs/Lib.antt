@@ -1,3 +1,5 @@
 pub mod LineLemmas
 pub mod ScriptLemmas
 pub mod WordLemmas
+pub mod OfCommandText
+pub mod OfWordForms

@@ -1,6 +1,6 @@
 -- What the steps of reading a script answer.
 use Rattle.std.specs.Prelude.{◌≡◌, ℕ, true, false, Option, Some, None, option_map, unwrap_or, List, [], ◌∷◌, ◌++◌}
-use Rattle.fileset_model.specs.declared.command.Command.{Command}
+use Rattle.command_text.specs.fileset_values.declared.command.Command.{Command}
 use Rattle.script_text.specs.declared.fault.LineFault.{LineFault}
 use Rattle.script_text.specs.declared.fault.LineFault.TheVariants as line
 use Rattle.script_text.specs.declared.reading.Draft.{Draft}

@@ -4,9 +4,9 @@ use Rattle.std.specs.Prelude.{◌≡◌, ℕ, ◌+◌, ◌-◌, ◌^◌, min, Bo
 use Rattle.std.specs.List.{list_any, filter_map}
 use Rattle.std.specs.Str.{bytes_eq}
 use Rattle.std.specs.Str.Lines.{lines}
-use Rattle.fileset_model.specs.declared.command.Command.{Command}
+use Rattle.command_text.specs.fileset_values.declared.command.Command.{Command}
 use Rattle.command_text.specs.Commands.{one_word, command_of, row_of, takes, verb_of}
-use Rattle.word_forms.specs.Forms.{◌>>=◌, passing, number_within}
+use Rattle.command_text.specs.word_forms.Forms.{◌>>=◌, passing, number_within}
 use Rattle.command_text.specs.declared.verb.Verb.{Verb}
 use Rattle.script_text.specs.declared.fault.FaultKind.{FaultKind}
 use Rattle.script_text.specs.declared.fault.FaultKind.TheVariants as fault

@@ -1,9 +1,9 @@
 -- Who gives which command.
 use Rattle.std.specs.Prelude.{List, map}
-use Rattle.fileset_model.specs.declared.command.Actor.{Actor}
-use Rattle.fileset_model.specs.declared.command.Actor.TheVariants.{Client}
-use Rattle.fileset_model.specs.declared.command.Command.{Command}
-use Rattle.fileset_model.specs.declared.entry.Entry.{Entry}
+use Rattle.command_text.specs.fileset_values.declared.command.Actor.{Actor}
+use Rattle.command_text.specs.fileset_values.declared.command.Actor.TheVariants.{Client}
+use Rattle.command_text.specs.fileset_values.declared.command.Command.{Command}
+use Rattle.command_text.specs.fileset_values.declared.entry.Entry.{Entry}
 use Rattle.script_text.specs.declared.script.Section.{Section}
 
 -- who gives a command, and the command

@@ -2,7 +2,7 @@ ghost use Rattle.std.specs.Prelude.{◌≡◌};
 ghost use Rattle.script_text.specs.Script.{kind_number};
 ghost use Rattle.script_text.specs.declared.fault.LineFault.TheVariants as line;
 
-use domain_base::OutOfMemory;
+use command_text::OutOfMemory;
 use std::alloc::AllocFailed;
 use std::fmt;
 
@@ -15,9 +15,9 @@ pub enum FaultKind {
     NoSection = 2,
     /// A first word that is not known.
     UnknownWord = 3,
-    /// A command that belongs into the other kind of section.
+    /// A command that belongs in the other kind of section.
     OtherSection = 4,
-    /// Another number of words than the form has.
+    /// Fewer or more words than the form has.
     WordCount = 5,
     /// A word that is not of its form, or beyond its limit.
     WordForm = 6,
@@ -28,7 +28,7 @@ pub enum FaultKind {
 }
 
 impl FaultKind {
-    /// The number by which it is named.
+    /// The number of this kind of fault.
     pub fn number(self) -> u8
         ensures { result ≡ kind_number self }
     {
@@ -56,7 +56,7 @@ impl fmt::Display for FaultKind {
 pub enum LineFault {
     /// This is wrong with it.
     Kind(FaultKind),
-    /// No memory could be had.
+    /// Memory ran out.
     OutOfMemory,
 }
 

@@ -8,11 +8,10 @@ use crate::fault::{FaultKind, LineFault};
 use crate::script::{Script, ScriptFault, Section};
 use crate::statement::{Statement, is_section_word, known_word, others};
 use crate::words::{split_line, words};
-use domain_base::OutOfMemory;
-use domain_base::limits::MAX_COMMANDS;
-use fileset_model::{Command, Listing};
+use command_text::from_fileset_values::Command;
+use command_text::limits::MAX_COMMANDS;
+use command_text::{Listing, OutOfMemory, WordFault};
 use std::alloc::Global;
-use word_forms::WordFault;
 
 /// The sections that the lines so far opened: those that are done, and the one that is open.
 #[derive(Drop)]
@@ -107,7 +106,7 @@ fn opened(alloc: Global, draft: Draft, number: u8) -> Result<Draft, LineFault>
     })
 }
 
-/// The sections with one command more in the last of them.
+/// The sections with one more command in the last of them.
 fn given(mut draft: Draft, command: Command) -> Result<Draft, LineFault>
     ensures { MatchResult result
         (λ next. IsAdded (drafted (Some draft)) (Statement.Gives command) (drafted (Some next)))
@@ -120,7 +119,7 @@ fn given(mut draft: Draft, command: Command) -> Result<Draft, LineFault>
     Ok(draft)
 }
 
-/// The sections with one statement more.
+/// The sections with one more statement.
 fn add(
     alloc: Global,
     draft: Option<Draft>,
@@ -143,7 +142,7 @@ fn add(
     }
 }
 
-/// The sections with what one line more says.
+/// The sections with what one more line says.
 fn take_line(alloc: Global, draft: Option<Draft>, line: &[u8]) -> Result<Option<Draft>, LineFault>
     ensures { MatchResult result
         (λ next. IsTaken (drafted draft) line.now (drafted next))
@@ -180,8 +179,8 @@ fn finished(alloc: Global, draft: Option<Draft>) -> Result<Script, OutOfMemory>
     })
 }
 
-/// The script that a text says, up to eight sections of clients. A bad script is answered with its
-/// first bad line and what is wrong with it.
+/// The script that a text says, with up to eight sections of clients. For a bad script the error is
+/// its first bad line and what is wrong with it.
 pub fn read_script(alloc: Global, bytes: &[u8]) -> Result<Script, ScriptFault>
     ensures read { IfOk result (λ script. script_of bytes.now ≡ Ok script) }
     ensures fault { IfErr result (λ fault. Reports fault (script_of bytes.now)) }

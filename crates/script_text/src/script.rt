@@ -1,5 +1,5 @@
 use crate::fault::FaultKind;
-use fileset_model::{CommandList, Listing};
+use command_text::{CommandList, Listing};
 use std::error::Error;
 use std::fmt;
 
@@ -26,7 +26,7 @@ pub enum ScriptFault {
     /// The first bad line, counted from 1, and what is wrong with it. A line beyond 4,294,967,295
     /// is given as that number.
     Bad { line: u32, kind: FaultKind },
-    /// No memory could be had.
+    /// Memory ran out.
     OutOfMemory,
 }
 

@@ -1,13 +1,12 @@
 //! What a line says by its words.
 ghost use Rattle.std.specs.Prelude.{◌≡◌, map};
-ghost use Rattle.word_forms.specs.Read.{Gives};
+ghost use Rattle.command_text.specs.word_forms.Read.{Gives};
 ghost use Rattle.script_text.specs.Script.{is_section_word, keyword_of, statement_after, takes_count};
 
-use command_text::{Verb, command, known_verb};
-use domain_base::limits::MAX_CLIENTS;
-use fileset_model::Command;
+use command_text::from_fileset_values::Command;
+use command_text::limits::MAX_CLIENTS;
+use command_text::{Verb, WordFault, command, known_verb, number_within};
 use std::alloc::Global;
-use word_forms::{WordFault, number_within};
 
 /// What the first word of a line asks for.
 #[derive(Clone, Copy, Debug)]
@@ -34,7 +33,7 @@ pub fn is_section_word(word: &[u8]) -> bool
     word == b"client".as_slice()
 }
 
-/// What the first word of a line asks for, where it is known.
+/// What the first word of a line asks for, if it is known.
 pub fn known_word(word: &[u8]) -> Option<Keyword>
     ensures { result ≡ keyword_of word.now }
 {
@@ -50,7 +49,7 @@ pub fn known_word(word: &[u8]) -> Option<Keyword>
 }
 
 impl Keyword {
-    /// Whether its line may have so many words, the first among them.
+    /// Whether its line may have `count` words, counting the first.
     pub fn takes(self, count: usize) -> bool
         ensures { result ≡ takes_count self count }
     {
@@ -80,7 +79,7 @@ fn gives(alloc: Global, verb: Verb, words: &[&[u8]]) -> Result<Statement, WordFa
     Ok(Statement::Gives(command))
 }
 
-/// What the words behind the first say.
+/// What the words after the first say.
 pub fn others(alloc: Global, keyword: Keyword, words: &[&[u8]]) -> Result<Statement, WordFault>
     ensures { Gives result (statement_after keyword (map (λ word. word.now) words.now)) }
 {

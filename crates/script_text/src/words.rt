@@ -4,7 +4,7 @@ ghost use Rattle.std.specs.List.{list_any, prefix_len};
 ghost use Rattle.std.specs.Str.Lines.{lines, strip_carriage_return};
 ghost use Rattle.script_text.specs.Words.{is_blank, is_quote, words_of};
 
-use domain_base::OutOfMemory;
+use command_text::OutOfMemory;
 use std::alloc::Global;
 
 fn newline_at(text: &[u8]) -> usize
@@ -24,7 +24,7 @@ fn without_carriage_return(line: &[u8]) -> &[u8]
 }
 
 /// The first line of a text that is not empty, without its end, and what follows it. A carriage
-/// return is part of the end where a newline comes right after it.
+/// return is part of the end if a newline comes right after it.
 pub fn split_line(text: &[u8]) -> (&[u8], &[u8])
     requires { 0 < length text.now }
     ensures first { lines text.now ≡ result.0.now ∷ lines result.1.now }
@@ -59,7 +59,7 @@ fn quote_at(text: &[u8]) -> usize
 }
 
 /// How many bytes of the word at the front are its own in any case: the first, or all up to the
-/// next quote where the first is a quote and there is a next one.
+/// next quote if the first is a quote and there is a next one.
 fn begun_len(text: &[u8]) -> usize
     requires { 0 < length text.now }
     ensures value { result ≡ (if is_quote (slice_index text.now 0)

@@ -3,45 +3,45 @@ use Rattle.std.proofs.Common.{◌≡◌, ◌∙◌, ℕ, ◌+◌, ◌<◌, ◌�
 use Rattle.std.proofs.lemmas.Bool.{eq-eqb, false_from_ne_true}
 use Rattle.std.proofs.lemmas.List.{append-nil}
 use Rattle.std.specs.Option.{option_and_then, option_map, option_map_or}
-use Rattle.domain_base.specs.Limits.{file_pages}
-use Rattle.domain_base.specs.declared.place.CellAt.{CellAt}
-use Rattle.domain_base.specs.declared.place.Home.{Home}
-use Rattle.domain_base.specs.declared.place.Kind.TheVariants.{Directory}
-use Rattle.domain_base.specs.declared.place.Tag.{Tag}
-use Rattle.page_store.specs.Bitfiles.{Bitfiles as SetOf, IsDirectory, count_pages, same_tag}
-use Rattle.page_store.specs.Pages.{Pages, same_home}
-use Rattle.bmt_mcells.specs.Chain.{PlacedCell}
-use Rattle.bmt_mcells.proofs.Changed.{homes_same}
-use Rattle.tag_dirs.specs.Directory.{has_home as has_home_in}
-use Rattle.extent_maps.specs.declared.run.PagePlace.TheVariants.{Absent, At}
-use Rattle.free_cells.specs.Cells.{Cells, table_of}
-use Rattle.free_space.specs.Spaces.{Spaces}
-use Rattle.bitfile_cells.specs.Files.{places_of}
-use Rattle.bitfile_core.specs.declared.attributes.Attributes.{Attributes}
-use Rattle.bitfile_core.specs.Changes.{CanSay, ChangesFirst, says_attributes, with_chain, with_first}
-use Rattle.bitfile_core.specs.Files.{Chains, attributes_of, of_live, place_at}
-use Rattle.bitfile_core.specs.State.{FileState, state_of}
-use Rattle.bitfile_core.specs.Together.{AreTogether}
-use Rattle.bitfile_core.proofs.Created.{one_chains}
-use Rattle.bitfile_core.proofs.OneChain.{chain_same, same_tag_itself, tag_after}
-use Rattle.bitfile_laws.specs.States.{described as described_state, placed}
-use Rattle.bitfile_laws.proofs.FirstCells.{attributes_said}
-use Rattle.bitfile_laws.proofs.Parts.{file_at}
-use Rattle.bitfile_laws.proofs.Placed.{page_placed}
-use Rattle.standing_laws.specs.Sets.{AddsPage, GetsPage, StandsAsSet, attributes_at, long, with_length}
-use Rattle.standing_laws.proofs.Lengthened.{can_say, may_grow_any}
-use Rattle.deferred_delete.specs.Standing.{Files, place_in, with_file}
-use Rattle.deferred_delete.proofs.Spread.{some_same}
-use Rattle.deferred_delete.proofs.Standings.{file_other, low_home}
-use Rattle.deferred_laws.specs.Calls.{Call, PutsPage, described, given}
-use Rattle.deferred_laws.specs.Tags.{start_of}
-use Rattle.deferred_laws.proofs.Tags.{IsNamed, named}
-use Rattle.domain_layout.specs.Filled.{Contents}
-use Rattle.domain_layout.specs.Seen.{SeenFile, seen_in}
-use Rattle.layout_laws.proofs.Reached.{same_number}
-use Rattle.node_laws.specs.Nodes.{seen_of}
-use Rattle.standing_laws.specs.Domain.{DomainNow}
-use Rattle.standing_laws.specs.Holders.Holder.{of_file}
+use Rattle.standing_laws.specs.domain_base.Limits.{file_pages}
+use Rattle.standing_laws.specs.domain_base.declared.place.CellAt.{CellAt}
+use Rattle.standing_laws.specs.domain_base.declared.place.Home.{Home}
+use Rattle.standing_laws.specs.domain_base.declared.place.Kind.TheVariants.{Directory}
+use Rattle.standing_laws.specs.domain_base.declared.place.Tag.{Tag}
+use Rattle.standing_laws.specs.page_store.Bitfiles.{Bitfiles as SetOf, IsDirectory, count_pages, same_tag}
+use Rattle.standing_laws.specs.page_store.Pages.{Pages, same_home}
+use Rattle.standing_laws.specs.metadata_cells.Chain.{PlacedCell}
+use Rattle.standing_laws.proofs.OfMetadataCells.Changed.{homes_same}
+use Rattle.standing_laws.specs.tag_dirs.Directory.{has_home as has_home_in}
+use Rattle.standing_laws.specs.extent_maps.declared.run.PagePlace.TheVariants.{Absent, At}
+use Rattle.standing_laws.specs.free_cells.Cells.{Cells, table_of}
+use Rattle.standing_laws.specs.free_space.Spaces.{Spaces}
+use Rattle.standing_laws.specs.file_chains.Files.{places_of}
+use Rattle.standing_laws.specs.fileset_files.declared.attributes.Attributes.{Attributes}
+use Rattle.standing_laws.specs.fileset_files.Changes.{CanSay, ChangesFirst, says_attributes, with_chain, with_first}
+use Rattle.standing_laws.specs.fileset_files.Files.{Chains, attributes_of, of_live, place_at}
+use Rattle.standing_laws.specs.fileset_files.State.{FileState, state_of}
+use Rattle.standing_laws.specs.fileset_files.Together.{AreTogether}
+use Rattle.standing_laws.proofs.OfFilesetFiles.Created.{one_chains}
+use Rattle.standing_laws.proofs.OfFilesetFiles.OneChain.{chain_same, same_tag_itself, tag_after}
+use Rattle.standing_laws.specs.fileset_files.States.{described as described_state, placed}
+use Rattle.standing_laws.proofs.OfFilesetFiles.FirstCells.{attributes_said}
+use Rattle.standing_laws.proofs.OfFilesetFiles.Parts.{file_at}
+use Rattle.standing_laws.proofs.OfFilesetFiles.Placed.{page_placed}
+use Rattle.standing_laws.specs.stored_set.Sets.{AddsPage, GetsPage, StandsAsSet, attributes_at, long, with_length}
+use Rattle.standing_laws.proofs.OfStoredSet.Lengthened.{can_say, may_grow_any}
+use Rattle.standing_laws.specs.release_list.Standing.{Files, place_in, with_file}
+use Rattle.standing_laws.proofs.OfReleaseList.Spread.{some_same}
+use Rattle.standing_laws.proofs.OfReleaseList.Standings.{file_other, low_home}
+use Rattle.standing_laws.specs.release_steps.Calls.{Call, PutsPage, described, given}
+use Rattle.standing_laws.specs.release_steps.Tags.{start_of}
+use Rattle.standing_laws.proofs.OfReleaseSteps.Tags.{IsNamed, named}
+use Rattle.standing_laws.specs.domain_layout.Filled.{Contents}
+use Rattle.standing_laws.specs.domain_layout.Seen.{SeenFile, seen_in}
+use Rattle.standing_laws.proofs.OfDomainLayout.Reached.{same_number}
+use Rattle.set_standing.specs.Nodes.{seen_of}
+use Rattle.standing_laws.specs.domain_standing.Domain.{DomainNow}
+use Rattle.standing_laws.specs.domain_standing.Holders.Holder.{of_file}
 use Rattle.standing_laws.specs.Leads.{IsLiveOf, fileset_now}
 use Rattle.standing_laws.proofs.IndexWas.{off_first}
 use Rattle.standing_laws.proofs.OtherSlots.{seen_place}
@@ -49,12 +49,12 @@ use Rattle.standing_laws.proofs.TablesTaken.{unheld_taken}
 use Rattle.set_standing.specs.Around.{BytesFollow, ChangesSlot, GoesOnAround, StandsAround}
 use Rattle.set_standing.specs.Follow.{ComesFrom, FilesFollow}
 use Rattle.set_standing.proofs.CallsAround.{HasFirst, first_of, sets}
-use Rattle.set_standing.proofs.Directories.{is_live, live_said, live_still}
+use Rattle.set_standing.proofs.AroundDirectories.{is_live, live_said, live_still}
 use Rattle.set_standing.proofs.FilesKept.{IsSameDirectory, KeepsBytesOf, comes_directory_changed, parent_kept, seen_directory, seen_says}
 use Rattle.set_standing.proofs.Following.{chain_changed, kept_sequences, other_begins, same_sequences}
 use Rattle.set_standing.proofs.Joined.{joined}
 use Rattle.set_standing.proofs.Led.{KeepsOthers, around_now, follow as files_of_call, led, led_as, other_page}
-use Rattle.set_standing.proofs.Written.{is_written}
+use Rattle.set_standing.proofs.AroundWritten.{is_written}
 
 -- nothing changes but pages, their bytes, free space and cells
 same_rest : (number : ℕ) (d now : DomainNow) → ChangesSlot number d now → now.tags number ≡ d.tags number → now ≡ record d { pages = now.pages; contents = now.contents; space = now.space; cells = now.cells }

@@ -1,26 +1,26 @@
 -- A domain stands around a slot where it stands but for its filesets, and the slot's files belong together.
 use Rattle.std.proofs.Common.{◌≡◌, ◌∙◌, ℕ, List, [], ◌∷◌, Option, Some, None, IfSome, IsSomeAnd, slice_get, sym, ap, subst, ⊎_elim}
 use Rattle.std.specs.Option.{option_and_then}
-use Rattle.domain_base.specs.declared.place.CellAt.{CellAt}
-use Rattle.domain_base.specs.declared.place.Tag.{Tag}
-use Rattle.page_store.specs.Pages.{Pages}
-use Rattle.bmt_mcells.specs.Cell.{Cell, record_of}
-use Rattle.bmt_mcells.specs.Chain.{PlacedCell}
-use Rattle.tag_dirs.specs.Directory.{cell_of}
-use Rattle.bitfile_cells.specs.Files.{IsFile}
-use Rattle.bitfile_core.specs.Changes.{with_first}
-use Rattle.bitfile_core.specs.Files.{Chains, IsOf, LeadsToFile, first_record}
-use Rattle.bitfile_core.specs.Together.{AreTogether}
-use Rattle.bitfile_core.proofs.Created.{one_chains}
-use Rattle.fileset_table.specs.declared.slot.FilesetEntry.{FilesetEntry}
-use Rattle.fileset_table.specs.declared.slot.SlotItem.TheVariants as slot
-use Rattle.deferred_delete.specs.Standing.{Files, source_at, source_in, source_of, with_file}
-use Rattle.deferred_delete.proofs.Standings.{file_other, file_there, same_or_not}
-use Rattle.deferred_laws.specs.Tags.{AreAmong, start_of}
-use Rattle.deferred_laws.proofs.Tags.{has_attributes}
-use Rattle.domain_layout.specs.Layout.{first_tag_of}
-use Rattle.standing_laws.specs.Chains.{HasFilesAmong, IndexesAt, IsOfFileset, IsRemoved, StandsInSlot}
-use Rattle.standing_laws.specs.Domain.{DomainNow, all_of}
+use Rattle.standing_laws.specs.domain_base.declared.place.CellAt.{CellAt}
+use Rattle.standing_laws.specs.domain_base.declared.place.Tag.{Tag}
+use Rattle.standing_laws.specs.page_store.Pages.{Pages}
+use Rattle.standing_laws.specs.metadata_cells.Cell.{Cell, record_of}
+use Rattle.standing_laws.specs.metadata_cells.Chain.{PlacedCell}
+use Rattle.standing_laws.specs.tag_dirs.Directory.{cell_of}
+use Rattle.standing_laws.specs.file_chains.Files.{IsFile}
+use Rattle.standing_laws.specs.fileset_files.Changes.{with_first}
+use Rattle.standing_laws.specs.fileset_files.Files.{Chains, IsOf, LeadsToFile, first_record}
+use Rattle.standing_laws.specs.fileset_files.Together.{AreTogether}
+use Rattle.standing_laws.proofs.OfFilesetFiles.Created.{one_chains}
+use Rattle.standing_laws.specs.fileset_table.declared.slot.FilesetEntry.{FilesetEntry}
+use Rattle.standing_laws.specs.fileset_table.declared.slot.SlotItem.TheVariants as slot
+use Rattle.standing_laws.specs.release_list.Standing.{Files, source_at, source_in, source_of, with_file}
+use Rattle.standing_laws.proofs.OfReleaseList.Standings.{file_other, file_there, same_or_not}
+use Rattle.standing_laws.specs.release_steps.Tags.{AreAmong, start_of}
+use Rattle.standing_laws.proofs.OfReleaseSteps.Tags.{has_attributes}
+use Rattle.standing_laws.specs.domain_layout.Layout.{first_tag_of}
+use Rattle.standing_laws.specs.domain_standing.Chains.{HasFilesAmong, IndexesAt, IsOfFileset, IsRemoved, StandsInSlot}
+use Rattle.standing_laws.specs.domain_standing.Domain.{DomainNow, all_of}
 use Rattle.standing_laws.specs.IndexCalls.{NamesFile}
 use Rattle.standing_laws.specs.Leads.{StandsBelow}
 use Rattle.standing_laws.proofs.IndexWas.{there_was}

@@ -2,51 +2,51 @@
 use Rattle.std.proofs.Common.{◌≡◌, ◌∙◌, ℕ, suc, ◌≤◌, true, false, List, [], ◌∷◌, Option, Some, None, IfSome, Contains, slice_get, refl, sym, ap, subst, arith, ⊎_elim}
 use Rattle.std.specs.List.{AllByRecursion}
 use Rattle.std.specs.Option.{option_and_then, option_map_or}
-use Rattle.domain_base.specs.declared.place.CellAt.{CellAt}
-use Rattle.domain_base.specs.declared.place.Home.{Home}
-use Rattle.domain_base.specs.declared.place.Tag.{Tag}
-use Rattle.page_store.specs.Pages.{Pages}
-use Rattle.bmt_mcells.specs.CellPage.{cell_at}
-use Rattle.bmt_mcells.specs.Chain.{LinksFrom, PlacedCell, StandsAt, is_at, places}
-use Rattle.tag_dirs.specs.Directory.{IsDirectoryAt, has_home}
-use Rattle.tag_dirs.specs.declared.dir.TagPlace.{TagPlace}
-use Rattle.tag_dirs.proofs.Reading.{same_directory}
-use Rattle.extent_maps.specs.declared.run.PagePlace.TheVariants.{Absent, At}
-use Rattle.free_cells.specs.Cells.{Cells, table_of}
-use Rattle.bitfile_cells.specs.Allocated.{AreAllocated}
-use Rattle.bitfile_cells.specs.FileChanges.{AreOnTables}
-use Rattle.bitfile_cells.specs.Files.{places_of}
-use Rattle.bitfile_cells.proofs.ChainChanges.{at_apart}
-use Rattle.bitfile_core.specs.Files.{AreFiles, Chains, IsOf, LeadsToFile, first_record, place_at}
-use Rattle.bitfile_core.specs.Shown.{index_of}
-use Rattle.bitfile_core.specs.Together.{AreFilesOnTables, IsHeldApart}
-use Rattle.bitfile_core.proofs.Created.{one_chains}
-use Rattle.stored_index.specs.Homes.{AreIndexHomes}
-use Rattle.stored_index.proofs.Homes.{one_list}
-use Rattle.set_laws.specs.Elsewhere.{AllStay}
-use Rattle.set_laws.specs.Standing.{StandsShown}
-use Rattle.set_laws.proofs.AnotherSet.{stands_again}
-use Rattle.standing_laws.specs.Sets.{StandsAsSet}
-use Rattle.fileset_model.specs.declared.fileset.FilesetSlot.{FilesetSlot}
-use Rattle.fileset_table.specs.Table.{Table}
-use Rattle.fileset_table.specs.declared.slot.FilesetEntry.{FilesetEntry}
-use Rattle.fileset_table.specs.declared.slot.SlotItem.TheVariants as slot
-use Rattle.deferred_delete.specs.Standing.{Files, IsFileOrQuotas, IsStanding, place_in}
-use Rattle.deferred_delete.proofs.Spread.{none_not, some_same}
-use Rattle.deferred_delete.proofs.Standings.{apart_by, chain_by, chain_inside, linked_at, low_home, not_nil, quota_first, stand_chain, standing}
-use Rattle.deferred_laws.specs.Calls.{StandsWell}
-use Rattle.deferred_laws.specs.Tags.{AreAmong}
-use Rattle.deferred_laws.proofs.Tags.{IsNamed, named}
-use Rattle.domain_layout.specs.CellRules.{of_clone}
-use Rattle.domain_layout.specs.Layout.{first_tag_of}
-use Rattle.domain_layout.specs.Seen.{seen_in}
-use Rattle.domain_layout.specs.Shape.{AreLimits, FilesetShape, IsOriginal}
-use Rattle.layout_laws.specs.Agreeing.{AgreeOnShape}
-use Rattle.layout_laws.proofs.FilledAlike.{fills}
-use Rattle.standing_laws.specs.Chains.{AreQuotasOf, HasFilesAmong, IndexesAt, IsOfFileset, IsRemoved, StandsInSlot}
-use Rattle.standing_laws.specs.Domain.{DomainNow, all_of, item_in}
-use Rattle.standing_laws.specs.Holders.{Holder, Holds}
-use Rattle.standing_laws.specs.Holders.Holder.{of_file, of_index, of_tags, of_volume}
+use Rattle.standing_laws.specs.domain_base.declared.place.CellAt.{CellAt}
+use Rattle.standing_laws.specs.domain_base.declared.place.Home.{Home}
+use Rattle.standing_laws.specs.domain_base.declared.place.Tag.{Tag}
+use Rattle.standing_laws.specs.page_store.Pages.{Pages}
+use Rattle.standing_laws.specs.metadata_cells.CellPage.{cell_at}
+use Rattle.standing_laws.specs.metadata_cells.Chain.{LinksFrom, PlacedCell, StandsAt, is_at, places}
+use Rattle.standing_laws.specs.tag_dirs.Directory.{IsDirectoryAt, has_home}
+use Rattle.standing_laws.specs.tag_dirs.declared.dir.TagPlace.{TagPlace}
+use Rattle.standing_laws.proofs.OfTagDirs.Reading.{same_directory}
+use Rattle.standing_laws.specs.extent_maps.declared.run.PagePlace.TheVariants.{Absent, At}
+use Rattle.standing_laws.specs.free_cells.Cells.{Cells, table_of}
+use Rattle.standing_laws.specs.file_chains.Allocated.{AreAllocated}
+use Rattle.standing_laws.specs.file_chains.FileChanges.{AreOnTables}
+use Rattle.standing_laws.specs.file_chains.Files.{places_of}
+use Rattle.standing_laws.proofs.OfFileChains.ChainChanges.{at_apart}
+use Rattle.standing_laws.specs.fileset_files.Files.{AreFiles, Chains, IsOf, LeadsToFile, first_record, place_at}
+use Rattle.standing_laws.specs.fileset_files.Shown.{index_of}
+use Rattle.standing_laws.specs.fileset_files.Together.{AreFilesOnTables, IsHeldApart}
+use Rattle.standing_laws.proofs.OfFilesetFiles.Created.{one_chains}
+use Rattle.standing_laws.specs.index_pages.Homes.{AreIndexHomes}
+use Rattle.standing_laws.proofs.OfIndexPages.Homes.{one_list}
+use Rattle.standing_laws.specs.stored_set.Elsewhere.{AllStay}
+use Rattle.standing_laws.specs.stored_set.Standing.{StandsShown}
+use Rattle.standing_laws.proofs.OfStoredSet.AnotherSet.{stands_again}
+use Rattle.standing_laws.specs.stored_set.Sets.{StandsAsSet}
+use Rattle.standing_laws.specs.fileset_model.declared.fileset.FilesetSlot.{FilesetSlot}
+use Rattle.standing_laws.specs.fileset_table.Table.{Table}
+use Rattle.standing_laws.specs.fileset_table.declared.slot.FilesetEntry.{FilesetEntry}
+use Rattle.standing_laws.specs.fileset_table.declared.slot.SlotItem.TheVariants as slot
+use Rattle.standing_laws.specs.release_list.Standing.{Files, IsFileOrQuotas, IsStanding, place_in}
+use Rattle.standing_laws.proofs.OfReleaseList.Spread.{none_not, some_same}
+use Rattle.standing_laws.proofs.OfReleaseList.Standings.{apart_by, chain_by, chain_inside, linked_at, low_home, not_nil, quota_first, stand_chain, standing}
+use Rattle.standing_laws.specs.release_steps.Calls.{StandsWell}
+use Rattle.standing_laws.specs.release_steps.Tags.{AreAmong}
+use Rattle.standing_laws.proofs.OfReleaseSteps.Tags.{IsNamed, named}
+use Rattle.standing_laws.specs.domain_layout.CellRules.{of_clone}
+use Rattle.standing_laws.specs.domain_layout.Layout.{first_tag_of}
+use Rattle.standing_laws.specs.domain_layout.Seen.{seen_in}
+use Rattle.standing_laws.specs.domain_layout.Shape.{AreLimits, FilesetShape, IsOriginal}
+use Rattle.standing_laws.specs.domain_layout.Agreeing.{AgreeOnShape}
+use Rattle.standing_laws.proofs.OfDomainLayout.FilledAlike.{fills}
+use Rattle.standing_laws.specs.domain_standing.Chains.{AreQuotasOf, HasFilesAmong, IndexesAt, IsOfFileset, IsRemoved, StandsInSlot}
+use Rattle.standing_laws.specs.domain_standing.Domain.{DomainNow, all_of, item_in}
+use Rattle.standing_laws.specs.domain_standing.Holders.{Holder, Holds}
+use Rattle.standing_laws.specs.domain_standing.Holders.Holder.{of_file, of_index, of_tags, of_volume}
 use Rattle.standing_laws.specs.Leads.{StandsBelow, fileset_now}
 use Rattle.standing_laws.specs.SlotParents.{HaveParentsIn, StandsForSome}
 use Rattle.standing_laws.specs.Slots.{StandsSlot}

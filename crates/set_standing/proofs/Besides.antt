@@ -1,18 +1,18 @@
 -- What a change of one file leaves: the pages that are held for something beside it.
 use Rattle.std.proofs.Common.{◌≡◌, ◌≤◌, ℕ, false, Contains, length, ⊎_elim, refl, ap, subst, arith}
 use Rattle.std.proofs.lemmas.Bool.{cases_Bool}
-use Rattle.domain_base.specs.declared.place.CellAt.{CellAt}
-use Rattle.domain_base.specs.declared.place.Home.{Home}
-use Rattle.tag_dirs.specs.Directory.{has_home}
-use Rattle.extent_maps.specs.declared.run.PagePlace.TheVariants.{At}
-use Rattle.free_cells.specs.Cells.{table_of}
-use Rattle.deferred_delete.specs.Standing.{Files, place_in}
-use Rattle.log_ring.specs.Homes.{IsMember}
-use Rattle.layout_laws.proofs.Reached.{member_or_none}
-use Rattle.standing_laws.specs.Chains.{IndexesAt}
-use Rattle.standing_laws.specs.Domain.{DomainNow}
-use Rattle.standing_laws.specs.Holders.{Holder, Holds, IsUnheld}
-use Rattle.standing_laws.specs.Holders.Holder.{of_cells, of_file, of_index, of_log, of_table, of_tags, of_volume}
+use Rattle.standing_laws.specs.domain_base.declared.place.CellAt.{CellAt}
+use Rattle.standing_laws.specs.domain_base.declared.place.Home.{Home}
+use Rattle.standing_laws.specs.tag_dirs.Directory.{has_home}
+use Rattle.standing_laws.specs.extent_maps.declared.run.PagePlace.TheVariants.{At}
+use Rattle.standing_laws.specs.free_cells.Cells.{table_of}
+use Rattle.standing_laws.specs.release_list.Standing.{Files, place_in}
+use Rattle.standing_laws.specs.log_ring.Homes.{IsMember}
+use Rattle.standing_laws.proofs.OfDomainLayout.Reached.{member_or_none}
+use Rattle.standing_laws.specs.domain_standing.Chains.{IndexesAt}
+use Rattle.standing_laws.specs.domain_standing.Domain.{DomainNow}
+use Rattle.standing_laws.specs.domain_standing.Holders.{Holder, Holds, IsUnheld}
+use Rattle.standing_laws.specs.domain_standing.Holders.Holder.{of_cells, of_file, of_index, of_log, of_table, of_tags, of_volume}
 use Rattle.standing_laws.specs.Leads.{StandsBelow}
 use Rattle.standing_laws.proofs.HomeLists.{in_get}
 

@@ -3,39 +3,39 @@ use Rattle.std.proofs.Common.{◌≡◌, ◌∙◌, ◌⊎◌, ◌==◌, ◌++�
 use Rattle.std.proofs.lemmas.Bool.{eq-eqb, false_from_ne_true}
 use Rattle.std.proofs.lemmas.List.{append-nil}
 use Rattle.std.specs.Option.{option_and_then}
-use Rattle.domain_base.specs.Limits.{max_links}
-use Rattle.domain_base.specs.declared.place.Home.{Home}
-use Rattle.domain_base.specs.declared.place.Kind.TheVariants.{Directory}
-use Rattle.domain_base.specs.declared.place.Tag.{Tag}
-use Rattle.page_store.specs.Pages.{Pages}
-use Rattle.bmt_mcells.specs.Cell.{Cell}
-use Rattle.bmt_mcells.specs.Chain.{PlacedCell}
-use Rattle.tag_dirs.specs.Directory.{has_home, sequence_of}
-use Rattle.tag_dirs.specs.declared.dir.TagPlace.{TagPlace}
-use Rattle.free_space.specs.Spaces.{missed}
-use Rattle.page_store.specs.Bitfiles.{same_tag}
-use Rattle.bitfile_cells.specs.FileChanges.{LeavesOtherCells}
-use Rattle.bitfile_cells.specs.Files.{AreFile}
-use Rattle.bitfile_core.specs.declared.attributes.Attributes.{Attributes}
-use Rattle.bitfile_core.specs.declared.new_cells.NewFile.{NewFile}
-use Rattle.bitfile_core.specs.Changes.{CanSay, ChangesFirst, says_attributes, says_parent, with_chain, with_first}
-use Rattle.bitfile_core.specs.Creation.{Creates, LeavesBeside, TakesForFile, TakesNext, last_sequence, root_tag, with_new}
-use Rattle.bitfile_core.specs.Files.{Chains, LeadsToFile, attributes_of, of_live}
-use Rattle.bitfile_core.specs.State.{FileState, States, state_of}
-use Rattle.bitfile_core.specs.Together.{AreTogether}
-use Rattle.bitfile_core.proofs.OneChain.{same_tag_itself}
-use Rattle.bitfile_laws.specs.States.{described as described_state, new_state, put_in as put_in_state}
-use Rattle.bitfile_laws.proofs.FirstCells.{attributes_said, parent_said}
-use Rattle.bitfile_laws.proofs.Parts.{file_at}
-use Rattle.bitfile_laws.proofs.Placed.{states_made}
-use Rattle.standing_laws.specs.Sets.{attributes_at}
-use Rattle.deferred_delete.specs.Standing.{Files, with_file}
-use Rattle.deferred_delete.proofs.Spread.{some_same}
-use Rattle.deferred_laws.specs.Calls.{Call, SetsFirst, described, made, put_in, refused}
-use Rattle.layout_laws.proofs.Reached.{same_number}
-use Rattle.domain_layout.specs.Seen.{SeenFile, seen_in}
-use Rattle.node_laws.specs.Nodes.{seen_of}
-use Rattle.standing_laws.specs.Domain.{DomainNow}
+use Rattle.standing_laws.specs.domain_base.Limits.{max_links}
+use Rattle.standing_laws.specs.domain_base.declared.place.Home.{Home}
+use Rattle.standing_laws.specs.domain_base.declared.place.Kind.TheVariants.{Directory}
+use Rattle.standing_laws.specs.domain_base.declared.place.Tag.{Tag}
+use Rattle.standing_laws.specs.page_store.Pages.{Pages}
+use Rattle.standing_laws.specs.metadata_cells.Cell.{Cell}
+use Rattle.standing_laws.specs.metadata_cells.Chain.{PlacedCell}
+use Rattle.standing_laws.specs.tag_dirs.Directory.{has_home, sequence_of}
+use Rattle.standing_laws.specs.tag_dirs.declared.dir.TagPlace.{TagPlace}
+use Rattle.standing_laws.specs.free_space.Spaces.{missed}
+use Rattle.standing_laws.specs.page_store.Bitfiles.{same_tag}
+use Rattle.standing_laws.specs.file_chains.FileChanges.{LeavesOtherCells}
+use Rattle.standing_laws.specs.file_chains.Files.{AreFile}
+use Rattle.standing_laws.specs.fileset_files.declared.attributes.Attributes.{Attributes}
+use Rattle.standing_laws.specs.fileset_files.declared.new_cells.NewFile.{NewFile}
+use Rattle.standing_laws.specs.fileset_files.Changes.{CanSay, ChangesFirst, says_attributes, says_parent, with_chain, with_first}
+use Rattle.standing_laws.specs.fileset_files.Creation.{Creates, LeavesBeside, TakesForFile, TakesNext, last_sequence, root_tag, with_new}
+use Rattle.standing_laws.specs.fileset_files.Files.{Chains, LeadsToFile, attributes_of, of_live}
+use Rattle.standing_laws.specs.fileset_files.State.{FileState, States, state_of}
+use Rattle.standing_laws.specs.fileset_files.Together.{AreTogether}
+use Rattle.standing_laws.proofs.OfFilesetFiles.OneChain.{same_tag_itself}
+use Rattle.standing_laws.specs.fileset_files.States.{described as described_state, new_state, put_in as put_in_state}
+use Rattle.standing_laws.proofs.OfFilesetFiles.FirstCells.{attributes_said, parent_said}
+use Rattle.standing_laws.proofs.OfFilesetFiles.Parts.{file_at}
+use Rattle.standing_laws.proofs.OfFilesetFiles.Placed.{states_made}
+use Rattle.standing_laws.specs.stored_set.Sets.{attributes_at}
+use Rattle.standing_laws.specs.release_list.Standing.{Files, with_file}
+use Rattle.standing_laws.proofs.OfReleaseList.Spread.{some_same}
+use Rattle.standing_laws.specs.release_steps.Calls.{Call, SetsFirst, described, made, put_in, refused}
+use Rattle.standing_laws.proofs.OfDomainLayout.Reached.{same_number}
+use Rattle.standing_laws.specs.domain_layout.Seen.{SeenFile, seen_in}
+use Rattle.set_standing.specs.Nodes.{seen_of}
+use Rattle.standing_laws.specs.domain_standing.Domain.{DomainNow}
 use Rattle.standing_laws.specs.Leads.{IsLiveOf, MayCall, fileset_now}
 use Rattle.standing_laws.specs.Left.{LeavesNothing}
 use Rattle.standing_laws.specs.OtherPages.{KeepsPlaces}

@@ -1,28 +1,28 @@
 -- The calls that change one file of a slot, and no name, whatever the domain is called then.
 use Rattle.std.proofs.Common.{◌≡◌, ◌∙◌, ◌⊎◌, ℕ, Bool, true, false, cond, List, ◌∷◌, Option, Some, None, IsSome, IsSomeAnd, refl, sym, ap, subst, ⊎_elim}
 use Rattle.std.specs.Option.{option_and_then, option_map}
-use Rattle.domain_base.specs.declared.place.CellAt.{CellAt}
-use Rattle.domain_base.specs.declared.place.Home.{Home}
-use Rattle.domain_base.specs.declared.place.Kind.TheVariants.{File}
-use Rattle.domain_base.specs.declared.place.Tag.{Tag}
-use Rattle.record_table.specs.declared.record.Record.{Record}
-use Rattle.bmt_mcells.specs.Cell.{record_of}
-use Rattle.bmt_mcells.specs.Chain.{PlacedCell}
-use Rattle.extent_maps.specs.declared.run.PagePlace.TheVariants.{Absent, At}
-use Rattle.bitfile_cells.specs.Files.{places_of}
-use Rattle.bitfile_core.specs.declared.attributes.Attributes.{Attributes}
-use Rattle.bitfile_core.specs.Changes.{CanSay, ChangesFirst, says_attributes, with_chain, with_first}
-use Rattle.bitfile_core.specs.Files.{attributes_of, is_removed, of_live, place_at}
-use Rattle.bitfile_core.specs.State.{FileState, state_of}
-use Rattle.bitfile_core.specs.Together.{AreTogether}
-use Rattle.bitfile_core.specs.Truncation.{IsLowered, pending_cell, says_truncated}
-use Rattle.bitfile_laws.specs.States.{cut, described, is_removing, placed}
-use Rattle.standing_laws.specs.Sets.{GetsPage, attributes_at}
-use Rattle.standing_laws.proofs.Lengthened.{can_say}
-use Rattle.deferred_delete.specs.Listing.{Adds, Listing}
-use Rattle.deferred_delete.proofs.Spread.{none_not, some_same}
-use Rattle.standing_laws.specs.Domain.{DomainNow}
-use Rattle.layout_laws.proofs.Reached.{same_number}
+use Rattle.standing_laws.specs.domain_base.declared.place.CellAt.{CellAt}
+use Rattle.standing_laws.specs.domain_base.declared.place.Home.{Home}
+use Rattle.standing_laws.specs.domain_base.declared.place.Kind.TheVariants.{File}
+use Rattle.standing_laws.specs.domain_base.declared.place.Tag.{Tag}
+use Rattle.standing_laws.specs.cell_records.declared.record.Record.{Record}
+use Rattle.standing_laws.specs.metadata_cells.Cell.{record_of}
+use Rattle.standing_laws.specs.metadata_cells.Chain.{PlacedCell}
+use Rattle.standing_laws.specs.extent_maps.declared.run.PagePlace.TheVariants.{Absent, At}
+use Rattle.standing_laws.specs.file_chains.Files.{places_of}
+use Rattle.standing_laws.specs.fileset_files.declared.attributes.Attributes.{Attributes}
+use Rattle.standing_laws.specs.fileset_files.Changes.{CanSay, ChangesFirst, says_attributes, with_chain, with_first}
+use Rattle.standing_laws.specs.fileset_files.Files.{attributes_of, is_removed, of_live, place_at}
+use Rattle.standing_laws.specs.fileset_files.State.{FileState, state_of}
+use Rattle.standing_laws.specs.fileset_files.Together.{AreTogether}
+use Rattle.standing_laws.specs.fileset_files.Truncation.{IsLowered, pending_cell, says_truncated}
+use Rattle.standing_laws.specs.fileset_files.States.{cut, described, is_removing, placed}
+use Rattle.standing_laws.specs.stored_set.Sets.{GetsPage, attributes_at}
+use Rattle.standing_laws.proofs.OfStoredSet.Lengthened.{can_say}
+use Rattle.standing_laws.specs.release_list.Listing.{Adds, Listing}
+use Rattle.standing_laws.proofs.OfReleaseList.Spread.{none_not, some_same}
+use Rattle.standing_laws.specs.domain_standing.Domain.{DomainNow}
+use Rattle.standing_laws.proofs.OfDomainLayout.Reached.{same_number}
 use Rattle.standing_laws.specs.Leads.{IsLiveOf}
 use Rattle.standing_laws.specs.OtherPages.{KeepsPlaces}
 use Rattle.set_standing.specs.Around.{BytesFollow, ChangesSlot, StandsAround}

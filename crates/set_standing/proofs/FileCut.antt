@@ -1,35 +1,35 @@
 -- A domain stands on around a slot where a file is cut, and is to be let go of behind its end.
 use Rattle.std.proofs.Common.{◌≡◌, ◌∙◌, ℕ, List, ◌∷◌, Option, Some, None, IsSome, IsSomeAnd, inl, is_some, refl, sym, ap, subst, true≢false}
 use Rattle.std.specs.Option.{option_and_then}
-use Rattle.domain_base.specs.declared.place.CellAt.{CellAt}
-use Rattle.domain_base.specs.declared.place.Kind.TheVariants.{File}
-use Rattle.domain_base.specs.declared.place.Tag.{Tag}
-use Rattle.page_store.specs.Pages.{Pages}
-use Rattle.record_table.specs.Records.{kind_of}
-use Rattle.record_table.specs.declared.record.Leftover.TheVariants.{Trim}
-use Rattle.record_table.specs.declared.record.Record.{Record}
-use Rattle.record_table.specs.declared.record.Record.TheVariants as written
-use Rattle.bmt_mcells.specs.Cell.{record_of}
-use Rattle.bmt_mcells.specs.Chain.{PlacedCell}
-use Rattle.bitfile_cells.proofs.MapRecords.{kind_found}
-use Rattle.bitfile_core.specs.Changes.{ChangesFirst, with_chain, with_first}
-use Rattle.bitfile_core.specs.Files.{Chains, first_record}
-use Rattle.bitfile_core.specs.State.{FileState, state_of}
-use Rattle.bitfile_core.specs.Together.{AreTogether}
-use Rattle.bitfile_core.specs.Truncation.{IsLowered, says_size, says_truncated}
-use Rattle.bitfile_core.proofs.FirstCell.{find_other}
-use Rattle.bitfile_laws.specs.States.{cut as cut_state}
-use Rattle.bitfile_laws.proofs.FirstCells.{size_said}
-use Rattle.deferred_delete.specs.Listed.{IsEntry, leftover_in}
-use Rattle.deferred_delete.specs.Listing.{Adds, Listing}
-use Rattle.deferred_delete.specs.Standing.{Files, ReadsThrough, source_at}
-use Rattle.deferred_delete.proofs.Spread.{none_not}
-use Rattle.deferred_delete.proofs.Standings.{file_there}
-use Rattle.deferred_laws.specs.Calls.{cut}
-use Rattle.deferred_laws.specs.Tags.{start_of}
-use Rattle.domain_layout.specs.Filled.{Contents}
-use Rattle.standing_laws.specs.Chains.{IsToDo}
-use Rattle.standing_laws.specs.Domain.{DomainNow}
+use Rattle.standing_laws.specs.domain_base.declared.place.CellAt.{CellAt}
+use Rattle.standing_laws.specs.domain_base.declared.place.Kind.TheVariants.{File}
+use Rattle.standing_laws.specs.domain_base.declared.place.Tag.{Tag}
+use Rattle.standing_laws.specs.page_store.Pages.{Pages}
+use Rattle.standing_laws.specs.cell_records.Records.{kind_of}
+use Rattle.standing_laws.specs.cell_records.declared.record.Leftover.TheVariants.{Trim}
+use Rattle.standing_laws.specs.cell_records.declared.record.Record.{Record}
+use Rattle.standing_laws.specs.cell_records.declared.record.Record.TheVariants as written
+use Rattle.standing_laws.specs.metadata_cells.Cell.{record_of}
+use Rattle.standing_laws.specs.metadata_cells.Chain.{PlacedCell}
+use Rattle.standing_laws.proofs.OfFileChains.MapRecords.{kind_found}
+use Rattle.standing_laws.specs.fileset_files.Changes.{ChangesFirst, with_chain, with_first}
+use Rattle.standing_laws.specs.fileset_files.Files.{Chains, first_record}
+use Rattle.standing_laws.specs.fileset_files.State.{FileState, state_of}
+use Rattle.standing_laws.specs.fileset_files.Together.{AreTogether}
+use Rattle.standing_laws.specs.fileset_files.Truncation.{IsLowered, says_size, says_truncated}
+use Rattle.standing_laws.proofs.OfFilesetFiles.FirstCell.{find_other}
+use Rattle.standing_laws.specs.fileset_files.States.{cut as cut_state}
+use Rattle.standing_laws.proofs.OfFilesetFiles.FirstCells.{size_said}
+use Rattle.standing_laws.specs.release_list.Listed.{IsEntry, leftover_in}
+use Rattle.standing_laws.specs.release_list.Listing.{Adds, Listing}
+use Rattle.standing_laws.specs.release_list.Standing.{Files, ReadsThrough, source_at}
+use Rattle.standing_laws.proofs.OfReleaseList.Spread.{none_not}
+use Rattle.standing_laws.proofs.OfReleaseList.Standings.{file_there}
+use Rattle.standing_laws.specs.release_steps.Calls.{cut}
+use Rattle.standing_laws.specs.release_steps.Tags.{start_of}
+use Rattle.standing_laws.specs.domain_layout.Filled.{Contents}
+use Rattle.standing_laws.specs.domain_standing.Chains.{IsToDo}
+use Rattle.standing_laws.specs.domain_standing.Domain.{DomainNow}
 use Rattle.standing_laws.specs.Leads.{IsLiveOf, LeadsOn, StandsBelow}
 use Rattle.standing_laws.proofs.BelowStands.{below_listed}
 use Rattle.standing_laws.proofs.ChainsGoOn.{size_other}

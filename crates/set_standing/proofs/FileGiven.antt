@@ -2,40 +2,40 @@
 use Rattle.std.proofs.Common.{◌≡◌, ◌∙◌, ◌<◌, ℕ, ◌≤◌, Bool, true, false, cond, nat_eq, List, Some, Contains, slice_get, refl, sym, ap, subst}
 use Rattle.std.proofs.lemmas.Bool.{eq-eqb, false_from_ne_true}
 use Rattle.std.specs.Option.{option_and_then, option_map, option_map_or}
-use Rattle.domain_base.specs.declared.place.CellAt.{CellAt}
-use Rattle.domain_base.specs.declared.place.Home.{Home}
-use Rattle.domain_base.specs.declared.place.Kind.TheVariants.{File}
-use Rattle.domain_base.specs.declared.place.Tag.{Tag}
-use Rattle.page_store.specs.Bitfiles.{Bitfiles}
-use Rattle.page_store.specs.Pages.{Pages, same_home}
-use Rattle.bmt_mcells.specs.Chain.{PlacedCell}
-use Rattle.bmt_mcells.proofs.Changed.{homes_same}
-use Rattle.extent_maps.specs.declared.run.PagePlace.TheVariants.{Absent, At}
-use Rattle.free_cells.specs.Cells.{Cells}
-use Rattle.free_space.specs.VolumeSpace.{with_page as space_with}
-use Rattle.free_space.specs.Spaces.{IsHeld, Spaces, change_volume}
-use Rattle.bitfile_cells.specs.Files.{places_of}
-use Rattle.bitfile_cells.proofs.Spaces.{not_held}
-use Rattle.bitfile_core.specs.Changes.{with_chain}
-use Rattle.bitfile_core.specs.Files.{Chains, place_at}
-use Rattle.bitfile_core.specs.State.{state_of}
-use Rattle.bitfile_core.specs.Together.{IsFilePage}
-use Rattle.bitfile_core.proofs.Created.{one_chains}
-use Rattle.bitfile_core.proofs.Grown.{apart_grows, apart_taken}
-use Rattle.bitfile_core.proofs.OneChain.{chain_other, same_tag_itself, tag_after}
-use Rattle.bitfile_laws.specs.States.{placed}
-use Rattle.bitfile_laws.proofs.Placed.{page_placed}
-use Rattle.standing_laws.specs.Sets.{GetsPage, StandsAsSet}
-use Rattle.fileset_table.specs.Table.{Table}
-use Rattle.deferred_delete.specs.Standing.{Files, place_in, with_file}
-use Rattle.deferred_delete.proofs.Standings.{low_home}
-use Rattle.deferred_laws.specs.Calls.{Call, PutsPage, given}
-use Rattle.domain_layout.specs.Filled.{Contents}
-use Rattle.domain_layout.specs.CellRules.{of_clone}
-use Rattle.domain_layout.specs.Reached.{Frame, first_cells}
-use Rattle.standing_laws.specs.Domain.{DomainNow}
-use Rattle.standing_laws.specs.Holders.Holder.{of_file}
-use Rattle.log_ring.specs.Homes.{IsMember}
+use Rattle.standing_laws.specs.domain_base.declared.place.CellAt.{CellAt}
+use Rattle.standing_laws.specs.domain_base.declared.place.Home.{Home}
+use Rattle.standing_laws.specs.domain_base.declared.place.Kind.TheVariants.{File}
+use Rattle.standing_laws.specs.domain_base.declared.place.Tag.{Tag}
+use Rattle.standing_laws.specs.page_store.Bitfiles.{Bitfiles}
+use Rattle.standing_laws.specs.page_store.Pages.{Pages, same_home}
+use Rattle.standing_laws.specs.metadata_cells.Chain.{PlacedCell}
+use Rattle.standing_laws.proofs.OfMetadataCells.Changed.{homes_same}
+use Rattle.standing_laws.specs.extent_maps.declared.run.PagePlace.TheVariants.{Absent, At}
+use Rattle.standing_laws.specs.free_cells.Cells.{Cells}
+use Rattle.standing_laws.specs.free_space.VolumeSpace.{with_page as space_with}
+use Rattle.standing_laws.specs.free_space.Spaces.{IsHeld, Spaces, change_volume}
+use Rattle.standing_laws.specs.file_chains.Files.{places_of}
+use Rattle.standing_laws.proofs.OfFileChains.Spaces.{not_held}
+use Rattle.standing_laws.specs.fileset_files.Changes.{with_chain}
+use Rattle.standing_laws.specs.fileset_files.Files.{Chains, place_at}
+use Rattle.standing_laws.specs.fileset_files.State.{state_of}
+use Rattle.standing_laws.specs.fileset_files.Together.{IsFilePage}
+use Rattle.standing_laws.proofs.OfFilesetFiles.Created.{one_chains}
+use Rattle.standing_laws.proofs.OfFilesetFiles.Grown.{apart_grows, apart_taken}
+use Rattle.standing_laws.proofs.OfFilesetFiles.OneChain.{chain_other, same_tag_itself, tag_after}
+use Rattle.standing_laws.specs.fileset_files.States.{placed}
+use Rattle.standing_laws.proofs.OfFilesetFiles.Placed.{page_placed}
+use Rattle.standing_laws.specs.stored_set.Sets.{GetsPage, StandsAsSet}
+use Rattle.standing_laws.specs.fileset_table.Table.{Table}
+use Rattle.standing_laws.specs.release_list.Standing.{Files, place_in, with_file}
+use Rattle.standing_laws.proofs.OfReleaseList.Standings.{low_home}
+use Rattle.standing_laws.specs.release_steps.Calls.{Call, PutsPage, given}
+use Rattle.standing_laws.specs.domain_layout.Filled.{Contents}
+use Rattle.standing_laws.specs.domain_layout.CellRules.{of_clone}
+use Rattle.standing_laws.specs.domain_layout.Reached.{Frame, first_cells}
+use Rattle.standing_laws.specs.domain_standing.Domain.{DomainNow}
+use Rattle.standing_laws.specs.domain_standing.Holders.Holder.{of_file}
+use Rattle.standing_laws.specs.log_ring.Homes.{IsMember}
 use Rattle.standing_laws.specs.Leads.{IsLiveOf, fileset_now}
 use Rattle.standing_laws.proofs.TablesTaken.{unheld_taken}
 use Rattle.set_standing.specs.Around.{BytesFollow, ChangesSlot, StandsAround}

@@ -1,29 +1,29 @@
 -- A domain stands on around a slot where a page of a file is put in place.
 use Rattle.std.proofs.Common.{◌≡◌, ◌∙◌, ℕ, true, false, List, Option, Some, None, IfSome, Contains, refl, sym, ap, subst, true≢false}
 use Rattle.std.specs.Option.{option_and_then, option_map, option_map_or}
-use Rattle.domain_base.specs.declared.place.CellAt.{CellAt}
-use Rattle.domain_base.specs.declared.place.Home.{Home}
-use Rattle.domain_base.specs.declared.place.Kind.TheVariants.{File}
-use Rattle.domain_base.specs.declared.place.Tag.{Tag}
-use Rattle.page_store.specs.Bitfiles.{Bitfiles, same_tag}
-use Rattle.page_store.specs.Pages.{Pages}
-use Rattle.bmt_mcells.specs.CellPage.{cell_at, home_of}
-use Rattle.bmt_mcells.specs.Chain.{PlacedCell, is_at}
-use Rattle.tag_dirs.specs.Directory.{cell_of, has_home}
-use Rattle.extent_maps.specs.declared.run.PagePlace.TheVariants.{Absent, At}
-use Rattle.free_cells.specs.Cells.{table_of}
-use Rattle.bitfile_cells.specs.Files.{places_of}
-use Rattle.bitfile_core.specs.Files.{Chains, LeadsToFile, place_at}
-use Rattle.bitfile_core.specs.State.{FileState, state_of}
-use Rattle.bitfile_core.specs.Together.{AreTogether}
-use Rattle.bitfile_core.proofs.Created.{one_chains}
-use Rattle.set_laws.proofs.Together.{together_away}
-use Rattle.standing_laws.specs.Sets.{StandsAsSet}
-use Rattle.deferred_delete.specs.Standing.{place_in}
-use Rattle.deferred_laws.proofs.Tags.{IsNamed, named}
-use Rattle.domain_layout.specs.Filled.{Contents}
-use Rattle.standing_laws.specs.Domain.{DomainNow}
-use Rattle.standing_laws.specs.Holders.Holder.{of_file, of_volume}
+use Rattle.standing_laws.specs.domain_base.declared.place.CellAt.{CellAt}
+use Rattle.standing_laws.specs.domain_base.declared.place.Home.{Home}
+use Rattle.standing_laws.specs.domain_base.declared.place.Kind.TheVariants.{File}
+use Rattle.standing_laws.specs.domain_base.declared.place.Tag.{Tag}
+use Rattle.standing_laws.specs.page_store.Bitfiles.{Bitfiles, same_tag}
+use Rattle.standing_laws.specs.page_store.Pages.{Pages}
+use Rattle.standing_laws.specs.metadata_cells.CellPage.{cell_at, home_of}
+use Rattle.standing_laws.specs.metadata_cells.Chain.{PlacedCell, is_at}
+use Rattle.standing_laws.specs.tag_dirs.Directory.{cell_of, has_home}
+use Rattle.standing_laws.specs.extent_maps.declared.run.PagePlace.TheVariants.{Absent, At}
+use Rattle.standing_laws.specs.free_cells.Cells.{table_of}
+use Rattle.standing_laws.specs.file_chains.Files.{places_of}
+use Rattle.standing_laws.specs.fileset_files.Files.{Chains, LeadsToFile, place_at}
+use Rattle.standing_laws.specs.fileset_files.State.{FileState, state_of}
+use Rattle.standing_laws.specs.fileset_files.Together.{AreTogether}
+use Rattle.standing_laws.proofs.OfFilesetFiles.Created.{one_chains}
+use Rattle.standing_laws.proofs.OfStoredSet.Together.{together_away}
+use Rattle.standing_laws.specs.stored_set.Sets.{StandsAsSet}
+use Rattle.standing_laws.specs.release_list.Standing.{place_in}
+use Rattle.standing_laws.proofs.OfReleaseSteps.Tags.{IsNamed, named}
+use Rattle.standing_laws.specs.domain_layout.Filled.{Contents}
+use Rattle.standing_laws.specs.domain_standing.Domain.{DomainNow}
+use Rattle.standing_laws.specs.domain_standing.Holders.Holder.{of_file, of_volume}
 use Rattle.standing_laws.specs.Leads.{IsLiveOf, StandsBelow}
 use Rattle.standing_laws.specs.OtherPages.{KeepsWhere}
 use Rattle.standing_laws.proofs.OthersStand.{others_stand}

@@ -1,27 +1,27 @@
 -- Directories of a slot say the ones in which they stand where one of its files changes.
 use Rattle.std.proofs.Common.{◌≡◌, ◌∙◌, ℕ, Bool, true, false, List, Option, Some, IsSomeAnd, inl, inr, slice_get, refl, sym, ap, subst, ⊎_elim}
 use Rattle.std.specs.Option.{option_map_or}
-use Rattle.domain_base.specs.declared.place.Home.{Home}
-use Rattle.domain_base.specs.declared.place.Kind.TheVariants.{Directory, File}
-use Rattle.domain_base.specs.declared.place.Tag.{Tag}
-use Rattle.page_store.specs.Bitfiles.{same_tag}
-use Rattle.bmt_mcells.specs.Chain.{PlacedCell}
-use Rattle.tag_dirs.specs.Directory.{IsDirectoryAt}
-use Rattle.extent_maps.specs.declared.run.PagePlace.TheVariants.{Absent, At}
-use Rattle.bitfile_cells.specs.Files.{places_of}
-use Rattle.bitfile_core.specs.declared.attributes.Attributes.{Attributes}
-use Rattle.bitfile_core.specs.Files.{AreFiles, Chains, attributes_of, of_live, place_at}
-use Rattle.bitfile_core.proofs.OneFile.{tags_same}
-use Rattle.fileset_table.specs.Table.{Table}
-use Rattle.fileset_table.specs.declared.slot.FilesetEntry.{FilesetEntry}
-use Rattle.fileset_table.specs.declared.slot.SlotItem.{SlotItem}
-use Rattle.fileset_table.specs.declared.slot.SlotItem.TheVariants as slot
-use Rattle.deferred_delete.proofs.Spread.{some_same}
-use Rattle.layout_laws.proofs.Reached.{same_number}
-use Rattle.domain_layout.specs.DirectoryRules.{Has, IsInItem, IsInOriginal, IsRow, RowPlace}
-use Rattle.domain_layout.specs.Seen.{SeenFile}
-use Rattle.standing_laws.specs.Domain.{DomainNow, item_in}
-use Rattle.standing_laws.specs.Standing.{HaveParents}
+use Rattle.standing_laws.specs.domain_base.declared.place.Home.{Home}
+use Rattle.standing_laws.specs.domain_base.declared.place.Kind.TheVariants.{Directory, File}
+use Rattle.standing_laws.specs.domain_base.declared.place.Tag.{Tag}
+use Rattle.standing_laws.specs.page_store.Bitfiles.{same_tag}
+use Rattle.standing_laws.specs.metadata_cells.Chain.{PlacedCell}
+use Rattle.standing_laws.specs.tag_dirs.Directory.{IsDirectoryAt}
+use Rattle.standing_laws.specs.extent_maps.declared.run.PagePlace.TheVariants.{Absent, At}
+use Rattle.standing_laws.specs.file_chains.Files.{places_of}
+use Rattle.standing_laws.specs.fileset_files.declared.attributes.Attributes.{Attributes}
+use Rattle.standing_laws.specs.fileset_files.Files.{AreFiles, Chains, attributes_of, of_live, place_at}
+use Rattle.standing_laws.proofs.OfFilesetFiles.OneFile.{tags_same}
+use Rattle.standing_laws.specs.fileset_table.Table.{Table}
+use Rattle.standing_laws.specs.fileset_table.declared.slot.FilesetEntry.{FilesetEntry}
+use Rattle.standing_laws.specs.fileset_table.declared.slot.SlotItem.{SlotItem}
+use Rattle.standing_laws.specs.fileset_table.declared.slot.SlotItem.TheVariants as slot
+use Rattle.standing_laws.proofs.OfReleaseList.Spread.{some_same}
+use Rattle.standing_laws.proofs.OfDomainLayout.Reached.{same_number}
+use Rattle.standing_laws.specs.domain_layout.DirectoryRules.{Has, IsInItem, IsInOriginal, IsRow, RowPlace}
+use Rattle.standing_laws.specs.domain_layout.Seen.{SeenFile}
+use Rattle.standing_laws.specs.domain_standing.Domain.{DomainNow, item_in}
+use Rattle.standing_laws.specs.domain_standing.Standing.{HaveParents}
 use Rattle.standing_laws.specs.Leads.{IsLiveOf}
 use Rattle.standing_laws.specs.SlotParents.{HaveParentsIn, StandsForSome}
 use Rattle.standing_laws.proofs.OtherSlots.{seen_place}

@@ -1,33 +1,33 @@
 -- A domain stands on around a slot where the first cell of a file says something else of it.
 use Rattle.std.proofs.Common.{◌≡◌, ◌∙◌, ℕ, List, ◌∷◌, Some, None, IsSomeAnd, Contains, refl, sym, ap, subst}
 use Rattle.std.specs.Option.{option_and_then, option_map, option_map_or}
-use Rattle.domain_base.specs.declared.place.Home.{Home}
-use Rattle.domain_base.specs.declared.place.Kind.TheVariants.{File}
-use Rattle.domain_base.specs.declared.place.Tag.{Tag}
-use Rattle.page_store.specs.Bitfiles.{Bitfiles}
-use Rattle.page_store.specs.Pages.{Pages}
-use Rattle.bmt_mcells.specs.Cell.{Cell}
-use Rattle.bmt_mcells.specs.Chain.{PlacedCell}
-use Rattle.extent_maps.specs.declared.run.PagePlace.TheVariants.{Absent, At}
-use Rattle.bitfile_cells.specs.Files.{AreFile, places_of}
-use Rattle.bitfile_core.specs.declared.attributes.Attributes.{Attributes}
-use Rattle.bitfile_core.specs.Changes.{CanSay, ChangesFirst, says_attributes, with_chain, with_first}
-use Rattle.bitfile_core.specs.Files.{Chains, place_at}
-use Rattle.bitfile_core.specs.State.{FileState, state_of}
-use Rattle.bitfile_core.specs.Together.{AreTogether}
-use Rattle.bitfile_core.specs.Truncation.{IsLowered, says_truncated}
-use Rattle.bitfile_core.proofs.Created.{one_chains}
-use Rattle.bitfile_core.proofs.OneChain.{chain_other, chain_same, same_tag_itself}
-use Rattle.bitfile_laws.specs.States.{cut as cut_state, described as described_state}
-use Rattle.bitfile_laws.proofs.FirstCells.{attributes_said, size_said}
-use Rattle.bitfile_laws.proofs.Parts.{file_at}
-use Rattle.set_laws.proofs.FirstTells.{off_tables_still}
-use Rattle.standing_laws.specs.Sets.{StandsAsSet}
-use Rattle.deferred_delete.specs.Listing.{Listing}
-use Rattle.deferred_delete.specs.Standing.{Files, with_file}
-use Rattle.deferred_laws.specs.Calls.{Call, cut, described}
-use Rattle.domain_layout.specs.Filled.{Contents}
-use Rattle.standing_laws.specs.Domain.{DomainNow}
+use Rattle.standing_laws.specs.domain_base.declared.place.Home.{Home}
+use Rattle.standing_laws.specs.domain_base.declared.place.Kind.TheVariants.{File}
+use Rattle.standing_laws.specs.domain_base.declared.place.Tag.{Tag}
+use Rattle.standing_laws.specs.page_store.Bitfiles.{Bitfiles}
+use Rattle.standing_laws.specs.page_store.Pages.{Pages}
+use Rattle.standing_laws.specs.metadata_cells.Cell.{Cell}
+use Rattle.standing_laws.specs.metadata_cells.Chain.{PlacedCell}
+use Rattle.standing_laws.specs.extent_maps.declared.run.PagePlace.TheVariants.{Absent, At}
+use Rattle.standing_laws.specs.file_chains.Files.{AreFile, places_of}
+use Rattle.standing_laws.specs.fileset_files.declared.attributes.Attributes.{Attributes}
+use Rattle.standing_laws.specs.fileset_files.Changes.{CanSay, ChangesFirst, says_attributes, with_chain, with_first}
+use Rattle.standing_laws.specs.fileset_files.Files.{Chains, place_at}
+use Rattle.standing_laws.specs.fileset_files.State.{FileState, state_of}
+use Rattle.standing_laws.specs.fileset_files.Together.{AreTogether}
+use Rattle.standing_laws.specs.fileset_files.Truncation.{IsLowered, says_truncated}
+use Rattle.standing_laws.proofs.OfFilesetFiles.Created.{one_chains}
+use Rattle.standing_laws.proofs.OfFilesetFiles.OneChain.{chain_other, chain_same, same_tag_itself}
+use Rattle.standing_laws.specs.fileset_files.States.{cut as cut_state, described as described_state}
+use Rattle.standing_laws.proofs.OfFilesetFiles.FirstCells.{attributes_said, size_said}
+use Rattle.standing_laws.proofs.OfFilesetFiles.Parts.{file_at}
+use Rattle.standing_laws.proofs.OfStoredSet.FirstTells.{off_tables_still}
+use Rattle.standing_laws.specs.stored_set.Sets.{StandsAsSet}
+use Rattle.standing_laws.specs.release_list.Listing.{Listing}
+use Rattle.standing_laws.specs.release_list.Standing.{Files, with_file}
+use Rattle.standing_laws.specs.release_steps.Calls.{Call, cut, described}
+use Rattle.standing_laws.specs.domain_layout.Filled.{Contents}
+use Rattle.standing_laws.specs.domain_standing.Domain.{DomainNow}
 use Rattle.standing_laws.specs.Leads.{IsLiveOf, fileset_now}
 use Rattle.set_standing.specs.Around.{BytesFollow, ChangesSlot, StandsAround}
 use Rattle.set_standing.specs.Beside.{ChangesOneFile, StaysBeside}

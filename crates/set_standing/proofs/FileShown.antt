@@ -1,38 +1,38 @@
 -- A set shows the same where a file changes, and nothing that is said of its names.
 use Rattle.std.proofs.Common.{◌≡◌, ◌∙◌, ℕ, Bool, true, false, cond, List, ◌∷◌, Option, Some, None, IsSomeAnd, Contains, refl, sym, ap, subst}
 use Rattle.std.specs.Option.{option_and_then, option_map, option_map_or}
-use Rattle.domain_base.specs.declared.place.Home.{Home}
-use Rattle.domain_base.specs.declared.place.Kind.{Kind}
-use Rattle.domain_base.specs.declared.place.Kind.TheVariants.{Directory, File}
-use Rattle.domain_base.specs.declared.place.Tag.{Tag}
-use Rattle.page_store.specs.Bitfiles.{Bitfile, Bitfiles, same_tag}
-use Rattle.page_store.specs.Pages.{Pages}
-use Rattle.record_table.specs.declared.record.Leftover.TheVariants.{Remove, Trim}
-use Rattle.record_table.specs.declared.record.Record.{Record}
-use Rattle.record_table.specs.declared.record.Record.TheVariants as written
-use Rattle.bmt_mcells.specs.Chain.{PlacedCell}
-use Rattle.tag_dirs.specs.declared.dir.TagPlace.{TagPlace}
-use Rattle.extent_maps.specs.declared.run.PagePlace.TheVariants.{Absent, At}
-use Rattle.free_cells.specs.Cells.{Cells}
-use Rattle.free_space.specs.Spaces.{Spaces}
-use Rattle.bitfile_cells.specs.Files.{places_of}
-use Rattle.bitfile_core.specs.declared.attributes.Attributes.{Attributes}
-use Rattle.bitfile_core.specs.declared.indexing.IndexPlace.{IndexPlace}
-use Rattle.bitfile_core.specs.Files.{Chains, attributes_in, attributes_of, first_record, is_removed, of_live, place_at, says_remove}
-use Rattle.bitfile_core.specs.Index.{index_place_in}
-use Rattle.bitfile_core.specs.Shown.{AreIndexPages, IsWhat, ShowsAt, ShowsFile, index_in, index_of, shown_page}
-use Rattle.bitfile_core.specs.State.{FileState, pending_in, state_of, state_with, states_of}
-use Rattle.bitfile_core.specs.Together.{AreTogether, IsFilePage}
-use Rattle.bitfile_core.proofs.OneFile.{tags_same}
-use Rattle.bitfile_laws.specs.States.{is_removing}
-use Rattle.stored_index.specs.Homes.{AreIndexHomes}
-use Rattle.stored_index.proofs.Homes.{kept_same}
-use Rattle.set_laws.specs.Standing.{StandsShown}
-use Rattle.set_laws.specs.Whole.{AreWholeDirectories, IsWholeAt}
-use Rattle.set_laws.proofs.Beside.{stands_beside}
-use Rattle.set_laws.proofs.Kept.{index_kept}
-use Rattle.set_laws.proofs.Told.{kind_told}
-use Rattle.standing_laws.specs.Sets.{StandsAsSet}
+use Rattle.standing_laws.specs.domain_base.declared.place.Home.{Home}
+use Rattle.standing_laws.specs.domain_base.declared.place.Kind.{Kind}
+use Rattle.standing_laws.specs.domain_base.declared.place.Kind.TheVariants.{Directory, File}
+use Rattle.standing_laws.specs.domain_base.declared.place.Tag.{Tag}
+use Rattle.standing_laws.specs.page_store.Bitfiles.{Bitfile, Bitfiles, same_tag}
+use Rattle.standing_laws.specs.page_store.Pages.{Pages}
+use Rattle.standing_laws.specs.cell_records.declared.record.Leftover.TheVariants.{Remove, Trim}
+use Rattle.standing_laws.specs.cell_records.declared.record.Record.{Record}
+use Rattle.standing_laws.specs.cell_records.declared.record.Record.TheVariants as written
+use Rattle.standing_laws.specs.metadata_cells.Chain.{PlacedCell}
+use Rattle.standing_laws.specs.tag_dirs.declared.dir.TagPlace.{TagPlace}
+use Rattle.standing_laws.specs.extent_maps.declared.run.PagePlace.TheVariants.{Absent, At}
+use Rattle.standing_laws.specs.free_cells.Cells.{Cells}
+use Rattle.standing_laws.specs.free_space.Spaces.{Spaces}
+use Rattle.standing_laws.specs.file_chains.Files.{places_of}
+use Rattle.standing_laws.specs.fileset_files.declared.attributes.Attributes.{Attributes}
+use Rattle.standing_laws.specs.fileset_files.declared.indexing.IndexPlace.{IndexPlace}
+use Rattle.standing_laws.specs.fileset_files.Files.{Chains, attributes_in, attributes_of, first_record, is_removed, of_live, place_at, says_remove}
+use Rattle.standing_laws.specs.fileset_files.Index.{index_place_in}
+use Rattle.standing_laws.specs.fileset_files.Shown.{AreIndexPages, IsWhat, ShowsAt, ShowsFile, index_in, index_of, shown_page}
+use Rattle.standing_laws.specs.fileset_files.State.{FileState, pending_in, state_of, state_with, states_of}
+use Rattle.standing_laws.specs.fileset_files.Together.{AreTogether, IsFilePage}
+use Rattle.standing_laws.proofs.OfFilesetFiles.OneFile.{tags_same}
+use Rattle.standing_laws.specs.fileset_files.States.{is_removing}
+use Rattle.standing_laws.specs.index_pages.Homes.{AreIndexHomes}
+use Rattle.standing_laws.proofs.OfIndexPages.Homes.{kept_same}
+use Rattle.standing_laws.specs.stored_set.Standing.{StandsShown}
+use Rattle.standing_laws.specs.stored_set.Whole.{AreWholeDirectories, IsWholeAt}
+use Rattle.standing_laws.proofs.OfStoredSet.Beside.{stands_beside}
+use Rattle.standing_laws.proofs.OfStoredSet.Kept.{index_kept}
+use Rattle.standing_laws.proofs.OfStoredSet.Told.{kind_told}
+use Rattle.standing_laws.specs.stored_set.Sets.{StandsAsSet}
 use Rattle.standing_laws.specs.Leads.{IsLiveOf}
 
 -- ---- what a chain says, by its state

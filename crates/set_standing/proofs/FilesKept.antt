@@ -1,33 +1,33 @@
 -- What becomes of what a tag names, as far as the bytes of files are concerned.
 use Rattle.std.proofs.Common.{◌≡◌, ◌∙◌, ◌≤◌, ◌<◌, ◌++◌, ℕ, Bool, true, false, append_assoc, cond, nat_lt, List, Option, Some, None, IfSome, IsSome, IsSomeAnd, refl, sym, ap, subst, arith, true≢false}
 use Rattle.std.specs.Option.{is_some, option_and_then, option_map, unwrap_or}
-use Rattle.domain_base.specs.declared.place.Home.{Home}
-use Rattle.domain_base.specs.declared.place.Kind.TheVariants.{Directory, File}
-use Rattle.domain_base.specs.declared.place.Tag.{Tag}
-use Rattle.page_store.specs.Pages.{Pages}
-use Rattle.record_table.specs.declared.record.Record.{Record}
-use Rattle.record_table.specs.declared.record.Record.TheVariants as written
-use Rattle.bmt_mcells.specs.Chain.{PlacedCell}
-use Rattle.tag_dirs.specs.Directory.{cell_of}
-use Rattle.tag_dirs.specs.declared.dir.TagPlace.{TagPlace}
-use Rattle.extent_maps.specs.Runs.{home_at}
-use Rattle.extent_maps.specs.declared.run.PagePlace.TheVariants.{Absent}
-use Rattle.bitfile_cells.specs.Files.{IsFile, places_of}
-use Rattle.domain_base.specs.declared.place.CellAt.{CellAt}
-use Rattle.bitfile_core.specs.Creation.{last_sequence}
-use Rattle.bitfile_core.specs.Files.{AreFiles, Chains, LeadsToFile, attributes_of, first_record, is_removed, keep_of, of_live}
-use Rattle.bitfile_core.specs.declared.attributes.Attributes.{Attributes}
-use Rattle.bitfile_core.specs.State.{FileState, parent_of, state_of, state_with}
-use Rattle.bitfile_core.specs.declared.new_cells.NewFile.{NewFile}
-use Rattle.bitfile_core.proofs.Created.{one_chains}
-use Rattle.bitfile_core.proofs.Tags.{used_sequence}
-use Rattle.bitfile_laws.specs.States.{if_live, is_removing, new_state}
-use Rattle.deferred_delete.proofs.Spread.{none_not, some_same}
-use Rattle.domain_layout.specs.Seen.{SeenFile, kept_by, seen_in}
+use Rattle.standing_laws.specs.domain_base.declared.place.Home.{Home}
+use Rattle.standing_laws.specs.domain_base.declared.place.Kind.TheVariants.{Directory, File}
+use Rattle.standing_laws.specs.domain_base.declared.place.Tag.{Tag}
+use Rattle.standing_laws.specs.page_store.Pages.{Pages}
+use Rattle.standing_laws.specs.cell_records.declared.record.Record.{Record}
+use Rattle.standing_laws.specs.cell_records.declared.record.Record.TheVariants as written
+use Rattle.standing_laws.specs.metadata_cells.Chain.{PlacedCell}
+use Rattle.standing_laws.specs.tag_dirs.Directory.{cell_of}
+use Rattle.standing_laws.specs.tag_dirs.declared.dir.TagPlace.{TagPlace}
+use Rattle.standing_laws.specs.extent_maps.Runs.{home_at}
+use Rattle.standing_laws.specs.extent_maps.declared.run.PagePlace.TheVariants.{Absent}
+use Rattle.standing_laws.specs.file_chains.Files.{IsFile, places_of}
+use Rattle.standing_laws.specs.domain_base.declared.place.CellAt.{CellAt}
+use Rattle.standing_laws.specs.fileset_files.Creation.{last_sequence}
+use Rattle.standing_laws.specs.fileset_files.Files.{AreFiles, Chains, LeadsToFile, attributes_of, first_record, is_removed, keep_of, of_live}
+use Rattle.standing_laws.specs.fileset_files.declared.attributes.Attributes.{Attributes}
+use Rattle.standing_laws.specs.fileset_files.State.{FileState, parent_of, state_of, state_with}
+use Rattle.standing_laws.specs.fileset_files.declared.new_cells.NewFile.{NewFile}
+use Rattle.standing_laws.proofs.OfFilesetFiles.Created.{one_chains}
+use Rattle.standing_laws.proofs.OfFilesetFiles.Tags.{used_sequence}
+use Rattle.standing_laws.specs.fileset_files.States.{if_live, is_removing, new_state}
+use Rattle.standing_laws.proofs.OfReleaseList.Spread.{none_not, some_same}
+use Rattle.standing_laws.specs.domain_layout.Seen.{SeenFile, kept_by, seen_in}
 use Rattle.standing_laws.specs.Leads.{IsLiveOf}
-use Rattle.node_laws.specs.Nodes.{seen_of}
-use Rattle.node_laws.proofs.Seen.{live_seen}
-use Rattle.standing_laws.specs.Domain.{DomainNow}
+use Rattle.set_standing.specs.Nodes.{seen_of}
+use Rattle.set_standing.proofs.Seen.{live_seen}
+use Rattle.standing_laws.specs.domain_standing.Domain.{DomainNow}
 use Rattle.set_standing.specs.Follow.{ComesFrom, FilesFollow, IsEmptyFile, IsStill, IsUnsaid, Said, SaysParent, TagFollows, TagsFollow}
 
 -- ---- what is seen of a chain

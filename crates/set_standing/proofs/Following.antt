@@ -2,26 +2,26 @@
 use Rattle.std.proofs.Common.{◌≡◌, ◌∙◌, ◌≤◌, ◌<◌, ℕ, Bool, true, false, cond, List, [], ◌∷◌, Option, Some, None, IfSome, Contains, sym, ap, subst, arith, ⊎_elim}
 use Rattle.std.proofs.lemmas.Bool.{cases_Bool}
 use Rattle.std.specs.Option.{option_map, unwrap_or}
-use Rattle.domain_base.specs.declared.place.CellAt.{CellAt}
-use Rattle.domain_base.specs.declared.place.Home.{Home}
-use Rattle.domain_base.specs.declared.place.Tag.{Tag}
-use Rattle.page_store.specs.Bitfiles.{same_tag}
-use Rattle.page_store.specs.Pages.{Pages}
-use Rattle.bmt_mcells.specs.Chain.{PlacedCell, places}
-use Rattle.tag_dirs.specs.Directory.{IsDirectory, has_home, sequence_of}
-use Rattle.tag_dirs.specs.declared.dir.TagPlace.{TagPlace}
-use Rattle.bitfile_core.specs.Changes.{with_chain, without_chain}
-use Rattle.bitfile_core.specs.Creation.{last_sequence, with_new}
-use Rattle.bitfile_core.specs.Files.{AreApart, AreFiles, Chains}
-use Rattle.bitfile_core.proofs.OneFile.{tags_same}
-use Rattle.bitfile_core.proofs.Tags.{entry_same, pages_same}
-use Rattle.tag_dirs.specs.declared.page.TagEntry.{TagEntry}
-use Rattle.deferred_laws.specs.Tags.{start_of}
-use Rattle.deferred_delete.specs.Standing.{Files}
-use Rattle.deferred_delete.proofs.Spread.{none_not, some_same}
-use Rattle.deferred_laws.proofs.Tags.{IsNamed}
-use Rattle.domain_layout.specs.Seen.{SeenFile, seen_in}
-use Rattle.standing_laws.specs.Domain.{DomainNow}
+use Rattle.standing_laws.specs.domain_base.declared.place.CellAt.{CellAt}
+use Rattle.standing_laws.specs.domain_base.declared.place.Home.{Home}
+use Rattle.standing_laws.specs.domain_base.declared.place.Tag.{Tag}
+use Rattle.standing_laws.specs.page_store.Bitfiles.{same_tag}
+use Rattle.standing_laws.specs.page_store.Pages.{Pages}
+use Rattle.standing_laws.specs.metadata_cells.Chain.{PlacedCell, places}
+use Rattle.standing_laws.specs.tag_dirs.Directory.{IsDirectory, has_home, sequence_of}
+use Rattle.standing_laws.specs.tag_dirs.declared.dir.TagPlace.{TagPlace}
+use Rattle.standing_laws.specs.fileset_files.Changes.{with_chain, without_chain}
+use Rattle.standing_laws.specs.fileset_files.Creation.{last_sequence, with_new}
+use Rattle.standing_laws.specs.fileset_files.Files.{AreApart, AreFiles, Chains}
+use Rattle.standing_laws.proofs.OfFilesetFiles.OneFile.{tags_same}
+use Rattle.standing_laws.proofs.OfFilesetFiles.Tags.{entry_same, pages_same}
+use Rattle.standing_laws.specs.tag_dirs.declared.page.TagEntry.{TagEntry}
+use Rattle.standing_laws.specs.release_steps.Tags.{start_of}
+use Rattle.standing_laws.specs.release_list.Standing.{Files}
+use Rattle.standing_laws.proofs.OfReleaseList.Spread.{none_not, some_same}
+use Rattle.standing_laws.proofs.OfReleaseSteps.Tags.{IsNamed}
+use Rattle.standing_laws.specs.domain_layout.Seen.{SeenFile, seen_in}
+use Rattle.standing_laws.specs.domain_standing.Domain.{DomainNow}
 use Rattle.set_standing.specs.Follow.{ComesFrom, IsUnsaid, Said, SaysParent, TagFollows, TagsFollow}
 use Rattle.set_standing.proofs.FilesKept.{KeepsBytesOf, none_unsaid, tag_changed, tag_gone, tag_unsaid}
 

@@ -4,40 +4,40 @@ use Rattle.std.proofs.lemmas.Bool.{false_from_ne_true}
 use Rattle.std.proofs.lemmas.List.{append-nil}
 use Rattle.std.specs.List.{insert}
 use Rattle.std.specs.Option.{option_and_then, option_map}
-use Rattle.domain_base.specs.declared.place.CellAt.{CellAt}
-use Rattle.domain_base.specs.declared.place.Home.{Home}
-use Rattle.domain_base.specs.declared.place.Tag.{Tag}
-use Rattle.page_store.specs.Pages.{Pages, same_home}
-use Rattle.bmt_mcells.specs.Cell.{Cell}
-use Rattle.bmt_mcells.specs.CellPage.{cell_at, home_of}
-use Rattle.bmt_mcells.specs.Chain.{PlacedCell}
-use Rattle.bmt_mcells.proofs.Changed.{homes_same}
-use Rattle.tag_dirs.specs.Directory.{has_home}
-use Rattle.tag_dirs.specs.declared.dir.TagPlace.{TagPlace}
-use Rattle.extent_maps.specs.declared.run.PagePlace.TheVariants.{At}
-use Rattle.free_cells.specs.Cells.{table_of}
-use Rattle.free_space.specs.Spaces.{Spaces}
-use Rattle.bitfile_cells.specs.Files.{AreFile}
-use Rattle.bitfile_core.specs.Changes.{ChangesFirst, with_chain, with_first}
-use Rattle.bitfile_core.specs.Files.{AreFiles, place_at}
-use Rattle.bitfile_core.specs.State.{state_of}
-use Rattle.bitfile_core.specs.declared.indexing.IndexPlace.{IndexPlace}
-use Rattle.bitfile_core.specs.Index.{says_index}
-use Rattle.bitfile_core.specs.Together.{AreTogether, IsHeldApart}
-use Rattle.bitfile_core.proofs.Grown.{apart_taken}
-use Rattle.bitfile_laws.specs.States.{indexed}
-use Rattle.bitfile_laws.proofs.FirstCells.{index_said}
-use Rattle.bitfile_laws.proofs.Parts.{file_at}
-use Rattle.set_laws.proofs.Together.{together_away}
-use Rattle.standing_laws.specs.Sets.{AddsIndexPage, WritesIndexPage}
-use Rattle.deferred_delete.specs.Standing.{Files, source_at, with_file}
-use Rattle.deferred_delete.proofs.Standings.{low_home}
-use Rattle.deferred_laws.specs.Tags.{start_of}
-use Rattle.domain_layout.specs.Filled.{Contents}
-use Rattle.standing_laws.specs.Chains.{IndexesAt}
-use Rattle.standing_laws.specs.Domain.{DomainNow}
-use Rattle.standing_laws.specs.Holders.{IsUnheld}
-use Rattle.standing_laws.specs.Holders.Holder.{of_cells, of_file, of_tags}
+use Rattle.standing_laws.specs.domain_base.declared.place.CellAt.{CellAt}
+use Rattle.standing_laws.specs.domain_base.declared.place.Home.{Home}
+use Rattle.standing_laws.specs.domain_base.declared.place.Tag.{Tag}
+use Rattle.standing_laws.specs.page_store.Pages.{Pages, same_home}
+use Rattle.standing_laws.specs.metadata_cells.Cell.{Cell}
+use Rattle.standing_laws.specs.metadata_cells.CellPage.{cell_at, home_of}
+use Rattle.standing_laws.specs.metadata_cells.Chain.{PlacedCell}
+use Rattle.standing_laws.proofs.OfMetadataCells.Changed.{homes_same}
+use Rattle.standing_laws.specs.tag_dirs.Directory.{has_home}
+use Rattle.standing_laws.specs.tag_dirs.declared.dir.TagPlace.{TagPlace}
+use Rattle.standing_laws.specs.extent_maps.declared.run.PagePlace.TheVariants.{At}
+use Rattle.standing_laws.specs.free_cells.Cells.{table_of}
+use Rattle.standing_laws.specs.free_space.Spaces.{Spaces}
+use Rattle.standing_laws.specs.file_chains.Files.{AreFile}
+use Rattle.standing_laws.specs.fileset_files.Changes.{ChangesFirst, with_chain, with_first}
+use Rattle.standing_laws.specs.fileset_files.Files.{AreFiles, place_at}
+use Rattle.standing_laws.specs.fileset_files.State.{state_of}
+use Rattle.standing_laws.specs.fileset_files.declared.indexing.IndexPlace.{IndexPlace}
+use Rattle.standing_laws.specs.fileset_files.Index.{says_index}
+use Rattle.standing_laws.specs.fileset_files.Together.{AreTogether, IsHeldApart}
+use Rattle.standing_laws.proofs.OfFilesetFiles.Grown.{apart_taken}
+use Rattle.standing_laws.specs.fileset_files.States.{indexed}
+use Rattle.standing_laws.proofs.OfFilesetFiles.FirstCells.{index_said}
+use Rattle.standing_laws.proofs.OfFilesetFiles.Parts.{file_at}
+use Rattle.standing_laws.proofs.OfStoredSet.Together.{together_away}
+use Rattle.standing_laws.specs.stored_set.Sets.{AddsIndexPage, WritesIndexPage}
+use Rattle.standing_laws.specs.release_list.Standing.{Files, source_at, with_file}
+use Rattle.standing_laws.proofs.OfReleaseList.Standings.{low_home}
+use Rattle.standing_laws.specs.release_steps.Tags.{start_of}
+use Rattle.standing_laws.specs.domain_layout.Filled.{Contents}
+use Rattle.standing_laws.specs.domain_standing.Chains.{IndexesAt}
+use Rattle.standing_laws.specs.domain_standing.Domain.{DomainNow}
+use Rattle.standing_laws.specs.domain_standing.Holders.{IsUnheld}
+use Rattle.standing_laws.specs.domain_standing.Holders.Holder.{of_cells, of_file, of_tags}
 use Rattle.standing_laws.specs.IndexCalls.{KeepsTables, with_index_at, with_said}
 use Rattle.standing_laws.specs.Leads.{StandsBelow}
 use Rattle.standing_laws.specs.OtherPages.{KeepsPlaces}

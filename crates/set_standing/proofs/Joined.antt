@@ -1,12 +1,12 @@
 -- One change around a slot after another, and none.
 use Rattle.std.proofs.Common.{◌∙◌, ◌<◌, ℕ, [], None, slice_get, refl, sym, ap, subst, arith}
 use Rattle.std.proofs.lemmas.List.{append-nil}
-use Rattle.bitfile_core.specs.Creation.{last_sequence}
-use Rattle.log_ring.specs.Homes.{IsMember}
-use Rattle.fileset_table.specs.Table.{Table}
-use Rattle.domain_layout.specs.CellRules.{of_clone}
-use Rattle.domain_layout.specs.Reached.{Frame, first_cells}
-use Rattle.standing_laws.specs.Domain.{DomainNow}
+use Rattle.standing_laws.specs.fileset_files.Creation.{last_sequence}
+use Rattle.standing_laws.specs.log_ring.Homes.{IsMember}
+use Rattle.standing_laws.specs.fileset_table.Table.{Table}
+use Rattle.standing_laws.specs.domain_layout.CellRules.{of_clone}
+use Rattle.standing_laws.specs.domain_layout.Reached.{Frame, first_cells}
+use Rattle.standing_laws.specs.domain_standing.Domain.{DomainNow}
 use Rattle.set_standing.specs.Around.{GoesOnAround, StandsAround, StaysAround}
 use Rattle.set_standing.specs.Follow.{Said}
 use Rattle.set_standing.proofs.FilesKept.{files_by, files_joined, tag_same}

@@ -1,24 +1,24 @@
 -- A domain stands on around a slot after a call on one of its tags.
 use Rattle.std.proofs.Common.{◌≡◌, ◌∙◌, ◌≤◌, ◌++◌, ℕ, List, Some, slice_get, sym, ap}
 use Rattle.std.specs.Option.{option_and_then, option_map_or}
-use Rattle.domain_base.specs.declared.place.CellAt.{CellAt}
-use Rattle.domain_base.specs.declared.place.Home.{Home}
-use Rattle.domain_base.specs.declared.place.Tag.{Tag}
-use Rattle.extent_maps.specs.declared.run.PagePlace.TheVariants.{Absent, At}
-use Rattle.bmt_mcells.specs.Chain.{PlacedCell}
-use Rattle.tag_dirs.specs.declared.dir.TagPlace.{TagPlace}
-use Rattle.bitfile_cells.specs.Files.{places_of}
-use Rattle.bitfile_core.specs.Creation.{last_sequence}
-use Rattle.bitfile_core.specs.Files.{Chains}
-use Rattle.fileset_table.specs.Table.{Table}
-use Rattle.deferred_delete.specs.Standing.{Files, place_in}
-use Rattle.deferred_laws.specs.Calls.{Call, FilesetNow, no_call, one_more}
-use Rattle.deferred_laws.specs.Tags.{start_of}
-use Rattle.deferred_laws.proofs.Tags.{named}
-use Rattle.deferred_laws.proofs.CallsWell.{stands_call}
-use Rattle.deferred_laws.proofs.SourcesStay.{sources_stay}
-use Rattle.standing_laws.specs.Domain.{DomainNow}
-use Rattle.standing_laws.specs.Holders.Holder.{of_file, of_volume}
+use Rattle.standing_laws.specs.domain_base.declared.place.CellAt.{CellAt}
+use Rattle.standing_laws.specs.domain_base.declared.place.Home.{Home}
+use Rattle.standing_laws.specs.domain_base.declared.place.Tag.{Tag}
+use Rattle.standing_laws.specs.extent_maps.declared.run.PagePlace.TheVariants.{Absent, At}
+use Rattle.standing_laws.specs.metadata_cells.Chain.{PlacedCell}
+use Rattle.standing_laws.specs.tag_dirs.declared.dir.TagPlace.{TagPlace}
+use Rattle.standing_laws.specs.file_chains.Files.{places_of}
+use Rattle.standing_laws.specs.fileset_files.Creation.{last_sequence}
+use Rattle.standing_laws.specs.fileset_files.Files.{Chains}
+use Rattle.standing_laws.specs.fileset_table.Table.{Table}
+use Rattle.standing_laws.specs.release_list.Standing.{Files, place_in}
+use Rattle.standing_laws.specs.release_steps.Calls.{Call, FilesetNow, no_call, one_more}
+use Rattle.standing_laws.specs.release_steps.Tags.{start_of}
+use Rattle.standing_laws.proofs.OfReleaseSteps.Tags.{named}
+use Rattle.standing_laws.proofs.OfReleaseSteps.CallsWell.{stands_call}
+use Rattle.standing_laws.proofs.OfReleaseSteps.SourcesStay.{sources_stay}
+use Rattle.standing_laws.specs.domain_standing.Domain.{DomainNow}
+use Rattle.standing_laws.specs.domain_standing.Holders.Holder.{of_file, of_volume}
 use Rattle.standing_laws.specs.Leads.{LeadsOn, MayCall, fileset_now}
 use Rattle.standing_laws.specs.Left.{LeavesNothing}
 use Rattle.standing_laws.proofs.BelowStands.{below_stands}

@@ -1,16 +1,16 @@
 -- All that is not of a slot stays beside it after a call on one of its tags.
 use Rattle.std.proofs.Common.{◌≡◌, ℕ, Some, sym, subst, ⊎_elim}
 use Rattle.std.specs.Option.{option_and_then}
-use Rattle.domain_base.specs.declared.place.CellAt.{CellAt}
-use Rattle.domain_base.specs.declared.place.Home.{Home}
-use Rattle.domain_base.specs.declared.place.Tag.{Tag}
-use Rattle.extent_maps.specs.declared.run.PagePlace.TheVariants.{At}
-use Rattle.bitfile_core.specs.Files.{Chains, place_at}
-use Rattle.deferred_delete.specs.Standing.{Files, place_in}
-use Rattle.deferred_laws.specs.Tags.{start_of}
-use Rattle.layout_laws.proofs.Reached.{same_number}
-use Rattle.standing_laws.specs.Domain.{DomainNow}
-use Rattle.standing_laws.specs.Holders.Holder.{of_file, of_volume}
+use Rattle.standing_laws.specs.domain_base.declared.place.CellAt.{CellAt}
+use Rattle.standing_laws.specs.domain_base.declared.place.Home.{Home}
+use Rattle.standing_laws.specs.domain_base.declared.place.Tag.{Tag}
+use Rattle.standing_laws.specs.extent_maps.declared.run.PagePlace.TheVariants.{At}
+use Rattle.standing_laws.specs.fileset_files.Files.{Chains, place_at}
+use Rattle.standing_laws.specs.release_list.Standing.{Files, place_in}
+use Rattle.standing_laws.specs.release_steps.Tags.{start_of}
+use Rattle.standing_laws.proofs.OfDomainLayout.Reached.{same_number}
+use Rattle.standing_laws.specs.domain_standing.Domain.{DomainNow}
+use Rattle.standing_laws.specs.domain_standing.Holders.Holder.{of_file, of_volume}
 use Rattle.standing_laws.specs.Leads.{LeadsOn}
 use Rattle.standing_laws.proofs.OtherSlots.{bytes_same, links_of, slot_stays}
 use Rattle.standing_laws.proofs.ParentsElsewhere.{parents_elsewhere}

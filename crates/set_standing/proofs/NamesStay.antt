@@ -2,26 +2,26 @@
 use Rattle.std.proofs.Common.{◌≡◌, ◌∙◌, ◌⊎◌, ℕ, Bool, true, false, cond, List, [], ◌∷◌, Option, Some, None, Contains, inl, inr, refl, sym, ap, subst, arith, ⊎_elim}
 use Rattle.std.proofs.lemmas.Bool.{cases_Bool}
 use Rattle.std.specs.Option.{option_and_then, option_map}
-use Rattle.domain_base.specs.declared.place.CellAt.{CellAt}
-use Rattle.domain_base.specs.declared.place.Home.{Home}
-use Rattle.domain_base.specs.declared.place.Tag.{Tag}
-use Rattle.domain_base.specs.declared.version.Version.{Version}
-use Rattle.page_store.specs.Bitfiles.{same_tag}
-use Rattle.bmt_mcells.specs.Cell.{Cell}
-use Rattle.bmt_mcells.specs.Chain.{PlacedCell}
-use Rattle.bitfile_cells.specs.FileChanges.{SameFirst}
-use Rattle.bitfile_core.specs.Changes.{with_chain, with_first, without_chain}
-use Rattle.bitfile_core.specs.Creation.{with_new}
-use Rattle.bitfile_core.specs.Files.{Chains}
-use Rattle.bitfile_core.proofs.OneChain.{chain_other, chain_same}
-use Rattle.bitfile_core.proofs.OneFile.{tags_same}
-use Rattle.deferred_delete.specs.Standing.{Files}
-use Rattle.deferred_delete.proofs.Spread.{none_not, some_same}
-use Rattle.deferred_delete.proofs.Standings.{at_itself}
-use Rattle.deferred_laws.specs.Calls.{Call, FilesetNow, SetsFirst, cut, described, dropped, given, indexed, made, moved, put_in, refused}
-use Rattle.deferred_laws.specs.Tags.{start_of}
-use Rattle.standing_laws.specs.Chains.{IndexesAt}
-use Rattle.standing_laws.specs.Domain.{DomainNow}
+use Rattle.standing_laws.specs.domain_base.declared.place.CellAt.{CellAt}
+use Rattle.standing_laws.specs.domain_base.declared.place.Home.{Home}
+use Rattle.standing_laws.specs.domain_base.declared.place.Tag.{Tag}
+use Rattle.standing_laws.specs.domain_base.declared.version.Version.{Version}
+use Rattle.standing_laws.specs.page_store.Bitfiles.{same_tag}
+use Rattle.standing_laws.specs.metadata_cells.Cell.{Cell}
+use Rattle.standing_laws.specs.metadata_cells.Chain.{PlacedCell}
+use Rattle.standing_laws.specs.file_chains.FileChanges.{SameFirst}
+use Rattle.standing_laws.specs.fileset_files.Changes.{with_chain, with_first, without_chain}
+use Rattle.standing_laws.specs.fileset_files.Creation.{with_new}
+use Rattle.standing_laws.specs.fileset_files.Files.{Chains}
+use Rattle.standing_laws.proofs.OfFilesetFiles.OneChain.{chain_other, chain_same}
+use Rattle.standing_laws.proofs.OfFilesetFiles.OneFile.{tags_same}
+use Rattle.standing_laws.specs.release_list.Standing.{Files}
+use Rattle.standing_laws.proofs.OfReleaseList.Spread.{none_not, some_same}
+use Rattle.standing_laws.proofs.OfReleaseList.Standings.{at_itself}
+use Rattle.standing_laws.specs.release_steps.Calls.{Call, FilesetNow, SetsFirst, cut, described, dropped, given, indexed, made, moved, put_in, refused}
+use Rattle.standing_laws.specs.release_steps.Tags.{start_of}
+use Rattle.standing_laws.specs.domain_standing.Chains.{IndexesAt}
+use Rattle.standing_laws.specs.domain_standing.Domain.{DomainNow}
 use Rattle.standing_laws.specs.IndexCalls.{with_index_at}
 use Rattle.standing_laws.specs.Leads.{MayCall}
 use Rattle.standing_laws.specs.Left.{LeavesNothing}

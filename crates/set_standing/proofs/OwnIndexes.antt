@@ -2,33 +2,33 @@
 use Rattle.std.proofs.Common.{◌≡◌, ◌∙◌, ℕ, Bool, true, false, cond, List, [], ◌∷◌, Option, Some, None, IfSome, IsSome, IsSomeAnd, Contains, length, refl, sym, ap, subst, arith, ⊎_elim, true≢false}
 use Rattle.std.specs.List.{AllByRecursion}
 use Rattle.std.specs.Option.{option_and_then, option_map_or}
-use Rattle.domain_base.specs.declared.place.CellAt.{CellAt}
-use Rattle.domain_base.specs.declared.place.Home.{Home}
-use Rattle.domain_base.specs.declared.place.Kind.{Kind}
-use Rattle.domain_base.specs.declared.place.Kind.TheVariants.{Directory, File}
-use Rattle.domain_base.specs.declared.place.Tag.{Tag}
-use Rattle.page_store.specs.Bitfiles.{Bitfile}
-use Rattle.page_store.specs.Pages.{Pages}
-use Rattle.record_table.specs.Records.{kind_of}
-use Rattle.record_table.specs.declared.record.Record.{Record}
-use Rattle.record_table.specs.declared.record.Record.TheVariants as written
-use Rattle.bmt_mcells.specs.Cell.{record_of}
-use Rattle.bmt_mcells.specs.Chain.{PlacedCell}
-use Rattle.dir_index.specs.Index.{IsIndexPage}
-use Rattle.bitfile_cells.specs.Files.{IsFile}
-use Rattle.bitfile_cells.proofs.MapRecords.{kind_found}
-use Rattle.bitfile_core.specs.Files.{attributes_in, attributes_of, is_removed, of_live}
-use Rattle.bitfile_core.specs.Shown.{ShowsAt, ShowsFile, index_of}
-use Rattle.bitfile_core.proofs.Created.{one_chains}
-use Rattle.bitfile_laws.proofs.Parts.{FileAt, file_at}
-use Rattle.stored_index.specs.Homes.{AreIndexHomes, shown_at}
-use Rattle.set_laws.proofs.IndexPut.{index_is}
-use Rattle.fileset_model.specs.declared.fileset.FilesetSlot.{FilesetSlot}
-use Rattle.fileset_table.specs.declared.slot.FilesetEntry.{FilesetEntry}
-use Rattle.deferred_delete.proofs.Spread.{none_not}
-use Rattle.deferred_laws.specs.Tags.{start_of}
-use Rattle.domain_layout.specs.Shape.{FilesetShape}
-use Rattle.standing_laws.specs.Domain.{DomainNow}
+use Rattle.standing_laws.specs.domain_base.declared.place.CellAt.{CellAt}
+use Rattle.standing_laws.specs.domain_base.declared.place.Home.{Home}
+use Rattle.standing_laws.specs.domain_base.declared.place.Kind.{Kind}
+use Rattle.standing_laws.specs.domain_base.declared.place.Kind.TheVariants.{Directory, File}
+use Rattle.standing_laws.specs.domain_base.declared.place.Tag.{Tag}
+use Rattle.standing_laws.specs.page_store.Bitfiles.{Bitfile}
+use Rattle.standing_laws.specs.page_store.Pages.{Pages}
+use Rattle.standing_laws.specs.cell_records.Records.{kind_of}
+use Rattle.standing_laws.specs.cell_records.declared.record.Record.{Record}
+use Rattle.standing_laws.specs.cell_records.declared.record.Record.TheVariants as written
+use Rattle.standing_laws.specs.metadata_cells.Cell.{record_of}
+use Rattle.standing_laws.specs.metadata_cells.Chain.{PlacedCell}
+use Rattle.standing_laws.specs.directory_pages.Index.{IsIndexPage}
+use Rattle.standing_laws.specs.file_chains.Files.{IsFile}
+use Rattle.standing_laws.proofs.OfFileChains.MapRecords.{kind_found}
+use Rattle.standing_laws.specs.fileset_files.Files.{attributes_in, attributes_of, is_removed, of_live}
+use Rattle.standing_laws.specs.fileset_files.Shown.{ShowsAt, ShowsFile, index_of}
+use Rattle.standing_laws.proofs.OfFilesetFiles.Created.{one_chains}
+use Rattle.standing_laws.proofs.OfFilesetFiles.Parts.{FileAt, file_at}
+use Rattle.standing_laws.specs.index_pages.Homes.{AreIndexHomes, shown_at}
+use Rattle.standing_laws.proofs.OfStoredSet.IndexPut.{index_is}
+use Rattle.standing_laws.specs.fileset_model.declared.fileset.FilesetSlot.{FilesetSlot}
+use Rattle.standing_laws.specs.fileset_table.declared.slot.FilesetEntry.{FilesetEntry}
+use Rattle.standing_laws.proofs.OfReleaseList.Spread.{none_not}
+use Rattle.standing_laws.specs.release_steps.Tags.{start_of}
+use Rattle.standing_laws.specs.domain_layout.Shape.{FilesetShape}
+use Rattle.standing_laws.specs.domain_standing.Domain.{DomainNow}
 use Rattle.standing_laws.specs.Slots.{StandsSlot}
 use Rattle.standing_laws.specs.Sound.{IsSound}
 use Rattle.standing_laws.proofs.SoundParted.{sound_whole}

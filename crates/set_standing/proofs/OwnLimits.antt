@@ -1,19 +1,19 @@
 -- Owners of a slot keep their limits where its quota cells stay.
 use Rattle.std.proofs.Common.{◌≡◌, ◌∙◌, ℕ, List, Option, Some, None, IsSomeAnd, refl, ap}
 use Rattle.std.specs.Option.{option_and_then}
-use Rattle.domain_base.specs.declared.place.CellAt.{CellAt}
-use Rattle.record_table.specs.declared.record.Record.{Record}
-use Rattle.bmt_mcells.specs.Chain.{LinksFrom, PlacedCell, records_of}
-use Rattle.fileset_model.specs.declared.command.Owner.{Owner}
-use Rattle.fileset_model.specs.declared.fileset.Limits.{Limits}
-use Rattle.fileset_table.specs.declared.slot.FilesetEntry.{FilesetEntry}
-use Rattle.fileset_table.specs.declared.slot.SlotItem.TheVariants as slot
-use Rattle.deferred_delete.specs.Standing.{Files}
-use Rattle.domain_layout.proofs.OneShape.{links_same}
-use Rattle.domain_layout.specs.Shape.{AreLimits, AreQuotas}
-use Rattle.domain_layout.specs.TagRules.{quota_of}
-use Rattle.standing_laws.specs.Chains.{AreQuotasOf, IsQuotaOf}
-use Rattle.standing_laws.specs.Domain.{DomainNow, item_in}
+use Rattle.standing_laws.specs.domain_base.declared.place.CellAt.{CellAt}
+use Rattle.standing_laws.specs.cell_records.declared.record.Record.{Record}
+use Rattle.standing_laws.specs.metadata_cells.Chain.{LinksFrom, PlacedCell, records_of}
+use Rattle.standing_laws.specs.fileset_values.declared.command.Owner.{Owner}
+use Rattle.standing_laws.specs.fileset_model.declared.fileset.Limits.{Limits}
+use Rattle.standing_laws.specs.fileset_table.declared.slot.FilesetEntry.{FilesetEntry}
+use Rattle.standing_laws.specs.fileset_table.declared.slot.SlotItem.TheVariants as slot
+use Rattle.standing_laws.specs.release_list.Standing.{Files}
+use Rattle.standing_laws.proofs.OfDomainLayout.OneShape.{links_same}
+use Rattle.standing_laws.specs.domain_layout.Shape.{AreLimits, AreQuotas}
+use Rattle.standing_laws.specs.domain_layout.TagRules.{quota_of}
+use Rattle.standing_laws.specs.domain_standing.Chains.{AreQuotasOf, IsQuotaOf}
+use Rattle.standing_laws.specs.domain_standing.Domain.{DomainNow, item_in}
 use Rattle.standing_laws.proofs.OtherSlots.{links_of}
 
 module _ (n : ℕ) (d now : DomainNow) (files : Files) (named : (at : CellAt) → IsQuotaOf d n at → IsSomeAnd (files at) (AreQuotasOf d n at)) (links : (at : CellAt) (cs : List PlacedCell) → files at ≡ Some cs → AreQuotasOf d n at cs → LinksFrom now.pages at cs)

@@ -1,17 +1,17 @@
 -- Pages of the files of a slot.
 use Rattle.std.proofs.Common.{◌≡◌, ◌∙◌, ℕ, List, Option, Some, None, Contains, refl, ap}
 use Rattle.std.specs.Option.{option_map_or}
-use Rattle.domain_base.specs.declared.place.CellAt.{CellAt}
-use Rattle.domain_base.specs.declared.place.Home.{Home}
-use Rattle.domain_base.specs.declared.place.Tag.{Tag}
-use Rattle.bmt_mcells.specs.Chain.{PlacedCell}
-use Rattle.extent_maps.specs.declared.run.PagePlace.TheVariants.{Absent, At}
-use Rattle.bitfile_cells.specs.Files.{places_of}
-use Rattle.bitfile_core.specs.Files.{place_at}
-use Rattle.deferred_delete.specs.Standing.{place_in}
-use Rattle.deferred_laws.proofs.Tags.{IsNamed, named}
-use Rattle.standing_laws.specs.Domain.{DomainNow}
-use Rattle.standing_laws.specs.Holders.Holder.{of_file, of_index}
+use Rattle.standing_laws.specs.domain_base.declared.place.CellAt.{CellAt}
+use Rattle.standing_laws.specs.domain_base.declared.place.Home.{Home}
+use Rattle.standing_laws.specs.domain_base.declared.place.Tag.{Tag}
+use Rattle.standing_laws.specs.metadata_cells.Chain.{PlacedCell}
+use Rattle.standing_laws.specs.extent_maps.declared.run.PagePlace.TheVariants.{Absent, At}
+use Rattle.standing_laws.specs.file_chains.Files.{places_of}
+use Rattle.standing_laws.specs.fileset_files.Files.{place_at}
+use Rattle.standing_laws.specs.release_list.Standing.{place_in}
+use Rattle.standing_laws.proofs.OfReleaseSteps.Tags.{IsNamed, named}
+use Rattle.standing_laws.specs.domain_standing.Domain.{DomainNow}
+use Rattle.standing_laws.specs.domain_standing.Holders.Holder.{of_file, of_index}
 use Rattle.standing_laws.proofs.HomeLists.{in_get}
 use Rattle.standing_laws.proofs.OtherSlots.{seen_place}
 use Rattle.set_standing.specs.Around.{BytesFollow, StandsAtSlot}

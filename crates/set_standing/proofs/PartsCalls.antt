@@ -1,37 +1,37 @@
 -- A domain stands on around a slot after each call that changes its set of files, by the parts in which they stand.
 use Rattle.std.proofs.Common.{◌≡◌, ◌∙◌, ◌⊎◌, ◌<◌, ◌≤◌, ℕ, List, [], Option, Some, None, IsSomeAnd, refl, sym, ap, subst}
 use Rattle.std.specs.Option.{option_and_then}
-use Rattle.domain_base.specs.Limits.{file_pages, max_links}
-use Rattle.domain_base.specs.declared.place.Home.{Home}
-use Rattle.domain_base.specs.declared.place.Tag.{Tag}
-use Rattle.domain_base.specs.declared.version.Version.{Version}
-use Rattle.page_store.specs.Bitfiles.{Bitfiles as SetOf, IsDirectory, count_pages}
-use Rattle.page_store.specs.Pages.{Pages}
-use Rattle.tag_dirs.specs.declared.dir.TagPlace.{TagPlace}
-use Rattle.extent_maps.specs.declared.run.PagePlace.TheVariants.{At}
-use Rattle.free_space.specs.Spaces.{Spaces, missed}
-use Rattle.bitfile_cells.specs.FileChanges.{LeavesOtherCells}
-use Rattle.bitfile_core.specs.declared.attributes.Attributes.{Attributes}
-use Rattle.bitfile_core.specs.declared.new_cells.NewFile.{NewFile}
-use Rattle.bitfile_core.specs.Changes.{ChangesFirst, says_attributes, says_parent, with_chain, with_first}
-use Rattle.bitfile_core.specs.Creation.{Creates, LeavesBeside, TakesForFile, TakesNext}
-use Rattle.bitfile_core.specs.Files.{AreFiles, Chains, attributes_of, of_live, place_at}
-use Rattle.bitfile_core.specs.Shown.{index_of}
-use Rattle.bitfile_core.specs.Together.{AreTogether}
-use Rattle.stored_index.specs.Homes.{AreIndexHomes}
-use Rattle.standing_laws.specs.Sets.{AddsIndexPage, AddsPage, StandsAsSet, WritesIndexPage, attributes_at}
-use Rattle.deferred_delete.specs.Listing.{Listing}
-use Rattle.deferred_laws.specs.Tags.{start_of}
+use Rattle.standing_laws.specs.domain_base.Limits.{file_pages, max_links}
+use Rattle.standing_laws.specs.domain_base.declared.place.Home.{Home}
+use Rattle.standing_laws.specs.domain_base.declared.place.Tag.{Tag}
+use Rattle.standing_laws.specs.domain_base.declared.version.Version.{Version}
+use Rattle.standing_laws.specs.page_store.Bitfiles.{Bitfiles as SetOf, IsDirectory, count_pages}
+use Rattle.standing_laws.specs.page_store.Pages.{Pages}
+use Rattle.standing_laws.specs.tag_dirs.declared.dir.TagPlace.{TagPlace}
+use Rattle.standing_laws.specs.extent_maps.declared.run.PagePlace.TheVariants.{At}
+use Rattle.standing_laws.specs.free_space.Spaces.{Spaces, missed}
+use Rattle.standing_laws.specs.file_chains.FileChanges.{LeavesOtherCells}
+use Rattle.standing_laws.specs.fileset_files.declared.attributes.Attributes.{Attributes}
+use Rattle.standing_laws.specs.fileset_files.declared.new_cells.NewFile.{NewFile}
+use Rattle.standing_laws.specs.fileset_files.Changes.{ChangesFirst, says_attributes, says_parent, with_chain, with_first}
+use Rattle.standing_laws.specs.fileset_files.Creation.{Creates, LeavesBeside, TakesForFile, TakesNext}
+use Rattle.standing_laws.specs.fileset_files.Files.{AreFiles, Chains, attributes_of, of_live, place_at}
+use Rattle.standing_laws.specs.fileset_files.Shown.{index_of}
+use Rattle.standing_laws.specs.fileset_files.Together.{AreTogether}
+use Rattle.standing_laws.specs.index_pages.Homes.{AreIndexHomes}
+use Rattle.standing_laws.specs.stored_set.Sets.{AddsIndexPage, AddsPage, StandsAsSet, WritesIndexPage, attributes_at}
+use Rattle.standing_laws.specs.release_list.Listing.{Listing}
+use Rattle.standing_laws.specs.release_steps.Tags.{start_of}
 use Rattle.standing_laws.specs.IndexCalls.{KeepsTables}
 use Rattle.standing_laws.specs.OtherPages.{KeepsPlaces}
 use Rattle.set_standing.specs.Around.{BytesFollow, ChangesSlot, GoesOnAround, StandsAround}
 use Rattle.set_standing.specs.Parts.{KeepsAround, Parts, Surroundings, TagsOf, domain_of}
 use Rattle.set_standing.proofs.Added.{is_added}
 use Rattle.set_standing.proofs.CallsAround.{is_linked, is_made, is_put_in, is_refused}
-use Rattle.set_standing.proofs.Directories.{first_there, index_there, is_live}
+use Rattle.set_standing.proofs.AroundDirectories.{first_there, index_there, is_live}
 use Rattle.set_standing.proofs.IndexAround.{is_put_in as is_inserted, is_written as is_reindexed}
 use Rattle.set_standing.proofs.PartsKept.{same_tags}
-use Rattle.set_standing.proofs.Written.{is_written}
+use Rattle.set_standing.proofs.AroundWritten.{is_written}
 
 module _ (number : ℕ) (version : Version) (born : ℕ) (p q : Parts) where
   slot_changes : (s : Surroundings) (tags tags_now : ℕ → List TagPlace) (list list_now : Listing) → TagsOf number p q tags tags_now → list_now ≡ list → ChangesSlot number (domain_of s tags p list) (domain_of s tags_now q list_now)

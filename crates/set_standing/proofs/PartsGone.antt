@@ -1,25 +1,25 @@
 -- A domain stands on around a slot where a file of it is taken away, by the parts in which the slot's files stand.
 use Rattle.std.proofs.Common.{◌≡◌, ◌∙◌, ℕ, Bool, true, false, cond, List, [], ◌∷◌, Option, Some, None, refl, sym, subst}
 use Rattle.std.specs.Option.{option_and_then}
-use Rattle.domain_base.specs.declared.place.CellAt.{CellAt}
-use Rattle.domain_base.specs.declared.place.Home.{Home}
-use Rattle.domain_base.specs.declared.place.Tag.{Tag}
-use Rattle.domain_base.specs.declared.version.Version.{Version}
-use Rattle.page_store.specs.Bitfiles.{Bitfiles as SetOf, same_tag}
-use Rattle.page_store.specs.Pages.{Pages}
-use Rattle.tag_dirs.specs.declared.dir.TagPlace.{TagPlace}
-use Rattle.free_space.specs.Spaces.{Spaces}
-use Rattle.bitfile_core.specs.Changes.{KeepsSequences, Removes, with_first, without_chain}
-use Rattle.bitfile_core.specs.Files.{AreFiles, Chains}
-use Rattle.bitfile_core.specs.Index.{says_index}
-use Rattle.bitfile_core.specs.Shown.{index_of}
-use Rattle.bitfile_core.specs.Together.{AreTogether}
-use Rattle.bitfile_core.proofs.Created.{one_chains}
-use Rattle.bitfile_core.proofs.OneChain.{chain_other}
-use Rattle.stored_index.specs.Homes.{AreIndexHomes}
-use Rattle.standing_laws.specs.Sets.{GivesIndexBack, StandsAsSet, without_index, without_index_from}
-use Rattle.deferred_delete.specs.Listing.{Listing}
-use Rattle.standing_laws.specs.Domain.{DomainNow}
+use Rattle.standing_laws.specs.domain_base.declared.place.CellAt.{CellAt}
+use Rattle.standing_laws.specs.domain_base.declared.place.Home.{Home}
+use Rattle.standing_laws.specs.domain_base.declared.place.Tag.{Tag}
+use Rattle.standing_laws.specs.domain_base.declared.version.Version.{Version}
+use Rattle.standing_laws.specs.page_store.Bitfiles.{Bitfiles as SetOf, same_tag}
+use Rattle.standing_laws.specs.page_store.Pages.{Pages}
+use Rattle.standing_laws.specs.tag_dirs.declared.dir.TagPlace.{TagPlace}
+use Rattle.standing_laws.specs.free_space.Spaces.{Spaces}
+use Rattle.standing_laws.specs.fileset_files.Changes.{KeepsSequences, Removes, with_first, without_chain}
+use Rattle.standing_laws.specs.fileset_files.Files.{AreFiles, Chains}
+use Rattle.standing_laws.specs.fileset_files.Index.{says_index}
+use Rattle.standing_laws.specs.fileset_files.Shown.{index_of}
+use Rattle.standing_laws.specs.fileset_files.Together.{AreTogether}
+use Rattle.standing_laws.proofs.OfFilesetFiles.Created.{one_chains}
+use Rattle.standing_laws.proofs.OfFilesetFiles.OneChain.{chain_other}
+use Rattle.standing_laws.specs.index_pages.Homes.{AreIndexHomes}
+use Rattle.standing_laws.specs.stored_set.Sets.{GivesIndexBack, StandsAsSet, without_index, without_index_from}
+use Rattle.standing_laws.specs.release_list.Listing.{Listing}
+use Rattle.standing_laws.specs.domain_standing.Domain.{DomainNow}
 use Rattle.standing_laws.proofs.IndexSet.{IsChain}
 use Rattle.set_standing.specs.Around.{GoesOnAround, StandsAround}
 use Rattle.set_standing.specs.Parts.{AddsFiles, KeepsAround, Parts, Surroundings, TagsOf, domain_of}

@@ -1,11 +1,11 @@
 -- A domain stands on around a slot where nothing of its parts changes, and after one change and another.
 use Rattle.std.proofs.Common.{◌≡◌, ◌∙◌, ◌==◌, ◌++◌, ℕ, cond, List, [], ◌∷◌, None, refl, sym, ap, subst, eqb-true, ⊎_elim}
 use Rattle.std.proofs.lemmas.Bool.{eq-eqb, false_from_ne_true}
-use Rattle.domain_base.specs.declared.place.CellAt.{CellAt}
-use Rattle.domain_base.specs.declared.version.Version.{Version}
-use Rattle.tag_dirs.specs.declared.dir.TagPlace.{TagPlace}
-use Rattle.deferred_delete.specs.Listing.{Listing}
-use Rattle.layout_laws.proofs.Reached.{same_number}
+use Rattle.standing_laws.specs.domain_base.declared.place.CellAt.{CellAt}
+use Rattle.standing_laws.specs.domain_base.declared.version.Version.{Version}
+use Rattle.standing_laws.specs.tag_dirs.declared.dir.TagPlace.{TagPlace}
+use Rattle.standing_laws.specs.release_list.Listing.{Listing}
+use Rattle.standing_laws.proofs.OfDomainLayout.Reached.{same_number}
 use Rattle.set_standing.specs.Around.{GoesOnAround}
 use Rattle.set_standing.specs.Follow.{Said}
 use Rattle.set_standing.specs.Parts.{AddsFiles, KeepsAround, Parts, TagsOf, domain_of}

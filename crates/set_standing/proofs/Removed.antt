@@ -2,37 +2,37 @@
 use Rattle.std.proofs.Common.{◌≡◌, ◌∙◌, ℕ, false, List, [], ◌∷◌, Option, Some, None, IfSome, IsSomeAnd, Contains, inl, is_some, slice_get, refl, sym, ap, subst}
 use Rattle.std.proofs.lemmas.List.{append-nil}
 use Rattle.std.specs.Option.{option_and_then, option_map}
-use Rattle.domain_base.specs.declared.place.CellAt.{CellAt}
-use Rattle.domain_base.specs.declared.place.Home.{Home}
-use Rattle.domain_base.specs.declared.place.Tag.{Tag}
-use Rattle.page_store.specs.Pages.{Pages, same_home}
-use Rattle.record_table.specs.declared.record.Leftover.TheVariants.{Remove}
-use Rattle.record_table.specs.declared.record.Record.TheVariants as written
-use Rattle.bmt_mcells.specs.Cell.{Cell, record_of}
-use Rattle.bmt_mcells.specs.CellPage.{cell_at, home_of}
-use Rattle.bmt_mcells.specs.Chain.{PlacedCell}
-use Rattle.tag_dirs.proofs.Slots.{off_slot}
-use Rattle.free_cells.specs.Cells.{table_of}
-use Rattle.free_space.specs.Spaces.{Spaces}
-use Rattle.extent_maps.specs.declared.run.PagePlace.TheVariants.{At}
-use Rattle.bitfile_cells.specs.Files.{AreFile, IsFile}
-use Rattle.bitfile_core.specs.Changes.{ChangesBeside, KeepsSequences, Removes, says_removed, with_first, without_chain}
-use Rattle.bitfile_core.specs.Files.{LeadsToFile, first_record, place_at}
-use Rattle.bitfile_core.specs.Index.{says_index}
-use Rattle.bitfile_core.specs.Shown.{index_of}
-use Rattle.bitfile_core.specs.Together.{AreTogether}
-use Rattle.bitfile_core.proofs.OneChain.{chain_same, same_tag_itself}
-use Rattle.standing_laws.specs.Sets.{GivesIndexBack, without_index, without_index_from}
-use Rattle.deferred_delete.specs.Listed.{IsEntry}
-use Rattle.deferred_delete.specs.Listing.{Adds, Listing}
-use Rattle.deferred_delete.specs.Standing.{Files, ReadsThrough, source_at, with_file}
-use Rattle.deferred_delete.proofs.Spread.{none_not}
-use Rattle.deferred_delete.proofs.Standings.{file_there}
-use Rattle.deferred_laws.specs.Tags.{AreAmong, start_of}
-use Rattle.deferred_laws.proofs.FirstWell.{removed_beside}
-use Rattle.domain_layout.specs.Filled.{Contents}
-use Rattle.fileset_table.specs.Table.{Table}
-use Rattle.standing_laws.specs.Domain.{DomainNow, all_of}
+use Rattle.standing_laws.specs.domain_base.declared.place.CellAt.{CellAt}
+use Rattle.standing_laws.specs.domain_base.declared.place.Home.{Home}
+use Rattle.standing_laws.specs.domain_base.declared.place.Tag.{Tag}
+use Rattle.standing_laws.specs.page_store.Pages.{Pages, same_home}
+use Rattle.standing_laws.specs.cell_records.declared.record.Leftover.TheVariants.{Remove}
+use Rattle.standing_laws.specs.cell_records.declared.record.Record.TheVariants as written
+use Rattle.standing_laws.specs.metadata_cells.Cell.{Cell, record_of}
+use Rattle.standing_laws.specs.metadata_cells.CellPage.{cell_at, home_of}
+use Rattle.standing_laws.specs.metadata_cells.Chain.{PlacedCell}
+use Rattle.standing_laws.proofs.OfTagDirs.Slots.{off_slot}
+use Rattle.standing_laws.specs.free_cells.Cells.{table_of}
+use Rattle.standing_laws.specs.free_space.Spaces.{Spaces}
+use Rattle.standing_laws.specs.extent_maps.declared.run.PagePlace.TheVariants.{At}
+use Rattle.standing_laws.specs.file_chains.Files.{AreFile, IsFile}
+use Rattle.standing_laws.specs.fileset_files.Changes.{ChangesBeside, KeepsSequences, Removes, says_removed, with_first, without_chain}
+use Rattle.standing_laws.specs.fileset_files.Files.{LeadsToFile, first_record, place_at}
+use Rattle.standing_laws.specs.fileset_files.Index.{says_index}
+use Rattle.standing_laws.specs.fileset_files.Shown.{index_of}
+use Rattle.standing_laws.specs.fileset_files.Together.{AreTogether}
+use Rattle.standing_laws.proofs.OfFilesetFiles.OneChain.{chain_same, same_tag_itself}
+use Rattle.standing_laws.specs.stored_set.Sets.{GivesIndexBack, without_index, without_index_from}
+use Rattle.standing_laws.specs.release_list.Listed.{IsEntry}
+use Rattle.standing_laws.specs.release_list.Listing.{Adds, Listing}
+use Rattle.standing_laws.specs.release_list.Standing.{Files, ReadsThrough, source_at, with_file}
+use Rattle.standing_laws.proofs.OfReleaseList.Spread.{none_not}
+use Rattle.standing_laws.proofs.OfReleaseList.Standings.{file_there}
+use Rattle.standing_laws.specs.release_steps.Tags.{AreAmong, start_of}
+use Rattle.standing_laws.proofs.OfReleaseSteps.FirstWell.{removed_beside}
+use Rattle.standing_laws.specs.domain_layout.Filled.{Contents}
+use Rattle.standing_laws.specs.fileset_table.Table.{Table}
+use Rattle.standing_laws.specs.domain_standing.Domain.{DomainNow, all_of}
 use Rattle.standing_laws.specs.IndexCalls.{KeepsTables, with_index_at, with_removed}
 use Rattle.standing_laws.specs.Leads.{StandsBelow}
 use Rattle.standing_laws.specs.SlotsStay.{OthersStand}

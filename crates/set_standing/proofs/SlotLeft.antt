@@ -1,25 +1,25 @@
 -- A domain stands for the same filesets where a file goes of what is being removed from a slot.
 use Rattle.std.proofs.Common.{◌≡◌, ◌∙◌, ◌==◌, ⊎_elim, ℕ, List, Some, None, eqb-true, slice_get, sym, ap, subst}
 use Rattle.std.proofs.lemmas.Bool.{both_ways, cases_Bool, eq-eqb}
-use Rattle.domain_base.specs.declared.place.Tag.{Tag}
-use Rattle.domain_base.specs.declared.place.CellAt.{CellAt}
-use Rattle.bmt_mcells.specs.Chain.{PlacedCell}
-use Rattle.fileset_model.specs.Filesets.{FilesetMap}
-use Rattle.fileset_table.specs.Table.{Table}
-use Rattle.fileset_table.specs.declared.slot.FilesetEntry.{FilesetEntry}
-use Rattle.fileset_table.specs.declared.slot.SlotItem.{SlotItem}
-use Rattle.fileset_table.specs.declared.slot.SlotItem.TheVariants as slot
-use Rattle.free_space.specs.Spaces.{Spaces}
-use Rattle.domain_layout.specs.DirectoryRules.{IsInItem}
-use Rattle.domain_layout.specs.Seen.{SeenFile}
-use Rattle.deferred_delete.specs.Standing.{Files, source_at}
-use Rattle.standing_laws.specs.Chains.{HasFilesAmong, IndexesAt, IsRemoved}
-use Rattle.standing_laws.specs.Domain.{DomainNow, item_in}
+use Rattle.standing_laws.specs.domain_base.declared.place.Tag.{Tag}
+use Rattle.standing_laws.specs.domain_base.declared.place.CellAt.{CellAt}
+use Rattle.standing_laws.specs.metadata_cells.Chain.{PlacedCell}
+use Rattle.standing_laws.specs.fileset_model.Filesets.{FilesetMap}
+use Rattle.standing_laws.specs.fileset_table.Table.{Table}
+use Rattle.standing_laws.specs.fileset_table.declared.slot.FilesetEntry.{FilesetEntry}
+use Rattle.standing_laws.specs.fileset_table.declared.slot.SlotItem.{SlotItem}
+use Rattle.standing_laws.specs.fileset_table.declared.slot.SlotItem.TheVariants as slot
+use Rattle.standing_laws.specs.free_space.Spaces.{Spaces}
+use Rattle.standing_laws.specs.domain_layout.DirectoryRules.{IsInItem}
+use Rattle.standing_laws.specs.domain_layout.Seen.{SeenFile}
+use Rattle.standing_laws.specs.release_list.Standing.{Files, source_at}
+use Rattle.standing_laws.specs.domain_standing.Chains.{HasFilesAmong, IndexesAt, IsRemoved}
+use Rattle.standing_laws.specs.domain_standing.Domain.{DomainNow, item_in}
 use Rattle.standing_laws.specs.Leads.{StandsBelow}
 use Rattle.standing_laws.specs.Sound.{IsSound, StandsSound}
-use Rattle.standing_laws.specs.Sources.{StandAlone}
+use Rattle.standing_laws.specs.domain_standing.Sources.{StandAlone}
 use Rattle.standing_laws.specs.SlotParents.{HaveParentsIn, StandsForSome}
-use Rattle.standing_laws.specs.Standing.{HaveParents, IsMarkedBut, StandsDomain}
+use Rattle.standing_laws.specs.domain_standing.Standing.{HaveParents, IsMarkedBut, StandsDomain}
 use Rattle.standing_laws.proofs.AllStay.{all_stay}
 use Rattle.standing_laws.proofs.BitsStay.{bits_stay}
 use Rattle.standing_laws.proofs.FilesetPut.{stood_in}

@@ -1,135 +1,59 @@
--- A domain stands on around a slot where a page of a file is put in place.
-use Rattle.std.proofs.Common.{◌≡◌, ◌∙◌, ℕ, Bool, true, false, List, [], Option, Some, None, IfSome, Contains, refl, sym, ap, subst, true≢false}
-use Rattle.std.proofs.lemmas.List.{append-nil}
-use Rattle.std.specs.Option.{option_map_or}
-use Rattle.domain_base.specs.declared.place.CellAt.{CellAt}
-use Rattle.domain_base.specs.declared.place.Home.{Home}
-use Rattle.domain_base.specs.declared.place.Kind.TheVariants.{Directory, File}
-use Rattle.domain_base.specs.declared.place.Tag.{Tag}
-use Rattle.page_store.specs.Bitfiles.{same_tag}
-use Rattle.page_store.specs.Pages.{Pages}
-use Rattle.bmt_mcells.specs.CellPage.{cell_at, home_of}
-use Rattle.bmt_mcells.specs.Chain.{PlacedCell}
-use Rattle.tag_dirs.specs.Directory.{cell_of, has_home}
-use Rattle.extent_maps.specs.declared.run.PagePlace.TheVariants.{Absent, At}
-use Rattle.free_cells.specs.Cells.{table_of}
-use Rattle.bitfile_cells.specs.Files.{places_of}
-use Rattle.bitfile_core.specs.Creation.{last_sequence}
-use Rattle.bitfile_core.specs.Files.{LeadsToFile, place_at}
-use Rattle.bitfile_core.specs.Together.{AreTogether}
-use Rattle.bitfile_core.proofs.OneFile.{tags_same}
-use Rattle.set_laws.proofs.Together.{together_away}
-use Rattle.deferred_delete.specs.Standing.{place_in}
-use Rattle.deferred_laws.proofs.Tags.{IsNamed, named}
-use Rattle.domain_layout.specs.Filled.{Contents}
-use Rattle.standing_laws.specs.Domain.{DomainNow}
-use Rattle.standing_laws.specs.Holders.Holder.{of_file}
-use Rattle.standing_laws.specs.Leads.{IsLiveOf, StandsBelow}
-use Rattle.standing_laws.specs.OtherPages.{KeepsPlaces, KeepsWhere}
-use Rattle.standing_laws.proofs.OthersStand.{others_stand}
-use Rattle.standing_laws.proofs.SoundInPlace.{but_elsewhere}
-use Rattle.set_standing.specs.Around.{BytesFollow, GoesOnAround, IsNamedIn, StandsAround}
-use Rattle.set_standing.specs.Follow.{FilesFollow, TagFollows}
-use Rattle.set_standing.proofs.Again.{at_slot, its_number, says_some}
-use Rattle.set_standing.proofs.Aside.{stays_aside}
-use Rattle.set_standing.proofs.FilesKept.{KeepsBytesOf, files_by, seen_directory, tag_same}
-use Rattle.set_standing.proofs.Following.{kept_sequences, other_begins, same_sequences}
-use Rattle.set_standing.proofs.OwnPages.{held_for, page_bytes}
+-- A file that a command writes.
+use Rattle.std.proofs.Common.{◌≡◌, ◌∙◌, ℕ, ◌+◌, Bool, true, false, cond, max, List, [], ◌∷◌, length, map, Option, Some, nat_eq, ◌||◌, refl, sym, ap, subst, ⊎_elim}
+use Rattle.std.proofs.lemmas.Bool.{cases_eq, eq-eqb, ne_eqb}
+use Rattle.std.specs.Cmp.{nat_cmp_total}
+use Rattle.std.specs.FinMap.{get, insert, nat_cmp-IsAntisymmetric}
+use Rattle.std.specs.List.{list_any}
+use Rattle.standing_laws.specs.fileset_files.declared.attributes.Attributes.{Attributes}
+use Rattle.standing_laws.specs.fileset_model.Apply.{written_node}
+use Rattle.standing_laws.specs.fileset_model.Pages.{Pages, page_after, pages_of, with_pages}
+use Rattle.standing_laws.specs.fileset_model.declared.node.Node.TheVariants.{File}
+use Rattle.standing_laws.proofs.OfFilesetValues.MapLemmas.{get-insert_same, get-insert_other}
+use Rattle.standing_laws.specs.domain_layout.Filled.{Contents, IsFilled}
+use Rattle.standing_laws.specs.domain_layout.Seen.{SeenFile}
+use Rattle.set_standing.specs.Commands.{WritesFile, with_each}
+use Rattle.set_standing.specs.Nodes.{with_size}
 
-module _ (number : ℕ) (tag : Tag) (page : ℕ) (d : DomainNow) (around : StandsAround number d) (pages : Pages) (contents : Contents) (directory : IsLiveOf Directory (around.chains tag)) (elsewhere : (home : Home) → ¬ place_at around.chains tag page ≡ At home → pages home ≡ d.pages home) where
-  abbrev now : DomainNow
-  now = record d { pages = pages; contents = contents }
+-- ---- pages that are put in one after the other
 
-  module _ (bytes : BytesFollow d now) where
-    module _ (cs : List PlacedCell) (some : around.chains tag ≡ Some cs) where
-      m : IsNamed around.files cs
-      m = named around.files around.chains tag cs some (around.well.among.same tag)
+each_put : (uid gid size : ℕ) (logged : Bool) (es : List (ℕ × List ℕ)) (pages : Pages) → with_each es (File uid gid size logged pages) ≡ File uid gid size logged (with_pages es pages)
+each_put uid gid size logged [] pages = refl
+each_put uid gid size logged (e ∷ es) pages = each_put uid gid size logged es (insert pages e.0 e.1)
 
-      place_there : (home : Home) → place_at around.chains tag page ≡ At home → place_in around.files m.at page ≡ At home
-      place_there home at = ap (λ o. option_map_or (λ cs. places_of cs page) o Absent) m.is ∙ sym (ap (λ o. option_map_or (λ cs. places_of cs page) o Absent) some) ∙ at
+pub put_in : (uid gid size : ℕ) (logged : Bool) (pages : Pages) (offset : ℕ) (bytes : List ℕ) → written_node offset bytes (File uid gid size logged pages) ≡
+    with_size (max size (offset + length bytes)) logged (with_each (map (λ q. (q, page_after pages offset bytes q)) (pages_of offset (length bytes))) (File uid gid size logged pages))
+put_in uid gid size logged pages offset bytes =
+    ap (with_size (max size (offset + length bytes)) logged)
+    (sym (each_put uid gid size logged (map (λ q. (q, page_after pages offset bytes q)) (pages_of offset (length bytes))) pages))
 
-      keeps_where : KeepsWhere d now around.files around.indexes
-      keeps_where home holder holds no_volume no_log no_file =
-          elsewhere home (λ at. no_file m.at page (around.below.owned.once home holder (of_file m.at page) holds (place_there home at)))
+-- ---- the page at each number then
 
-      below_now : StandsBelow now around.files around.indexes
-      below_now = others_stand d now around.files around.indexes around.below refl keeps_where
+module _ (page : ℕ → List ℕ) (q : ℕ) where
+  got_by : (is_in : Bool) (found : Option (List ℕ)) → Option (List ℕ)
+  got_by is_in found = cond is_in (Some (page q)) found
 
-      on_table : (home : Home) → Contains (table_of d.cells home.vol) home.page → pages home ≡ d.pages home
-      on_table home on = elsewhere home (λ at. (around.well.together.file_pages tag page home at).apart.off_table on)
+  get-put : (qs : List ℕ) (pages : Pages) → get (with_pages (map (λ p. (p, page p)) qs) pages) q ≡ cond (list_any (λ p. nat_eq p q) qs) (Some (page q)) (get pages q)
+  get-put [] pages = refl
+  get-put (p ∷ qs) pages = get-put qs (insert pages p (page p)) ∙ ⊎_elim
+      (λ same. here (list_any (λ x. nat_eq x q) qs) same ∙ (λ i. cond (sym (eq-eqb p q same) i || list_any (λ x. nat_eq x q) qs) (Some (page q)) (get pages q)))
+      (λ other.
+      (λ i. cond (list_any (λ x. nat_eq x q) qs) (Some (page q)) (get-insert_other nat_cmp_total nat_cmp-IsAntisymmetric pages p (page p) q (λ e. other (sym e)) i))
+      ∙ (λ i. cond (sym (ne_eqb p q other) i || list_any (λ x. nat_eq x q) qs) (Some (page q)) (get pages q)))
+      (cases_eq p q)
+    where
+      here : (b : Bool) → p ≡ q → cond b (Some (page q)) (get (insert pages p (page p)) q) ≡ Some (page q)
+      here true same = refl
+      here false same = subst (λ x. get (insert pages p (page p)) x ≡ Some (page x)) same (get-insert_same nat_cmp_total nat_cmp-IsAntisymmetric pages p (page p))
 
-      on_tag : (home : Home) → has_home (d.tags number) home ≡ true → pages home ≡ d.pages home
-      on_tag home has = elsewhere home (λ at. both has (around.well.together.file_pages tag page home at).no_tags)
-        where
-          both : has_home (d.tags number) home ≡ true → has_home (d.tags number) home ≡ false → ⊥
-          both is not = true≢false (sym is ∙ not)
-
-      together_now : AreTogether number (d.tags number) d.space d.cells pages around.chains
-      together_now = together_away d.pages pages d.cells on_table number (d.tags number) d.space around.chains on_tag around.well.together
-
-      around_now : StandsAround number now
-      around_now =
-          let among = around.well.among in
-          record {
-            entry = around.entry;
-            original = around.original;
-            files = around.files;
-            indexes = around.indexes;
-            below = below_now;
-            chains = around.chains;
-            well = record {
-              well = below_now.chains.well;
-              together = together_now;
-              among = record { same = among.same; live = among.live; trimmed = among.trimmed; low = among.low; no_tags = among.no_tags; not_listed = among.not_listed };
-            };
-            alone = around.alone;
-            sound = but_elsewhere d now around.files around.indexes (IsNamedIn around.chains) around.sound refl keeps_where;
-          }
-
-      leads : LeadsToFile number (d.tags number) d.pages tag cs
-      leads = subst (λ o. IfSome o (LeadsToFile number (d.tags number) d.pages tag)) some (around.well.together.files.some tag)
-
-      -- the page is of no other tag's file
-      page_elsewhere : (t : Tag) (k : ℕ) (home : Home) → same_tag t tag ≡ false → place_at around.chains t k ≡ At home → pages home ≡ d.pages home
-      page_elsewhere t k home differ at = elsewhere home (λ mine.
-          let h = held_for number d (at_slot number d around) t k home at in
-          other_begins number (d.tags number) d.pages around.chains around.well.together.files around.files t tag h.cells cs h.there some differ h.name m
-          (one_start h.name.at k m.at page (around.below.owned.once home (of_file h.name.at k) (of_file m.at page) h.placed (place_there home mine))))
-        where
-          one_start : (a : CellAt) (j : ℕ) (b : CellAt) (k : ℕ) → of_file a j ≡ of_file b k → a ≡ b
-          one_start a j b k e = cc
-
-      files_follow : FilesFollow None number d now
-      files_follow = files_by number d now [] (sym (append-nil (d.tags number)))
-          (same_sequences number d now refl (kept_sequences d.pages pages (d.tags number) around.well.together.files.directory on_tag)) around.chains around.chains around.well.together.files together_now.files
-          each
-        where
-          each : (t : Tag) → TagFollows None d now (last_sequence d.pages (d.tags number) t.slot) t (around.chains t) (around.chains t)
-          each t = tag_same d now (last_sequence d.pages (d.tags number) t.slot) t (around.chains t) (λ cells there. by_tag cells there (same_tag t tag) refl)
-            where
-              by_tag : (cells : List PlacedCell) → around.chains t ≡ Some cells → (b : Bool) → same_tag t tag ≡ b → KeepsBytesOf d now cells
-              by_tag cells there true same = λ seen is file k home at.
-                  let live = subst (IsLiveOf Directory) (sym (ap around.chains (tags_same t tag same)) ∙ there) directory in
-                  let e : File ≡ Directory = sym file ∙ seen_directory cells seen live is in
-                  absurd (cc)
-              by_tag cells there false differ = page_bytes number d (at_slot number d around) now bytes t cells there (λ k home placed. page_elsewhere t k home differ placed)
-
-      file_written : GoesOnAround None number d now
-      file_written = (
-        around_now,
-        stays_aside number m.at d now around.files around.indexes around.below cs m.is (its_number number tag cs leads.is_of) (says_some d.pages (cell_of d.pages (d.tags number) tag) cs leads.leads) (λ n differ. refl) refl below_now.chains.well.together.allocated
-            (λ at on other. ap (λ (o : Option (List ℕ)). cell_at (λ _. o) at) (on_table (home_of at) on))
-            (λ home off. elsewhere home (λ at. off.no_page page (place_there home at)))
-            (λ home off held. held) bytes refl refl files_follow,
-      )
-
-    pub page_written : GoesOnAround None number d now
-    page_written = by_chain (around.chains tag) refl
-      where
-        by_chain : (o : Option (List PlacedCell)) → around.chains tag ≡ o → GoesOnAround None number d now
-        by_chain None none = absurd (subst (IsLiveOf Directory) none directory)
-        by_chain (Some cs) some = file_written cs some
-
-pub is_written : (number : ℕ) (tag : Tag) (page : ℕ) (d now : DomainNow) (around : StandsAround number d) → KeepsPlaces d now → BytesFollow d now → IsLiveOf Directory (around.chains tag) → ((home : Home) → ¬ place_at around.chains tag page ≡ At home → now.pages home ≡ d.pages home) → GoesOnAround None number d now
-is_written number tag page d now around same bytes directory elsewhere =
-    subst (GoesOnAround None number d) (sym same) (page_written number tag page d around now.pages now.contents directory elsewhere bytes)
+pub written_is : (contents now : Contents) (seen after : SeenFile) (uid gid size : ℕ) (logged : Bool) (pages : Pages) (offset : ℕ) (bytes : List ℕ) →
+    WritesFile pages offset bytes contents now seen after → IsFilled contents seen (File uid gid size logged pages) →
+    IsFilled now after (written_node offset bytes (File uid gid size logged pages))
+written_is contents now seen after uid gid size logged pages offset bytes writes was = (
+  ap (λ (a : Attributes). a.kind) writes.is ∙ was.0,
+  ap (λ (a : Attributes). a.uid) writes.is ∙ was.1,
+  ap (λ (a : Attributes). a.gid) writes.is ∙ was.2,
+  ap (λ (a : Attributes). a.size) writes.is ∙ ap (λ n. max n (offset + length bytes)) was.3,
+  ap (λ (a : Attributes). a.is_logged) writes.is ∙ was.4,
+  (λ q. get-put (page_after pages offset bytes) q (pages_of offset (length bytes)) pages
+      ∙ ap (cond (list_any (λ p. nat_eq p q) (pages_of offset (length bytes))) (Some (page_after pages offset bytes q))) (was.5 q) ∙ sym (writes.each q)),
+)

@@ -1,22 +1,22 @@
 -- A domain that stands around the fileset in one of its slots, while calls change that.
 use Rattle.std.specs.Prelude.{◌≡◌, ℕ, Some, None}
 use Rattle.std.specs.Option.{option_and_then}
-use Rattle.domain_base.specs.declared.place.CellAt.{CellAt}
-use Rattle.domain_base.specs.declared.place.Home.{Home}
-use Rattle.domain_base.specs.declared.place.Tag.{Tag}
-use Rattle.bitfile_core.specs.Files.{Chains}
-use Rattle.fileset_model.specs.declared.command.Owner.{Owner}
-use Rattle.fileset_model.specs.declared.fileset.FilesetSlot.{FilesetSlot}
-use Rattle.fileset_model.specs.declared.fileset.Limits.{Limits}
-use Rattle.fileset_table.specs.declared.slot.FilesetEntry.{FilesetEntry}
-use Rattle.fileset_table.specs.declared.slot.SlotItem.TheVariants as slot
-use Rattle.deferred_delete.specs.Standing.{Files, source_at}
-use Rattle.deferred_laws.specs.Calls.{StandsWell}
-use Rattle.deferred_laws.specs.Tags.{start_of}
-use Rattle.domain_layout.specs.Shape.{AreLimits, FilesetShape}
-use Rattle.standing_laws.specs.Chains.{IndexesAt, no_files, no_indexes}
-use Rattle.standing_laws.specs.Domain.{DomainNow, item_in}
-use Rattle.standing_laws.specs.Holders.{Holder, Holds}
+use Rattle.standing_laws.specs.domain_base.declared.place.CellAt.{CellAt}
+use Rattle.standing_laws.specs.domain_base.declared.place.Home.{Home}
+use Rattle.standing_laws.specs.domain_base.declared.place.Tag.{Tag}
+use Rattle.standing_laws.specs.fileset_files.Files.{Chains}
+use Rattle.standing_laws.specs.fileset_values.declared.command.Owner.{Owner}
+use Rattle.standing_laws.specs.fileset_model.declared.fileset.FilesetSlot.{FilesetSlot}
+use Rattle.standing_laws.specs.fileset_model.declared.fileset.Limits.{Limits}
+use Rattle.standing_laws.specs.fileset_table.declared.slot.FilesetEntry.{FilesetEntry}
+use Rattle.standing_laws.specs.fileset_table.declared.slot.SlotItem.TheVariants as slot
+use Rattle.standing_laws.specs.release_list.Standing.{Files, source_at}
+use Rattle.standing_laws.specs.release_steps.Calls.{StandsWell}
+use Rattle.standing_laws.specs.release_steps.Tags.{start_of}
+use Rattle.standing_laws.specs.domain_layout.Shape.{AreLimits, FilesetShape}
+use Rattle.standing_laws.specs.domain_standing.Chains.{IndexesAt, no_files, no_indexes}
+use Rattle.standing_laws.specs.domain_standing.Domain.{DomainNow, item_in}
+use Rattle.standing_laws.specs.domain_standing.Holders.{Holder, Holds}
 use Rattle.standing_laws.specs.Leads.{StandsBelow, fileset_now}
 use Rattle.standing_laws.specs.SlotParents.{HaveParentsIn, StandsForSome}
 use Rattle.standing_laws.specs.Slots.{StandsSlot}

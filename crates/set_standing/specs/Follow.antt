@@ -1,16 +1,16 @@
 -- What the files of the fileset in one slot keep, and its directories say, while calls change its
 -- set of files and directories.
 use Rattle.std.specs.Prelude.{◌≡◌, ◌<◌, ◌≤◌, ◌++◌, ℕ, false, List, Option, None, Some, IsSome, IsSomeAnd}
-use Rattle.domain_base.specs.declared.place.Home.{Home}
-use Rattle.domain_base.specs.declared.place.Kind.TheVariants.{File}
-use Rattle.domain_base.specs.declared.place.Tag.{Tag}
-use Rattle.bmt_mcells.specs.Chain.{PlacedCell}
-use Rattle.tag_dirs.specs.declared.dir.TagPlace.{TagPlace}
-use Rattle.bitfile_core.specs.Creation.{last_sequence}
-use Rattle.bitfile_core.specs.Files.{AreFiles, Chains}
-use Rattle.bitfile_core.specs.State.{parent_of}
-use Rattle.domain_layout.specs.Seen.{SeenFile, seen_in}
-use Rattle.standing_laws.specs.Domain.{DomainNow}
+use Rattle.standing_laws.specs.domain_base.declared.place.Home.{Home}
+use Rattle.standing_laws.specs.domain_base.declared.place.Kind.TheVariants.{File}
+use Rattle.standing_laws.specs.domain_base.declared.place.Tag.{Tag}
+use Rattle.standing_laws.specs.metadata_cells.Chain.{PlacedCell}
+use Rattle.standing_laws.specs.tag_dirs.declared.dir.TagPlace.{TagPlace}
+use Rattle.standing_laws.specs.fileset_files.Creation.{last_sequence}
+use Rattle.standing_laws.specs.fileset_files.Files.{AreFiles, Chains}
+use Rattle.standing_laws.specs.fileset_files.State.{parent_of}
+use Rattle.standing_laws.specs.domain_layout.Seen.{SeenFile, seen_in}
+use Rattle.standing_laws.specs.domain_standing.Domain.{DomainNow}
 
 -- a file has the size, the flag and the pages that it had, and these their bytes
 pub record IsSameFile (d now : DomainNow) (was is : SeenFile) : Type 0 where

@@ -1,29 +1,29 @@
 //! One change after another.
 ghost use Rattle.std.specs.Prelude.{None, ℕ};
-ghost use Rattle.fileset_model.specs.declared.fileset.FilesetSlot.{FilesetSlot};
-ghost use Rattle.fileset_table.specs.declared.slot.FilesetEntry.{FilesetEntry};
-ghost use Rattle.domain_layout.specs.Shape.{FilesetShape};
-ghost use Rattle.standing_laws.specs.Domain.{DomainNow};
+ghost use Rattle.standing_laws.specs.fileset_model.declared.fileset.FilesetSlot.{FilesetSlot};
+ghost use Rattle.standing_laws.specs.fileset_table.declared.slot.FilesetEntry.{FilesetEntry};
+ghost use Rattle.standing_laws.specs.domain_layout.Shape.{FilesetShape};
+ghost use Rattle.standing_laws.specs.domain_standing.Domain.{DomainNow};
 ghost use Rattle.standing_laws.specs.Slots.{StandsSlot};
 ghost use Rattle.standing_laws.specs.Sound.{IsSound};
 ghost use Rattle.set_standing.specs.Around.{GoesOnAround, StandsAround};
 ghost use Rattle.set_standing.specs.Follow.{Said};
 
-/// Where nothing is changed, the domain stands on around a slot.
+/// If nothing is changed, the domain stands on around a slot.
 pub fn all_stays_around()
     ensures { (number : ℕ) (d : DomainNow) → StandsAround number d → GoesOnAround None number d d }
 {}
 
-/// And after two changes, if it does after each: what the second says of a directory is said then,
-/// where the first says nothing.
+/// It also does after two changes, if it does after each. What the second says of a directory is
+/// said then, if the first says nothing.
 pub fn changes_around_join()
     ensures { (said : Said) (number : ℕ) (d between now : DomainNow)
         → GoesOnAround None number d between → GoesOnAround said number between now
         → GoesOnAround said number d now }
 {}
 
-/// Where the original in the slot stands for a fileset, the domain around it is wholly as rules of
-/// pages ask: that pages of its own files' indexes are well formed is all that was left out.
+/// If the original in the slot stands for a fileset, the domain around it is wholly as the rules of
+/// pages ask: all that was left out is that pages of its own files' indexes are well formed.
 pub fn a_domain_around_a_fileset_is_sound()
     ensures { (number : ℕ) (d : DomainNow) → StandsAround number d → (entry : FilesetEntry)
         (shape : FilesetShape) (fileset : FilesetSlot) → StandsSlot d number entry shape fileset

@@ -1,22 +1,22 @@
-//! Calls on files that are made, and on what is said of them.
+//! Calls that make files, and calls that change what is said of them.
 ghost use Rattle.std.specs.Prelude.{◌≡◌, ◌≤◌, ◌⊎◌, [], None, ℕ, Some};
-ghost use Rattle.domain_base.specs.Limits.{max_links};
-ghost use Rattle.domain_base.specs.declared.place.Kind.TheVariants.{Directory};
-ghost use Rattle.domain_base.specs.declared.place.Tag.{Tag};
-ghost use Rattle.free_space.specs.Spaces.{missed};
-ghost use Rattle.bitfile_cells.specs.FileChanges.{LeavesOtherCells};
-ghost use Rattle.bitfile_core.specs.Changes.{ChangesFirst, says_attributes, says_parent, with_chain, with_first};
-ghost use Rattle.bitfile_core.specs.Creation.{Creates, LeavesBeside, TakesForFile, TakesNext};
-ghost use Rattle.bitfile_core.specs.Together.{AreTogether};
-ghost use Rattle.bitfile_core.specs.declared.attributes.Attributes.{Attributes};
-ghost use Rattle.bitfile_core.specs.declared.new_cells.NewFile.{NewFile};
-ghost use Rattle.standing_laws.specs.Sets.{attributes_at};
-ghost use Rattle.standing_laws.specs.Domain.{DomainNow};
+ghost use Rattle.standing_laws.specs.domain_base.Limits.{max_links};
+ghost use Rattle.standing_laws.specs.domain_base.declared.place.Kind.TheVariants.{Directory};
+ghost use Rattle.standing_laws.specs.domain_base.declared.place.Tag.{Tag};
+ghost use Rattle.standing_laws.specs.free_space.Spaces.{missed};
+ghost use Rattle.standing_laws.specs.file_chains.FileChanges.{LeavesOtherCells};
+ghost use Rattle.standing_laws.specs.fileset_files.Changes.{ChangesFirst, says_attributes, says_parent, with_chain, with_first};
+ghost use Rattle.standing_laws.specs.fileset_files.Creation.{Creates, LeavesBeside, TakesForFile, TakesNext};
+ghost use Rattle.standing_laws.specs.fileset_files.Together.{AreTogether};
+ghost use Rattle.standing_laws.specs.fileset_files.declared.attributes.Attributes.{Attributes};
+ghost use Rattle.standing_laws.specs.fileset_files.declared.new_cells.NewFile.{NewFile};
+ghost use Rattle.standing_laws.specs.stored_set.Sets.{attributes_at};
+ghost use Rattle.standing_laws.specs.domain_standing.Domain.{DomainNow};
 ghost use Rattle.standing_laws.specs.Leads.{IsLiveOf};
 ghost use Rattle.standing_laws.specs.OtherPages.{KeepsPlaces};
 ghost use Rattle.set_standing.specs.Around.{BytesFollow, ChangesSlot, GoesOnAround, StandsAround};
 
-/// Where a call was refused, and at most a miss was counted, the domain stands on around the slot.
+/// If a call was refused, and at most a miss was counted, the domain stands on around the slot.
 pub fn all_stands_around_a_call_that_does_nothing()
     ensures { (number : ℕ) (d now : DomainNow) → StandsAround number d → ChangesSlot number d now
         → BytesFollow d now → now.tags number ≡ d.tags number → now.cells ≡ d.cells
@@ -24,7 +24,7 @@ pub fn all_stands_around_a_call_that_does_nothing()
         → GoesOnAround None number d now }
 {}
 
-/// So it does where a file or directory is made, which is of no clone that was not made.
+/// It also does if a file or directory is made that belongs to no clone that was not made.
 pub fn all_stands_around_a_file_that_is_made()
     ensures { (number : ℕ) (tag : Tag) (what : NewFile) (prefer : ℕ) (d now : DomainNow)
         → (around : StandsAround number d) → ChangesSlot number d now
@@ -39,7 +39,8 @@ pub fn all_stands_around_a_file_that_is_made()
         → GoesOnAround None number d now }
 {}
 
-/// Where the first cell of a file or directory says another number of links, from 1 to 1,000.
+/// It also does if the first cell of a file or directory says another number of links, from 1 to
+/// 1,000.
 pub fn all_stands_around_links_that_are_set()
     ensures { (number : ℕ) (tag : Tag) (was : Attributes) (links : ℕ) (d now : DomainNow)
         → (around : StandsAround number d) → KeepsPlaces d now → BytesFollow d now
@@ -50,7 +51,7 @@ pub fn all_stands_around_links_that_are_set()
         → GoesOnAround None number d now }
 {}
 
-/// Where that of a directory says another one, in which it stands.
+/// It also does if the first cell of a directory says another directory in which it stands.
 pub fn all_stands_around_a_parent_that_is_said()
     ensures { (number : ℕ) (tag parent : Tag) (d now : DomainNow)
         → (around : StandsAround number d) → KeepsPlaces d now → BytesFollow d now

@@ -1,29 +1,29 @@
-//! Files that change, and no name.
+//! Changes of files by which no name changes.
 ghost use Rattle.std.specs.Prelude.{◌≡◌, ℕ, Bool, IsSomeAnd, List, None, Option, Some};
-ghost use Rattle.domain_base.specs.declared.place.CellAt.{CellAt};
-ghost use Rattle.domain_base.specs.declared.place.Home.{Home};
-ghost use Rattle.domain_base.specs.declared.place.Kind.TheVariants.{File};
-ghost use Rattle.domain_base.specs.declared.place.Tag.{Tag};
-ghost use Rattle.extent_maps.specs.declared.run.PagePlace.TheVariants.{Absent, At};
-ghost use Rattle.bmt_mcells.specs.Chain.{PlacedCell};
-ghost use Rattle.bitfile_cells.specs.Files.{places_of};
-ghost use Rattle.bitfile_core.specs.Changes.{ChangesFirst, says_attributes, with_chain, with_first};
-ghost use Rattle.bitfile_core.specs.Files.{place_at};
-ghost use Rattle.bitfile_core.specs.State.{FileState};
-ghost use Rattle.bitfile_core.specs.Together.{AreTogether};
-ghost use Rattle.bitfile_core.specs.declared.attributes.Attributes.{Attributes};
-ghost use Rattle.bitfile_core.specs.Truncation.{IsLowered, pending_cell, says_truncated};
-ghost use Rattle.bitfile_laws.specs.States.{cut, described, placed};
-ghost use Rattle.standing_laws.specs.Sets.{GetsPage, attributes_at};
-ghost use Rattle.deferred_delete.specs.Listing.{Adds, Listing};
-ghost use Rattle.standing_laws.specs.Domain.{DomainNow};
+ghost use Rattle.standing_laws.specs.domain_base.declared.place.CellAt.{CellAt};
+ghost use Rattle.standing_laws.specs.domain_base.declared.place.Home.{Home};
+ghost use Rattle.standing_laws.specs.domain_base.declared.place.Kind.TheVariants.{File};
+ghost use Rattle.standing_laws.specs.domain_base.declared.place.Tag.{Tag};
+ghost use Rattle.standing_laws.specs.extent_maps.declared.run.PagePlace.TheVariants.{Absent, At};
+ghost use Rattle.standing_laws.specs.metadata_cells.Chain.{PlacedCell};
+ghost use Rattle.standing_laws.specs.file_chains.Files.{places_of};
+ghost use Rattle.standing_laws.specs.fileset_files.Changes.{ChangesFirst, says_attributes, with_chain, with_first};
+ghost use Rattle.standing_laws.specs.fileset_files.Files.{place_at};
+ghost use Rattle.standing_laws.specs.fileset_files.State.{FileState};
+ghost use Rattle.standing_laws.specs.fileset_files.Together.{AreTogether};
+ghost use Rattle.standing_laws.specs.fileset_files.declared.attributes.Attributes.{Attributes};
+ghost use Rattle.standing_laws.specs.fileset_files.Truncation.{IsLowered, pending_cell, says_truncated};
+ghost use Rattle.standing_laws.specs.fileset_files.States.{cut, described, placed};
+ghost use Rattle.standing_laws.specs.stored_set.Sets.{GetsPage, attributes_at};
+ghost use Rattle.standing_laws.specs.release_list.Listing.{Adds, Listing};
+ghost use Rattle.standing_laws.specs.domain_standing.Domain.{DomainNow};
 ghost use Rattle.standing_laws.specs.Leads.{IsLiveOf};
 ghost use Rattle.standing_laws.specs.OtherPages.{KeepsPlaces};
 ghost use Rattle.set_standing.specs.Around.{BytesFollow, ChangesSlot, StandsAround};
 ghost use Rattle.set_standing.specs.Beside.{ChangesOneFile};
 
-/// Where the first cell of a file says another size and another flag, and nothing else anew, the
-/// domain stands around the slot, beside which all stays, and shows the same set.
+/// If the first cell of a file says another size and another flag, and nothing else new, the domain
+/// stands around the slot. All outside the slot stays, and the same set is shown.
 pub fn all_stands_around_a_file_that_is_described()
     ensures { (number : ℕ) (tag : Tag) (was : Attributes) (size : ℕ) (flag : Bool)
         (d now : DomainNow) → (around : StandsAround number d) → KeepsPlaces d now
@@ -36,7 +36,7 @@ pub fn all_stands_around_a_file_that_is_described()
         (λ page. ⊥) around.chains d now }
 {}
 
-/// So it does where other bytes are put at the home of a file's page.
+/// It also does if other bytes are put at the home of a file's page.
 pub fn all_stands_around_a_page_of_a_file_that_is_put()
     ensures { (number : ℕ) (tag : Tag) (page : ℕ) (d now : DomainNow)
         → (around : StandsAround number d) → KeepsPlaces d now → BytesFollow d now
@@ -47,7 +47,8 @@ pub fn all_stands_around_a_page_of_a_file_that_is_put()
         d now }
 {}
 
-/// And where a file gets a home for a page that it has not, and these bytes are put there.
+/// It also does if a file gets a home for a page that it does not have, and these bytes are put
+/// there.
 pub fn all_stands_around_a_file_that_gets_a_page()
     ensures { (number : ℕ) (tag : Tag) (page : ℕ) (bytes : List ℕ) (prefer : ℕ)
         (d now : DomainNow) (chain : List PlacedCell) → (around : StandsAround number d)
@@ -59,9 +60,9 @@ pub fn all_stands_around_a_file_that_gets_a_page()
         → ChangesOneFile number tag (placed page (At gets.home)) (λ k. ⊥) around.chains d now }
 {}
 
-/// And where a file is cut: it has that size, and pages behind it may be stale, which are to be let
-/// go of then. Where nothing of the file is left to be done, nothing is listed; where something is,
-/// it is on the list then.
+/// It also does if a file is cut: it then has that size, and pages after its end may be stale and
+/// are to be let go of. If nothing is left to be done for the file, nothing is listed; otherwise
+/// the file is on the list.
 pub fn all_stands_around_a_file_that_is_cut()
     ensures none { (number : ℕ) (tag : Tag) (size : ℕ) (d now : DomainNow)
         → (around : StandsAround number d) → KeepsPlaces d now → BytesFollow d now

@@ -1,16 +1,17 @@
 //! Pages of the indexes of directories.
 ghost use Rattle.std.specs.Option.{option_and_then};
 ghost use Rattle.std.specs.Prelude.{◌≡◌, None, ℕ, List, Some};
-ghost use Rattle.domain_base.specs.declared.place.CellAt.{CellAt};
-ghost use Rattle.domain_base.specs.declared.place.Tag.{Tag};
-ghost use Rattle.standing_laws.specs.Sets.{AddsIndexPage, WritesIndexPage};
-ghost use Rattle.deferred_laws.specs.Tags.{start_of};
-ghost use Rattle.standing_laws.specs.Domain.{DomainNow};
+ghost use Rattle.standing_laws.specs.domain_base.declared.place.CellAt.{CellAt};
+ghost use Rattle.standing_laws.specs.domain_base.declared.place.Tag.{Tag};
+ghost use Rattle.standing_laws.specs.stored_set.Sets.{AddsIndexPage, WritesIndexPage};
+ghost use Rattle.standing_laws.specs.release_steps.Tags.{start_of};
+ghost use Rattle.standing_laws.specs.domain_standing.Domain.{DomainNow};
 ghost use Rattle.standing_laws.specs.IndexCalls.{KeepsTables};
 ghost use Rattle.standing_laws.specs.OtherPages.{KeepsPlaces};
 ghost use Rattle.set_standing.specs.Around.{BytesFollow, GoesOnAround, StandsAround};
 
-/// Where a page of a directory's index is put in place of one.
+/// The domain stands on around the slot if a page of a directory's index is put in place of
+/// another.
 pub fn all_stands_around_an_index_page_that_is_written()
     ensures { (number : ℕ) (tag : Tag) (start : CellAt) (page : ℕ) (bytes : List ℕ)
         (d now : DomainNow) → (around : StandsAround number d) → KeepsPlaces d now
@@ -19,7 +20,7 @@ pub fn all_stands_around_an_index_page_that_is_written()
         (around.indexes start) d.pages now.pages → GoesOnAround None number d now }
 {}
 
-/// Where a free page is put into it.
+/// It also does if a free page is put into the index.
 pub fn all_stands_around_an_index_page_that_is_put_in()
     ensures { (number : ℕ) (tag : Tag) (start : CellAt) (place prefer : ℕ) (bytes : List ℕ)
         (d now : DomainNow) → (around : StandsAround number d) → KeepsTables d now

@@ -1,19 +1,20 @@
 //! Pages of directories.
 ghost use Rattle.std.specs.Prelude.{◌≡◌, ◌<◌, None, ℕ, IsSomeAnd, List};
-ghost use Rattle.domain_base.specs.Limits.{file_pages};
-ghost use Rattle.domain_base.specs.declared.place.Home.{Home};
-ghost use Rattle.domain_base.specs.declared.place.Kind.TheVariants.{Directory};
-ghost use Rattle.domain_base.specs.declared.place.Tag.{Tag};
-ghost use Rattle.page_store.specs.Bitfiles.{Bitfiles, IsDirectory, count_pages};
-ghost use Rattle.extent_maps.specs.declared.run.PagePlace.TheVariants.{At};
-ghost use Rattle.bitfile_core.specs.Files.{place_at};
-ghost use Rattle.standing_laws.specs.Sets.{AddsPage, StandsAsSet, attributes_at};
-ghost use Rattle.standing_laws.specs.Domain.{DomainNow};
+ghost use Rattle.standing_laws.specs.domain_base.Limits.{file_pages};
+ghost use Rattle.standing_laws.specs.domain_base.declared.place.Home.{Home};
+ghost use Rattle.standing_laws.specs.domain_base.declared.place.Kind.TheVariants.{Directory};
+ghost use Rattle.standing_laws.specs.domain_base.declared.place.Tag.{Tag};
+ghost use Rattle.standing_laws.specs.page_store.Bitfiles.{Bitfiles, IsDirectory, count_pages};
+ghost use Rattle.standing_laws.specs.extent_maps.declared.run.PagePlace.TheVariants.{At};
+ghost use Rattle.standing_laws.specs.fileset_files.Files.{place_at};
+ghost use Rattle.standing_laws.specs.stored_set.Sets.{AddsPage, StandsAsSet, attributes_at};
+ghost use Rattle.standing_laws.specs.domain_standing.Domain.{DomainNow};
 ghost use Rattle.standing_laws.specs.Leads.{IsLiveOf};
 ghost use Rattle.standing_laws.specs.OtherPages.{KeepsPlaces};
 ghost use Rattle.set_standing.specs.Around.{BytesFollow, ChangesSlot, GoesOnAround, StandsAround};
 
-/// Where a page of a directory is put in place of the one that stood there.
+/// The domain stands on around the slot if a page of a directory is put in place of the one that
+/// stood there.
 pub fn all_stands_around_a_page_that_is_written()
     ensures { (number : ℕ) (tag : Tag) (page : ℕ) (d now : DomainNow)
         → (around : StandsAround number d) → KeepsPlaces d now → BytesFollow d now
@@ -23,7 +24,7 @@ pub fn all_stands_around_a_page_that_is_written()
         → GoesOnAround None number d now }
 {}
 
-/// Where a directory gets a page behind its last one.
+/// It also does if a directory gets a page after its last one.
 pub fn all_stands_around_a_directory_that_gets_a_page()
     ensures { (number : ℕ) (tag : Tag) (page : ℕ) (bytes : List ℕ) (prefer : ℕ)
         (d now : DomainNow) → (around : StandsAround number d) → ChangesSlot number d now

@@ -1,25 +1,26 @@
 //! Files and directories that are taken away.
 ghost use Rattle.std.specs.Prelude.{◌≡◌, ℕ, None};
-ghost use Rattle.domain_base.specs.declared.place.CellAt.{CellAt};
-ghost use Rattle.domain_base.specs.declared.place.Tag.{Tag};
-ghost use Rattle.bitfile_core.specs.Changes.{KeepsSequences, Removes, without_chain};
-ghost use Rattle.bitfile_core.specs.Together.{AreTogether};
-ghost use Rattle.standing_laws.specs.Sets.{GivesIndexBack, without_index};
-ghost use Rattle.deferred_delete.specs.Listing.{Adds, Listing};
-ghost use Rattle.deferred_delete.specs.Standing.{Files, source_at};
-ghost use Rattle.fileset_model.specs.Filesets.{FilesetMap};
-ghost use Rattle.free_space.specs.Spaces.{Spaces};
-ghost use Rattle.standing_laws.specs.Chains.{HasFilesAmong, IndexesAt, IsRemoved};
-ghost use Rattle.standing_laws.specs.Domain.{DomainNow, item_in};
+ghost use Rattle.standing_laws.specs.domain_base.declared.place.CellAt.{CellAt};
+ghost use Rattle.standing_laws.specs.domain_base.declared.place.Tag.{Tag};
+ghost use Rattle.standing_laws.specs.fileset_files.Changes.{KeepsSequences, Removes, without_chain};
+ghost use Rattle.standing_laws.specs.fileset_files.Together.{AreTogether};
+ghost use Rattle.standing_laws.specs.stored_set.Sets.{GivesIndexBack, without_index};
+ghost use Rattle.standing_laws.specs.release_list.Listing.{Adds, Listing};
+ghost use Rattle.standing_laws.specs.release_list.Standing.{Files, source_at};
+ghost use Rattle.standing_laws.specs.fileset_model.Filesets.{FilesetMap};
+ghost use Rattle.standing_laws.specs.free_space.Spaces.{Spaces};
+ghost use Rattle.standing_laws.specs.domain_standing.Chains.{HasFilesAmong, IndexesAt, IsRemoved};
+ghost use Rattle.standing_laws.specs.domain_standing.Domain.{DomainNow, item_in};
 ghost use Rattle.standing_laws.specs.IndexCalls.{KeepsTables};
 ghost use Rattle.standing_laws.specs.Leads.{StandsBelow};
 ghost use Rattle.standing_laws.specs.Sound.{IsSound, StandsSound};
-ghost use Rattle.standing_laws.specs.Sources.{StandAlone};
-ghost use Rattle.standing_laws.specs.Standing.{HaveParents, IsMarkedBut, StandsDomain};
+ghost use Rattle.standing_laws.specs.domain_standing.Sources.{StandAlone};
+ghost use Rattle.standing_laws.specs.domain_standing.Standing.{HaveParents, IsMarkedBut, StandsDomain};
 ghost use Rattle.set_standing.specs.Around.{BytesFollow, GoesOnAround, GoesOnAtSlot, StandsAround, StandsAtSlot};
 
-/// Where a file or directory is taken away, and its index with it, once it is put on the list: no
-/// clone's file is given, as no file of the domain is read through another.
+/// The domain stands on around the slot if a file or directory is taken away with its index, once
+/// it is put on the list. No clone is given its file, since no file of the domain is read through
+/// another.
 pub fn all_stands_around_a_file_that_is_taken_away()
     ensures { (number : ℕ) (tag : Tag) (start : CellAt) (group : ℕ) (d now : DomainNow)
         → (around : StandsAround number d) → KeepsTables d now → BytesFollow d now
@@ -33,8 +34,8 @@ pub fn all_stands_around_a_file_that_is_taken_away()
         → GoesOnAround None number d (record now { list = listed }) }
 {}
 
-/// The files that the tags of any slot name, be it an original's or of what is being removed, belong
-/// together with its tag directory, where the domain is as rules of pages ask.
+/// The files that the tags of any slot name, be it an original's or of what is being removed,
+/// belong together with its tag directory, if the domain is as the rules of pages ask.
 pub fn files_of_any_slot_belong_together()
     ensures { (number : ℕ) (d : DomainNow) (files : Files) (indexes : IndexesAt)
         → StandsBelow d files indexes → StandsSound d files indexes
@@ -42,7 +43,7 @@ pub fn files_of_any_slot_belong_together()
         → StandsAtSlot number d }
 {}
 
-/// Where a file or directory is taken away of what is in any slot, all goes on around it.
+/// If a file or directory of what is in any slot is taken away, all goes on around it.
 pub fn all_goes_on_where_a_file_of_any_slot_is_taken_away()
     ensures { (number : ℕ) (tag : Tag) (start : CellAt) (group : ℕ) (d now : DomainNow)
         → (at : StandsAtSlot number d) → KeepsTables d now → BytesFollow d now
@@ -56,8 +57,8 @@ pub fn all_goes_on_where_a_file_of_any_slot_is_taken_away()
         → GoesOnAtSlot None number d (record now { list = listed }) at }
 {}
 
-/// So where it is taken of what is being removed, the domain stands for the same filesets, and is as
-/// rules of pages ask where it was.
+/// So if it is taken from what is being removed, the domain stands for the same filesets, and is as
+/// the rules of pages ask if it was before.
 pub fn filesets_stay_where_a_file_of_what_is_removed_goes()
     ensures stands { (number : ℕ) (d now : DomainNow) (at : StandsAtSlot number d)
         → IsRemoved (item_in d number) → GoesOnAtSlot None number d now at

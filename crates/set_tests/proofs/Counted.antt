@@ -2,11 +2,11 @@
 use Rattle.std.proofs.Common.{◌≡◌, ◌∙◌, ◌+◌, ◌<◌, ◌≤◌, ℕ, zero, suc, Bool, cond, Option, Some, None, IsSome, IsSomeAnd, List, [], ◌∷◌, length, refl, sym, ap, subst, arith}
 use Rattle.std.specs.List.{insert}
 use Rattle.std.specs.Option.{option_map_or}
-use Rattle.domain_base.specs.declared.place.Kind.TheVariants.{Directory}
-use Rattle.domain_base.specs.declared.place.Tag.{Tag}
-use Rattle.page_store.specs.Bitfiles.{Bitfile, Bitfiles, IsDirectory, count_index, count_pages, insert_index, put_index, put_page, with_change, with_entry, with_file}
-use Rattle.bitfile_core.proofs.OneChain.{same_tag_itself}
-use Rattle.set_laws.proofs.Wholeness.{joined, replaced}
+use Rattle.release_steps.specs.domain_base.declared.place.Kind.TheVariants.{Directory}
+use Rattle.release_steps.specs.domain_base.declared.place.Tag.{Tag}
+use Rattle.release_steps.specs.page_store.Bitfiles.{Bitfile, Bitfiles, IsDirectory, count_index, count_pages, insert_index, put_index, put_page, with_change, with_entry, with_file}
+use Rattle.release_steps.proofs.OfFilesetFiles.OneChain.{same_tag_itself}
+use Rattle.stored_set.proofs.Wholeness.{joined, replaced}
 
 pub directory_any : (one set : Bitfiles) (tag : Tag) → one tag ≡ set tag → IsDirectory one tag → IsDirectory set tag
 directory_any one set tag same directory = subst (λ o. IsSomeAnd o (λ (file : Bitfile). file.kind ≡ Directory)) same directory

@@ -1,19 +1,19 @@
 -- The set without a file, and those with a new file or directory.
 use Rattle.std.proofs.Common.{◌≡◌, ℕ, Bool, cond, Some, None, IsSome, IsSomeAnd, List, [], Contains, length, Result, Ok, Err, IfOk, refl, sym, ap, subst, arith}
 use Rattle.std.specs.Option.{option_map_or}
-use Rattle.domain_base.specs.declared.place.Home.{Home}
-use Rattle.domain_base.specs.declared.place.Kind.{Kind}
-use Rattle.domain_base.specs.declared.place.Kind.TheVariants.{Directory, File}
-use Rattle.domain_base.specs.declared.place.Tag.{Tag}
-use Rattle.page_store.specs.Bitfiles.{Bitfile, Bitfiles, IsDirectory, count_pages, linked, new_file, put_page, with_change, with_file}
-use Rattle.page_store.specs.Pages.{Pages}
-use Rattle.tag_dirs.specs.declared.dir.TagPlace.{TagPlace}
-use Rattle.free_cells.specs.Cells.{Cells}
-use Rattle.free_space.specs.Spaces.{Spaces}
-use Rattle.bitfile_core.specs.Together.{AreTogether}
-use Rattle.bitfile_core.proofs.OneChain.{same_tag_itself}
+use Rattle.release_steps.specs.domain_base.declared.place.Home.{Home}
+use Rattle.release_steps.specs.domain_base.declared.place.Kind.{Kind}
+use Rattle.release_steps.specs.domain_base.declared.place.Kind.TheVariants.{Directory, File}
+use Rattle.release_steps.specs.domain_base.declared.place.Tag.{Tag}
+use Rattle.release_steps.specs.page_store.Bitfiles.{Bitfile, Bitfiles, IsDirectory, count_pages, linked, new_file, put_page, with_change, with_file}
+use Rattle.release_steps.specs.page_store.Pages.{Pages}
+use Rattle.release_steps.specs.tag_dirs.declared.dir.TagPlace.{TagPlace}
+use Rattle.release_steps.specs.free_cells.Cells.{Cells}
+use Rattle.release_steps.specs.free_space.Spaces.{Spaces}
+use Rattle.release_steps.specs.fileset_files.Together.{AreTogether}
+use Rattle.release_steps.proofs.OfFilesetFiles.OneChain.{same_tag_itself}
 use Rattle.set_tests.specs.Worlds.{only_new, with_first_page}
-use Rattle.set_laws.specs.Standing.{AreTagsOnVolumes}
+use Rattle.stored_set.specs.Standing.{AreTagsOnVolumes}
 use Rattle.stored_set.specs.Sets.{StandsAsSet}
 
 none_in : (h : Home) → ¬ Contains [] h

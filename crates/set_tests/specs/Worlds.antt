@@ -1,10 +1,10 @@
 -- What set the files of a world of the tests are.
 use Rattle.std.specs.Prelude.{◌≡◌, ℕ, List, None, IsSome}
-use Rattle.domain_base.specs.declared.place.Kind.{Kind}
-use Rattle.domain_base.specs.declared.place.Kind.TheVariants.{Directory}
-use Rattle.domain_base.specs.declared.place.Tag.{Tag}
-use Rattle.memory_store.specs.Homes.{pages_of}
-use Rattle.page_store.specs.Bitfiles.{Bitfiles, IsDirectory, count_index, count_pages, new_file, put_page, with_change, with_file}
+use Rattle.release_steps.specs.domain_base.declared.place.Kind.{Kind}
+use Rattle.release_steps.specs.domain_base.declared.place.Kind.TheVariants.{Directory}
+use Rattle.release_steps.specs.domain_base.declared.place.Tag.{Tag}
+use Rattle.release_steps.specs.page_store.Homes.{pages_of}
+use Rattle.release_steps.specs.page_store.Bitfiles.{Bitfiles, IsDirectory, count_index, count_pages, new_file, put_page, with_change, with_file}
 use Rattle.stored_set.specs.Sets.{StandsAsSet}
 use Rattle.file_tests.specs.declared.world.World.{World}
 

@@ -3,8 +3,8 @@ ghost use Rattle.std.specs.Prelude.{◌+◌, ◌<◌, ◌≤◌, IfOk, OnOk};
 ghost use Rattle.set_tests.specs.Worlds.{HasIndex, IsSomeSet};
 
 use crate::sets::{empty_world, make_one};
-use domain_base::{Kind, Page, Tag};
 use file_tests::world::{World, volume};
+use release_steps::{Kind, Page, Tag};
 use std::alloc::Global;
 use std::test::Fail;
 use stored_set::{

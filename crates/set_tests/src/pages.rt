@@ -1,11 +1,11 @@
 //! The pages of a directory: added, written anew, told and counted.
 ghost use Rattle.std.specs.Prelude.{◌+◌, ◌<◌, IfOk, OnOk};
-ghost use Rattle.domain_base.specs.Limits.{file_pages};
+ghost use Rattle.release_steps.specs.domain_base.Limits.{file_pages};
 ghost use Rattle.set_tests.specs.Worlds.{HasPages};
 
 use crate::sets::{empty_world, make_one};
-use domain_base::{Kind, Page, Tag, Version};
 use file_tests::world::{World, volume};
+use release_steps::{Kind, Page, Tag, Version};
 use std::alloc::Global;
 use std::test::Fail;
 use stored_set::{add_page, count_pages_of, one_set_is_shown, page_of, write_page};

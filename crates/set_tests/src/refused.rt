@@ -1,12 +1,11 @@
 //! A volume of which no page is free: a directory gets no page, and no index.
 ghost use Rattle.std.specs.Prelude.{OnErr};
-ghost use Rattle.domain_base.specs.declared.place.Kind.TheVariants.{Directory};
+ghost use Rattle.release_steps.specs.domain_base.declared.place.Kind.TheVariants.{Directory};
 ghost use Rattle.set_tests.specs.Worlds.{IsSet, only_new};
 
 use crate::sets::{length_told, make_one, world_of};
-use domain_base::{Kind, Page, Tag, Version};
 use file_tests::world::{World, volume};
-use page_store::StoreFault;
+use release_steps::{Kind, Page, StoreFault, Tag, Version};
 use std::alloc::Global;
 use std::test::Fail;
 use stored_set::{add_page, insert_index_page, one_set_is_shown};

@@ -1,10 +1,10 @@
 //! A directory made and given a page, and a file made, linked and taken away.
 ghost use Rattle.std.specs.Prelude.{◌^◌, ◌≤◌, IfOk, None, OnOk};
-ghost use Rattle.domain_base.specs.declared.place.Kind.TheVariants.{Directory, File};
+ghost use Rattle.release_steps.specs.domain_base.declared.place.Kind.TheVariants.{Directory, File};
 ghost use Rattle.set_tests.specs.Worlds.{HasTag, IsSet, IsSomeSet, only_new, with_first_page};
 
-use domain_base::{Kind, Page, Tag, Version};
 use file_tests::world::{World, new_world, volume};
+use release_steps::{Kind, Page, Tag, Version};
 use std::alloc::Global;
 use std::test::Fail;
 use stored_set::{

@@ -2,16 +2,16 @@
 use Rattle.std.proofs.Common.{◌≡◌, ◌∙◌, ℕ, ◌+◌, ◌<◌, List, [], ◌∷◌, ◌++◌, length, Some, None, Contains, slice_get, sym, ap, subst, arith, ⊎_elim}
 use Rattle.std.proofs.lemmas.Bool.{cases_lt}
 use Rattle.std.proofs.lemmas.List.Elements.{Contains-append_left, Contains-push, Contains-push_cases}
-use Rattle.domain_base.specs.declared.place.Tag.{Tag}
-use Rattle.bmt_mcells.specs.Chain.{PlacedCell}
-use Rattle.domain_layout.specs.Reached.{Frame}
-use Rattle.domain_layout.specs.Seen.{SeenFile}
-use Rattle.layout_laws.proofs.OnePage.{some_same}
-use Rattle.filesets_reading.proofs.Ways.{get_pushed, within_of}
-use Rattle.fileset_shapes.specs.Tags.{ListsOnce}
-use Rattle.row_faults.specs.There.{WasRead}
-use Rattle.row_faults.specs.declared.there.FileThere.{FileThere}
-use Rattle.row_paths.proofs.AllLed.{at_contains}
+use Rattle.index_row_faults.specs.domain_base.declared.place.Tag.{Tag}
+use Rattle.index_row_faults.specs.metadata_cells.Chain.{PlacedCell}
+use Rattle.index_row_faults.specs.domain_layout.Reached.{Frame}
+use Rattle.index_row_faults.specs.domain_layout.Seen.{SeenFile}
+use Rattle.index_row_faults.proofs.OfDomainLayout.OnePage.{some_same}
+use Rattle.index_row_faults.proofs.OfFilesetsReading.Ways.{get_pushed, within_of}
+use Rattle.index_row_faults.specs.fileset_shapes.Tags.{ListsOnce}
+use Rattle.index_row_faults.specs.directory_faults.There.{WasRead}
+use Rattle.index_row_faults.specs.directory_faults.declared.there.FileThere.{FileThere}
+use Rattle.index_row_faults.proofs.OfDirectoryRows.AllLed.{at_contains}
 use Rattle.slot_files.specs.Files.{AreAllSo, IsReadSo, ReadsSo}
 
 -- the files of the first tags, and no other

@@ -5,41 +5,41 @@ use Rattle.std.proofs.lemmas.Bool.{cases_lt}
 use mathlib.Core.Bool.{false≢true}
 use Rattle.std.proofs.lemmas.Option.{slice_get_within}
 use Rattle.std.proofs.lemmas.List.Elements.{Contains-append_left, Contains-push, Contains-push_cases}
-use Rattle.domain_base.specs.declared.place.CellAt.{CellAt}
-use Rattle.domain_base.specs.declared.place.Home.{Home}
-use Rattle.domain_base.specs.declared.place.Tag.{Tag}
-use Rattle.domain_base.specs.declared.place.Kind.TheVariants.{Directory}
-use Rattle.page_store.specs.Pages.{Pages}
-use Rattle.record_table.specs.declared.record.Record.{Record}
-use Rattle.record_table.specs.declared.record.Record.TheVariants as written
-use Rattle.bmt_mcells.specs.Chain.{LinksFrom, PlacedCell}
-use Rattle.bitfile_cells.specs.Files.{places_of}
-use Rattle.bitfile_core.specs.Files.{attributes_of, first_record, is_removed, keep_of}
-use Rattle.bitfile_core.specs.Shown.{index_in}
-use Rattle.bitfile_core.specs.declared.attributes.Attributes.{Attributes}
-use Rattle.extent_maps.specs.Runs.{home_at}
-use Rattle.extent_records.specs.Writing.{places_before}
-use Rattle.tag_dirs.specs.Directory.{cell_of}
-use Rattle.fileset_table.specs.Table.{Table}
-use Rattle.fileset_table.specs.declared.slot.FilesetEntry.{FilesetEntry}
-use Rattle.fileset_table.specs.declared.slot.SlotItem.{SlotItem}
-use Rattle.fileset_table.specs.declared.slot.SlotItem.TheVariants as slot
-use Rattle.domain_layout.specs.CellRules.{of_clone}
-use Rattle.domain_layout.specs.DirectoryRules as rule
-use Rattle.domain_layout.specs.DirectoryRules.{Has, HasSecondPage, IsInItem, total_in}
-use Rattle.domain_layout.specs.Faults.{HasNoTablesFault}
-use Rattle.domain_layout.specs.Reached.{Frame}
-use Rattle.domain_layout.specs.Seen.{SeenFile, kept_by, seen_in}
-use Rattle.layout_laws.proofs.Named.{first_there}
-use Rattle.layout_laws.proofs.OnePage.{some_same}
-use Rattle.filesets_reading.specs.Chains.{HasLinks}
-use Rattle.filesets_reading.specs.Tables.{AreTablesOf}
-use Rattle.filesets_reading.specs.declared.tables.DomainTables.{DomainTables}
-use Rattle.filesets_reading.proofs.Unbroken.{unbroken}
-use Rattle.index_row_faults.proofs.HomesFound.{on_volume}
-use Rattle.row_faults.specs.There.{AreFilesIn, BeginAt, IsReadFile}
-use Rattle.row_faults.specs.declared.there.FileThere.{FileThere}
-use Rattle.row_faults.proofs.Inserted.{among_at, at_among}
+use Rattle.index_row_faults.specs.domain_base.declared.place.CellAt.{CellAt}
+use Rattle.index_row_faults.specs.domain_base.declared.place.Home.{Home}
+use Rattle.index_row_faults.specs.domain_base.declared.place.Tag.{Tag}
+use Rattle.index_row_faults.specs.domain_base.declared.place.Kind.TheVariants.{Directory}
+use Rattle.index_row_faults.specs.page_store.Pages.{Pages}
+use Rattle.index_row_faults.specs.cell_records.declared.record.Record.{Record}
+use Rattle.index_row_faults.specs.cell_records.declared.record.Record.TheVariants as written
+use Rattle.index_row_faults.specs.metadata_cells.Chain.{LinksFrom, PlacedCell}
+use Rattle.index_row_faults.specs.file_chains.Files.{places_of}
+use Rattle.index_row_faults.specs.fileset_files.Files.{attributes_of, first_record, is_removed, keep_of}
+use Rattle.index_row_faults.specs.fileset_files.Shown.{index_in}
+use Rattle.index_row_faults.specs.fileset_files.declared.attributes.Attributes.{Attributes}
+use Rattle.index_row_faults.specs.extent_maps.Runs.{home_at}
+use Rattle.index_row_faults.specs.extent_records.Writing.{places_before}
+use Rattle.index_row_faults.specs.tag_dirs.Directory.{cell_of}
+use Rattle.index_row_faults.specs.fileset_table.Table.{Table}
+use Rattle.index_row_faults.specs.fileset_table.declared.slot.FilesetEntry.{FilesetEntry}
+use Rattle.index_row_faults.specs.fileset_table.declared.slot.SlotItem.{SlotItem}
+use Rattle.index_row_faults.specs.fileset_table.declared.slot.SlotItem.TheVariants as slot
+use Rattle.index_row_faults.specs.domain_layout.CellRules.{of_clone}
+use Rattle.index_row_faults.specs.domain_layout.DirectoryRules as rule
+use Rattle.index_row_faults.specs.domain_layout.DirectoryRules.{Has, HasSecondPage, IsInItem, total_in}
+use Rattle.index_row_faults.specs.domain_layout.Faults.{HasNoTablesFault}
+use Rattle.index_row_faults.specs.domain_layout.Reached.{Frame}
+use Rattle.index_row_faults.specs.domain_layout.Seen.{SeenFile, kept_by, seen_in}
+use Rattle.index_row_faults.proofs.OfDomainLayout.Named.{first_there}
+use Rattle.index_row_faults.proofs.OfDomainLayout.OnePage.{some_same}
+use Rattle.index_row_faults.specs.filesets_reading.Chains.{HasLinks}
+use Rattle.index_row_faults.specs.filesets_reading.Tables.{AreTablesOf}
+use Rattle.index_row_faults.specs.filesets_reading.declared.tables.DomainTables.{DomainTables}
+use Rattle.index_row_faults.proofs.OfFilesetsReading.Unbroken.{unbroken}
+use Rattle.index_row_faults.proofs.OfPageFaults.HomesFound.{on_volume}
+use Rattle.index_row_faults.specs.directory_faults.There.{AreFilesIn, BeginAt, IsReadFile}
+use Rattle.index_row_faults.specs.directory_faults.declared.there.FileThere.{FileThere}
+use Rattle.index_row_faults.proofs.OfDirectoryFaults.Inserted.{among_at, at_among}
 use Rattle.index_row_faults.specs.There.{AreIndexesIn}
 use Rattle.index_row_faults.specs.declared.there.IndexThere.{IndexThere}
 use Rattle.slot_files.specs.Files.{HasOriginalAt, IsWhole, kept_homes}

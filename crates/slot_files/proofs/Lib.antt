@@ -6,3 +6,17 @@ pub mod SaidPlaces
 pub mod SaidSizes
 pub mod SlotFiles
 pub mod TagFiles
+pub mod OfDirectoryFaults
+pub mod OfDiskLabel
+pub mod OfDomainLayout
+pub mod OfExtentMaps
+pub mod OfFilesetShapes
+pub mod OfFilesetTable
+pub mod OfFilesetsReading
+pub mod OfIndexRowFaults
+pub mod OfLogRecovery
+pub mod OfLogRing
+pub mod OfMetadataCells
+pub mod OfPageFaults
+pub mod OfSortedSets
+pub mod OfVolumeDisk

@@ -6,7 +6,7 @@ use Rattle.std.proofs.lemmas.Grind.{flat_map-append}
 use Rattle.std.proofs.lemmas.List.{append-nil}
 use Rattle.std.proofs.lemmas.Bool.{cases_lt}
 use Rattle.std.proofs.lemmas.Option.{slice_get_past}
-use Rattle.filesets_reading.proofs.Ways.{get_front, get_seam, pushed}
+use Rattle.index_row_faults.proofs.OfFilesetsReading.Ways.{get_front, get_seam, pushed}
 
 pub taken : {X : Type 0} (all : List X) (k : ℕ) (d : X) → k < length all → take (k + 1) all ≡ take k all ++ get_or all k d ∷ []
 taken all k d within = ap (λ n. take n all) (add-one k) ∙ take-suc all k d within

@@ -1,35 +1,35 @@
 -- What was read of a file by its first cell is what its cells say.
 use Rattle.std.proofs.Common.{◌≡◌, ◌∙◌, ◌⊎◌, ◌↔◌, ℕ, Bool, true, false, cond, nat_lt, List, [], ◌∷◌, Option, Some, None, Result, Ok, Err, IfOk, IfSome, IsTrue, refl, sym, ap, subst}
 use Rattle.std.specs.Option.{option_and_then, option_map, option_map_or}
-use Rattle.domain_base.specs.declared.place.CellAt.{CellAt}
-use Rattle.domain_base.specs.declared.place.Home.{Home}
-use Rattle.domain_base.specs.declared.place.Kind.{Kind}
-use Rattle.domain_base.specs.declared.place.Kind.TheVariants.{Directory, File}
-use Rattle.domain_base.specs.declared.place.Tag.{Tag}
-use Rattle.page_store.specs.Pages.{Pages}
-use Rattle.record_table.specs.declared.record.Record.{Record}
-use Rattle.bmt_mcells.specs.Chain.{LinksFrom, PlacedCell}
-use Rattle.bitfile_cells.specs.Files.{places_of}
-use Rattle.bitfile_core.specs.Files.{attributes_of, first_record, is_removed, keep_of}
-use Rattle.bitfile_core.specs.declared.attributes.Attributes.{Attributes}
-use Rattle.chain_release.specs.Reading.{own_or, read_home}
-use Rattle.bmt_mcells.specs.Chain.{records_of}
-use Rattle.bmt_mcells.specs.Reading.{ReadsChain}
-use Rattle.bmt_mcells.proofs.Linked.{linked}
-use Rattle.extent_maps.specs.Runs.{Places, home_at, place_of}
-use Rattle.extent_maps.specs.declared.run.PagePlace.{PagePlace}
-use Rattle.extent_maps.specs.declared.run.PagePlace.TheVariants.{Absent}
-use Rattle.extent_records.specs.Rows.{runs_of}
-use Rattle.extent_records.specs.Writing.{places_before}
-use Rattle.domain_layout.proofs.OneShape.{links_same, own_same}
-use Rattle.domain_layout.specs.DirectoryRules.{HasWrongSize}
-use Rattle.domain_layout.specs.Reached.{Frame, IsWithin}
-use Rattle.domain_layout.specs.Seen.{IsOwn, IsSource, SeenFile, frozen_of, is_in_sync, kept_by, seen_in, seen_through, source_of}
-use Rattle.domain_layout.specs.Shape.{IsSameSeen}
-use Rattle.filesets_reading.specs.Chains.{HasLinks}
-use Rattle.filesets_reading.specs.Seen.{home_in}
-use Rattle.row_faults.specs.There.{BeginAt, IsReadAs}
-use Rattle.row_faults.specs.declared.there.FileThere.{FileThere}
+use Rattle.index_row_faults.specs.domain_base.declared.place.CellAt.{CellAt}
+use Rattle.index_row_faults.specs.domain_base.declared.place.Home.{Home}
+use Rattle.index_row_faults.specs.domain_base.declared.place.Kind.{Kind}
+use Rattle.index_row_faults.specs.domain_base.declared.place.Kind.TheVariants.{Directory, File}
+use Rattle.index_row_faults.specs.domain_base.declared.place.Tag.{Tag}
+use Rattle.index_row_faults.specs.page_store.Pages.{Pages}
+use Rattle.index_row_faults.specs.cell_records.declared.record.Record.{Record}
+use Rattle.index_row_faults.specs.metadata_cells.Chain.{LinksFrom, PlacedCell}
+use Rattle.index_row_faults.specs.file_chains.Files.{places_of}
+use Rattle.index_row_faults.specs.fileset_files.Files.{attributes_of, first_record, is_removed, keep_of}
+use Rattle.index_row_faults.specs.fileset_files.declared.attributes.Attributes.{Attributes}
+use Rattle.index_row_faults.specs.file_release.Reading.{own_or, read_home}
+use Rattle.index_row_faults.specs.metadata_cells.Chain.{records_of}
+use Rattle.index_row_faults.specs.metadata_cells.Reading.{ReadsChain}
+use Rattle.index_row_faults.proofs.OfMetadataCells.Linked.{linked}
+use Rattle.index_row_faults.specs.extent_maps.Runs.{Places, home_at, place_of}
+use Rattle.index_row_faults.specs.extent_maps.declared.run.PagePlace.{PagePlace}
+use Rattle.index_row_faults.specs.extent_maps.declared.run.PagePlace.TheVariants.{Absent}
+use Rattle.index_row_faults.specs.extent_records.Rows.{runs_of}
+use Rattle.index_row_faults.specs.extent_records.Writing.{places_before}
+use Rattle.index_row_faults.proofs.OfDomainLayout.OneShape.{links_same, own_same}
+use Rattle.index_row_faults.specs.domain_layout.DirectoryRules.{HasWrongSize}
+use Rattle.index_row_faults.specs.domain_layout.Reached.{Frame, IsWithin}
+use Rattle.index_row_faults.specs.domain_layout.Seen.{IsOwn, IsSource, SeenFile, frozen_of, is_in_sync, kept_by, seen_in, seen_through, source_of}
+use Rattle.index_row_faults.specs.domain_layout.Shape.{IsSameSeen}
+use Rattle.index_row_faults.specs.filesets_reading.Chains.{HasLinks}
+use Rattle.index_row_faults.specs.filesets_reading.Seen.{home_in}
+use Rattle.index_row_faults.specs.directory_faults.There.{BeginAt, IsReadAs}
+use Rattle.index_row_faults.specs.directory_faults.declared.there.FileThere.{FileThere}
 use Rattle.slot_files.specs.Files.{HasPagesAt, IsBegun, IsOfClone, IsOfOriginal, IsReadAt, IsReadThrough, IsSameFile, IsThrough, ReadsSo, kept_homes, own_homes}
 use Rattle.slot_files.specs.Said.{HasGap, ListsPlaces, LosesPage, place_in, runs_there, said_in}
 use Rattle.slot_files.specs.declared.said.SaidHome.{SaidHome}

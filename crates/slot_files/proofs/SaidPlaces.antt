@@ -3,28 +3,28 @@ use Rattle.std.proofs.Common.{◌≡◌, ◌∙◌, ◌↔◌, ℕ, ◌+◌, ◌
 use Rattle.std.proofs.lemmas.Bool.{cases_lt, le-leb, le-ltb, lt-ltb, ne_eqb}
 use Rattle.std.proofs.lemmas.Option.{slice_get_past, slice_get-get_or}
 use Rattle.std.specs.Option.{option_and_then, option_map_or}
-use Rattle.domain_base.specs.declared.place.CellAt.{CellAt}
-use Rattle.domain_base.specs.declared.place.Home.{Home}
-use Rattle.page_store.specs.Pages.{Pages}
-use Rattle.record_table.specs.Records.{Allowed}
-use Rattle.record_table.specs.declared.record.Record.{Record}
-use Rattle.record_table.specs.declared.record.Record.TheVariants as written
-use Rattle.bmt_mcells.specs.Chain.{LinksFrom, PlacedCell}
-use Rattle.bitfile_core.specs.Files.{first_record}
-use Rattle.bitfile_core.proofs.Room.{allowed_found}
-use Rattle.chain_release.specs.Reading.{read_home}
-use Rattle.domain_layout.specs.Reached.{Frame, IsWithin}
-use Rattle.extent_maps.specs.Runs.{behind, covers, end_of, home_at, place_of, placed}
-use Rattle.extent_maps.specs.declared.run.PagePlace.{PagePlace}
-use Rattle.extent_maps.specs.declared.run.PagePlace.TheVariants.{Absent}
-use Rattle.extent_maps.specs.declared.run.Run.{Run}
-use Rattle.extent_maps.specs.declared.run.RunPlace.{RunPlace}
-use Rattle.extent_records.specs.Writing.{places_before}
-use Rattle.filesets_reading.specs.Chains.{HasLinks}
-use Rattle.filesets_reading.proofs.Originals.{none_behind}
-use Rattle.filesets_reading.proofs.Ways.{map_pushed}
-use Rattle.row_faults.specs.Clones.{HasVolume}
-use Rattle.row_faults.proofs.ReadHomes.{read_nowhere}
+use Rattle.index_row_faults.specs.domain_base.declared.place.CellAt.{CellAt}
+use Rattle.index_row_faults.specs.domain_base.declared.place.Home.{Home}
+use Rattle.index_row_faults.specs.page_store.Pages.{Pages}
+use Rattle.index_row_faults.specs.cell_records.Records.{Allowed}
+use Rattle.index_row_faults.specs.cell_records.declared.record.Record.{Record}
+use Rattle.index_row_faults.specs.cell_records.declared.record.Record.TheVariants as written
+use Rattle.index_row_faults.specs.metadata_cells.Chain.{LinksFrom, PlacedCell}
+use Rattle.index_row_faults.specs.fileset_files.Files.{first_record}
+use Rattle.index_row_faults.proofs.OfFilesetFiles.Room.{allowed_found}
+use Rattle.index_row_faults.specs.file_release.Reading.{read_home}
+use Rattle.index_row_faults.specs.domain_layout.Reached.{Frame, IsWithin}
+use Rattle.index_row_faults.specs.extent_maps.Runs.{behind, covers, end_of, home_at, place_of, placed}
+use Rattle.index_row_faults.specs.extent_maps.declared.run.PagePlace.{PagePlace}
+use Rattle.index_row_faults.specs.extent_maps.declared.run.PagePlace.TheVariants.{Absent}
+use Rattle.index_row_faults.specs.extent_maps.declared.run.Run.{Run}
+use Rattle.index_row_faults.specs.extent_maps.declared.run.RunPlace.{RunPlace}
+use Rattle.index_row_faults.specs.extent_records.Writing.{places_before}
+use Rattle.index_row_faults.specs.filesets_reading.Chains.{HasLinks}
+use Rattle.index_row_faults.proofs.OfFilesetsReading.Originals.{none_behind}
+use Rattle.index_row_faults.proofs.OfFilesetsReading.Ways.{map_pushed}
+use Rattle.index_row_faults.specs.fileset_shapes.Clones.{HasVolume}
+use Rattle.index_row_faults.proofs.OfFilesetShapes.ReadHomes.{read_nowhere}
 use Rattle.slot_files.specs.Said.{first_there, home_said, place_in, place_there, run_there, runs_there, said_in}
 use Rattle.slot_files.specs.declared.said.SaidHome.{SaidHome}
 use Rattle.slot_files.specs.declared.said.SaidPlace.{SaidPlace}

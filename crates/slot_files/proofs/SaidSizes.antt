@@ -3,12 +3,12 @@ use Rattle.std.proofs.Common.{◌≡◌, ◌∙◌, ◌⊎◌, ◌↔◌, inl, i
 use Rattle.std.proofs.lemmas.Bool.{cases_lt}
 use Rattle.std.proofs.lemmas.Option.{slice_get_past}
 use Rattle.std.specs.Option.{option_and_then}
-use Rattle.domain_base.specs.declared.place.Home.{Home}
-use Rattle.extent_maps.specs.Runs.{home_at}
-use Rattle.bmt_mcells.specs.Chain.{PlacedCell}
-use Rattle.bitfile_cells.specs.Files.{places_of}
-use Rattle.domain_layout.specs.DirectoryRules.{HasWrongSize}
-use Rattle.domain_layout.specs.Seen.{SeenFile}
+use Rattle.index_row_faults.specs.domain_base.declared.place.Home.{Home}
+use Rattle.index_row_faults.specs.extent_maps.Runs.{home_at}
+use Rattle.index_row_faults.specs.metadata_cells.Chain.{PlacedCell}
+use Rattle.index_row_faults.specs.file_chains.Files.{places_of}
+use Rattle.index_row_faults.specs.domain_layout.DirectoryRules.{HasWrongSize}
+use Rattle.index_row_faults.specs.domain_layout.Seen.{SeenFile}
 use Rattle.slot_files.specs.Said.{HasFirst, HasGap, IsLostAt, ListsPlaces, LosesPage, home_said, place_in, said_in}
 use Rattle.slot_files.specs.declared.said.SaidHome.{SaidHome}
 use Rattle.slot_files.specs.declared.said.SaidPlace.{SaidPlace}

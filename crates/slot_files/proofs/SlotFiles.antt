@@ -3,43 +3,43 @@ use Rattle.std.proofs.Common.{◌≡◌, ◌∙◌, ◌⊎◌, ◌↔◌, inl, i
 use Rattle.std.specs.List.{list_all}
 use Rattle.std.specs.Option.{option_and_then, option_map_or}
 use Rattle.std.specs.Prelude.{◌&&◌}
-use Rattle.domain_base.specs.declared.place.CellAt.{CellAt}
-use Rattle.domain_base.specs.declared.place.Home.{Home}
-use Rattle.domain_base.specs.declared.place.Tag.{Tag}
-use Rattle.page_store.specs.Pages.{Pages}
-use Rattle.record_table.specs.Fields.{number_at}
-use Rattle.bmt_mcells.specs.Cell.{IsFileset}
-use Rattle.bmt_mcells.specs.CellPage.{home_of}
-use Rattle.bmt_mcells.specs.Chain.{LinksFrom, PlacedCell}
-use Rattle.bmt_mcells.specs.declared.head.CellKind.TheVariants as kinds
-use Rattle.bmt_mcells.proofs.Walk.{one_kind}
-use Rattle.bitfile_core.specs.Files.{is_removed}
-use Rattle.tag_dirs.specs.Directory.{IsDirectoryAt, cell_of}
-use Rattle.tag_dirs.specs.declared.dir.TagPlace.{TagPlace}
-use Rattle.tag_dirs.proofs.Reading.{same_directory}
-use Rattle.fileset_table.specs.Page.{IsTablePage}
-use Rattle.fileset_table.specs.Table.{IsTable, Table, entry_of as fileset_of, is_original, leads_to_original}
-use Rattle.fileset_table.specs.declared.slot.FilesetEntry.{FilesetEntry}
-use Rattle.fileset_table.specs.declared.slot.SlotItem.{SlotItem}
-use Rattle.fileset_table.specs.declared.slot.SlotItem.TheVariants as slot
-use Rattle.domain_layout.specs.DirectoryRules as rule
-use Rattle.domain_layout.specs.DirectoryRules.{Has, IsInItem, IsNotThere, IsThere}
-use Rattle.domain_layout.specs.Faults.{HasNoTablesFault}
-use Rattle.domain_layout.specs.Layout.{AreTagPlaces, first_tag_of}
-use Rattle.domain_layout.specs.Owners.{frame_of}
-use Rattle.domain_layout.specs.Reached.{Frame}
-use Rattle.domain_layout.specs.Seen.{IsOwn, SeenFile, seen_in, seen_through, source_of}
-use Rattle.domain_layout.specs.TagRules.{HasTags, IsFirstOf, original_slot}
-use Rattle.layout_laws.proofs.Named.{first_there}
-use Rattle.layout_laws.proofs.OnePage.{one_of, some_same}
-use Rattle.layout_laws.proofs.OwnedOnce.{no_tags}
-use Rattle.filesets_reading.specs.Chains.{IsUnbroken}
-use Rattle.filesets_reading.specs.Tables.{AreTablesOf}
-use Rattle.filesets_reading.specs.declared.tables.DomainTables.{DomainTables}
-use Rattle.filesets_reading.proofs.Unbroken.{unbroken}
-use Rattle.fileset_shapes.specs.Tags.{IsUsed}
-use Rattle.row_faults.specs.There.{AreFilesIn}
-use Rattle.row_faults.specs.declared.there.FileThere.{FileThere}
+use Rattle.index_row_faults.specs.domain_base.declared.place.CellAt.{CellAt}
+use Rattle.index_row_faults.specs.domain_base.declared.place.Home.{Home}
+use Rattle.index_row_faults.specs.domain_base.declared.place.Tag.{Tag}
+use Rattle.index_row_faults.specs.page_store.Pages.{Pages}
+use Rattle.index_row_faults.specs.cell_records.Fields.{number_at}
+use Rattle.index_row_faults.specs.metadata_cells.Cell.{IsFileset}
+use Rattle.index_row_faults.specs.metadata_cells.CellPage.{home_of}
+use Rattle.index_row_faults.specs.metadata_cells.Chain.{LinksFrom, PlacedCell}
+use Rattle.index_row_faults.specs.metadata_cells.declared.head.CellKind.TheVariants as kinds
+use Rattle.index_row_faults.proofs.OfMetadataCells.Walk.{one_kind}
+use Rattle.index_row_faults.specs.fileset_files.Files.{is_removed}
+use Rattle.index_row_faults.specs.tag_dirs.Directory.{IsDirectoryAt, cell_of}
+use Rattle.index_row_faults.specs.tag_dirs.declared.dir.TagPlace.{TagPlace}
+use Rattle.index_row_faults.proofs.OfTagDirs.Reading.{same_directory}
+use Rattle.index_row_faults.specs.fileset_table.Page.{IsTablePage}
+use Rattle.index_row_faults.specs.fileset_table.Table.{IsTable, Table, entry_of as fileset_of, is_original, leads_to_original}
+use Rattle.index_row_faults.specs.fileset_table.declared.slot.FilesetEntry.{FilesetEntry}
+use Rattle.index_row_faults.specs.fileset_table.declared.slot.SlotItem.{SlotItem}
+use Rattle.index_row_faults.specs.fileset_table.declared.slot.SlotItem.TheVariants as slot
+use Rattle.index_row_faults.specs.domain_layout.DirectoryRules as rule
+use Rattle.index_row_faults.specs.domain_layout.DirectoryRules.{Has, IsInItem, IsNotThere, IsThere}
+use Rattle.index_row_faults.specs.domain_layout.Faults.{HasNoTablesFault}
+use Rattle.index_row_faults.specs.domain_layout.Layout.{AreTagPlaces, first_tag_of}
+use Rattle.index_row_faults.specs.domain_layout.Owners.{frame_of}
+use Rattle.index_row_faults.specs.domain_layout.Reached.{Frame}
+use Rattle.index_row_faults.specs.domain_layout.Seen.{IsOwn, SeenFile, seen_in, seen_through, source_of}
+use Rattle.index_row_faults.specs.domain_layout.TagRules.{HasTags, IsFirstOf, original_slot}
+use Rattle.index_row_faults.proofs.OfDomainLayout.Named.{first_there}
+use Rattle.index_row_faults.proofs.OfDomainLayout.OnePage.{one_of, some_same}
+use Rattle.index_row_faults.proofs.OfDomainLayout.OwnedOnce.{no_tags}
+use Rattle.index_row_faults.specs.filesets_reading.Chains.{IsUnbroken}
+use Rattle.index_row_faults.specs.filesets_reading.Tables.{AreTablesOf}
+use Rattle.index_row_faults.specs.filesets_reading.declared.tables.DomainTables.{DomainTables}
+use Rattle.index_row_faults.proofs.OfFilesetsReading.Unbroken.{unbroken}
+use Rattle.index_row_faults.specs.fileset_shapes.Tags.{IsUsed}
+use Rattle.index_row_faults.specs.directory_faults.There.{AreFilesIn}
+use Rattle.index_row_faults.specs.directory_faults.declared.there.FileThere.{FileThere}
 use Rattle.slot_files.specs.Files.{AreAllSo, HasOriginalAt, HaveWholeSources, IsInClone, IsInOriginal, IsOfClone, IsOfOriginal, IsThrough, IsWhole}
 
 no_bool : {P : Type 0} → false ≡ true → P

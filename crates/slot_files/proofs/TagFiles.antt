@@ -1,12 +1,12 @@
 -- What was read by the cell to which a tag leads is what a fileset has at the tag.
 use Rattle.std.proofs.Common.{◌≡◌, ◌∙◌, inl, inr, ℕ, List, Option, Some, None, IsSomeAnd, sym, subst, ⊎_elim}
-use Rattle.domain_base.specs.declared.place.CellAt.{CellAt}
-use Rattle.domain_base.specs.declared.place.Tag.{Tag}
-use Rattle.page_store.specs.Pages.{Pages}
-use Rattle.tag_dirs.specs.Directory.{cell_of}
-use Rattle.tag_dirs.specs.declared.dir.TagPlace.{TagPlace}
-use Rattle.domain_layout.specs.Reached.{Frame}
-use Rattle.row_faults.specs.declared.there.FileThere.{FileThere}
+use Rattle.index_row_faults.specs.domain_base.declared.place.CellAt.{CellAt}
+use Rattle.index_row_faults.specs.domain_base.declared.place.Tag.{Tag}
+use Rattle.index_row_faults.specs.page_store.Pages.{Pages}
+use Rattle.index_row_faults.specs.tag_dirs.Directory.{cell_of}
+use Rattle.index_row_faults.specs.tag_dirs.declared.dir.TagPlace.{TagPlace}
+use Rattle.index_row_faults.specs.domain_layout.Reached.{Frame}
+use Rattle.index_row_faults.specs.directory_faults.declared.there.FileThere.{FileThere}
 use Rattle.slot_files.specs.Files.{IsBehind, IsInClone, IsInOriginal, IsOfClone, IsOfOriginal, IsThrough, ReadsSo}
 use Rattle.slot_files.proofs.ReadFiles.{reads_none, reads_same}
 

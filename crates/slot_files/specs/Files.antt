@@ -1,27 +1,27 @@
 -- What is read of a fileset's files, by its tag directory.
 use Rattle.std.specs.Prelude.{◌≡◌, ◌⊎◌, ◌↔◌, ℕ, false, List, Option, Some, None, Contains, IfSome, IsSomeAnd, IsTrue, slice_get}
-use Rattle.domain_base.specs.declared.place.CellAt.{CellAt}
-use Rattle.domain_base.specs.declared.place.Home.{Home}
-use Rattle.domain_base.specs.declared.place.Tag.{Tag}
-use Rattle.page_store.specs.Pages.{Pages}
-use Rattle.bmt_mcells.specs.Chain.{IsBroken, LinksFrom, PlacedCell}
-use Rattle.tag_dirs.specs.Directory.{cell_of}
-use Rattle.tag_dirs.specs.declared.dir.TagPlace.{TagPlace}
-use Rattle.extent_maps.specs.Runs.{Places, home_at}
-use Rattle.extent_records.specs.Writing.{places_before}
-use Rattle.bitfile_cells.specs.Files.{places_of}
-use Rattle.bitfile_core.specs.Files.{is_removed}
-use Rattle.bitfile_core.specs.State.{parent_of}
-use Rattle.bitfile_core.specs.declared.attributes.Attributes.{Attributes}
-use Rattle.chain_release.specs.Reading.{read_home}
-use Rattle.fileset_table.specs.Table.{Table}
-use Rattle.fileset_table.specs.declared.slot.FilesetEntry.{FilesetEntry}
-use Rattle.fileset_table.specs.declared.slot.SlotItem.TheVariants as slot
-use Rattle.domain_layout.specs.Reached.{Frame, IsWithin}
-use Rattle.domain_layout.specs.Seen.{IsOwn, IsSource, SeenFile, frozen_of, seen_in, seen_through, source_of}
-use Rattle.filesets_reading.specs.Seen.{home_in}
-use Rattle.row_faults.specs.There.{IsReadAs, WasRead}
-use Rattle.row_faults.specs.declared.there.FileThere.{FileThere}
+use Rattle.index_row_faults.specs.domain_base.declared.place.CellAt.{CellAt}
+use Rattle.index_row_faults.specs.domain_base.declared.place.Home.{Home}
+use Rattle.index_row_faults.specs.domain_base.declared.place.Tag.{Tag}
+use Rattle.index_row_faults.specs.page_store.Pages.{Pages}
+use Rattle.index_row_faults.specs.metadata_cells.Chain.{IsBroken, LinksFrom, PlacedCell}
+use Rattle.index_row_faults.specs.tag_dirs.Directory.{cell_of}
+use Rattle.index_row_faults.specs.tag_dirs.declared.dir.TagPlace.{TagPlace}
+use Rattle.index_row_faults.specs.extent_maps.Runs.{Places, home_at}
+use Rattle.index_row_faults.specs.extent_records.Writing.{places_before}
+use Rattle.index_row_faults.specs.file_chains.Files.{places_of}
+use Rattle.index_row_faults.specs.fileset_files.Files.{is_removed}
+use Rattle.index_row_faults.specs.fileset_files.State.{parent_of}
+use Rattle.index_row_faults.specs.fileset_files.declared.attributes.Attributes.{Attributes}
+use Rattle.index_row_faults.specs.file_release.Reading.{read_home}
+use Rattle.index_row_faults.specs.fileset_table.Table.{Table}
+use Rattle.index_row_faults.specs.fileset_table.declared.slot.FilesetEntry.{FilesetEntry}
+use Rattle.index_row_faults.specs.fileset_table.declared.slot.SlotItem.TheVariants as slot
+use Rattle.index_row_faults.specs.domain_layout.Reached.{Frame, IsWithin}
+use Rattle.index_row_faults.specs.domain_layout.Seen.{IsOwn, IsSource, SeenFile, frozen_of, seen_in, seen_through, source_of}
+use Rattle.index_row_faults.specs.filesets_reading.Seen.{home_in}
+use Rattle.index_row_faults.specs.directory_faults.There.{IsReadAs, WasRead}
+use Rattle.index_row_faults.specs.directory_faults.declared.there.FileThere.{FileThere}
 use Rattle.slot_files.specs.Said.{HasGap, LosesPage, said_in}
 use Rattle.slot_files.specs.declared.said.SaidHome.{SaidHome}
 use Rattle.slot_files.specs.declared.said.SaidPlace.{SaidPlace}

@@ -1,17 +1,17 @@
 -- What is read of the indexes of an original's files.
 use Rattle.std.specs.Prelude.{◌≡◌, ℕ, List, Option, Some, None, Contains, IfSome, IsSome, IsSomeAnd}
 use Rattle.std.specs.Option.{option_and_then}
-use Rattle.domain_base.specs.declared.place.Home.{Home}
-use Rattle.page_store.specs.Pages.{Pages}
-use Rattle.record_table.specs.declared.record.Record.{Record}
-use Rattle.record_table.specs.declared.record.Record.TheVariants as written
-use Rattle.bmt_mcells.specs.Chain.{LinksFrom, PlacedCell}
-use Rattle.bitfile_core.specs.Files.{first_record}
-use Rattle.bitfile_core.specs.Shown.{index_in}
-use Rattle.domain_layout.specs.DirectoryRules.{total_in}
-use Rattle.domain_layout.specs.Seen.{SeenFile, seen_in}
-use Rattle.fileset_table.specs.Table.{Table}
-use Rattle.row_faults.specs.declared.there.FileThere.{FileThere}
+use Rattle.index_row_faults.specs.domain_base.declared.place.Home.{Home}
+use Rattle.index_row_faults.specs.page_store.Pages.{Pages}
+use Rattle.index_row_faults.specs.cell_records.declared.record.Record.{Record}
+use Rattle.index_row_faults.specs.cell_records.declared.record.Record.TheVariants as written
+use Rattle.index_row_faults.specs.metadata_cells.Chain.{LinksFrom, PlacedCell}
+use Rattle.index_row_faults.specs.fileset_files.Files.{first_record}
+use Rattle.index_row_faults.specs.fileset_files.Shown.{index_in}
+use Rattle.index_row_faults.specs.domain_layout.DirectoryRules.{total_in}
+use Rattle.index_row_faults.specs.domain_layout.Seen.{SeenFile, seen_in}
+use Rattle.index_row_faults.specs.fileset_table.Table.{Table}
+use Rattle.index_row_faults.specs.directory_faults.declared.there.FileThere.{FileThere}
 use Rattle.index_row_faults.specs.There.{MayBeOf}
 use Rattle.index_row_faults.specs.declared.there.IndexThere.{IndexThere}
 use Rattle.slot_files.specs.Files.{HasOriginalAt, IsWhole}

@@ -1,13 +1,13 @@
 -- Pages of files as records say them, on whatever volume and page that is.
 use Rattle.std.specs.Prelude.{◌≡◌, ◌*◌, ◌<◌, ◌↔◌, ℕ, List, map, Option, None, IsSome, slice_get}
 use Rattle.std.specs.Option.{option_and_then, option_map, option_map_or}
-use Rattle.domain_base.specs.declared.place.Home.{Home}
-use Rattle.extent_maps.specs.Runs.{Places, home_at}
-use Rattle.extent_maps.specs.declared.run.PagePlace.{PagePlace}
-use Rattle.extent_maps.specs.declared.run.PagePlace.TheVariants.{At, Hole, Absent}
-use Rattle.extent_maps.specs.declared.run.RunPlace.{RunPlace}
-use Rattle.extent_maps.specs.declared.run.RunPlace.TheVariants as place
-use Rattle.extent_maps.specs.declared.run.Run.{Run}
+use Rattle.index_row_faults.specs.domain_base.declared.place.Home.{Home}
+use Rattle.index_row_faults.specs.extent_maps.Runs.{Places, home_at}
+use Rattle.index_row_faults.specs.extent_maps.declared.run.PagePlace.{PagePlace}
+use Rattle.index_row_faults.specs.extent_maps.declared.run.PagePlace.TheVariants.{At, Hole, Absent}
+use Rattle.index_row_faults.specs.extent_maps.declared.run.RunPlace.{RunPlace}
+use Rattle.index_row_faults.specs.extent_maps.declared.run.RunPlace.TheVariants as place
+use Rattle.index_row_faults.specs.extent_maps.declared.run.Run.{Run}
 use Rattle.slot_files.specs.declared.said.SaidFirst.{SaidFirst}
 use Rattle.slot_files.specs.declared.said.SaidFirst.TheVariants as first
 use Rattle.slot_files.specs.declared.said.SaidHome.{SaidHome}

@@ -1,22 +1,19 @@
 //! Where a file's chain of cells has its pages.
 ghost use Rattle.std.specs.Prelude.{IfOk, IfSome, List, OnOk};
-ghost use Rattle.bmt_mcells.specs.Chain.{LinksFrom, PlacedCell};
-ghost use Rattle.bitfile_cells.specs.Files.{places_of};
-ghost use Rattle.domain_layout.specs.Seen.{IsSource};
-ghost use Rattle.filesets_reading.specs.Chains.{HasLinks};
+ghost use Rattle.index_row_faults.specs.metadata_cells.Chain.{LinksFrom, PlacedCell};
+ghost use Rattle.index_row_faults.specs.file_chains.Files.{places_of};
+ghost use Rattle.index_row_faults.specs.domain_layout.Seen.{IsSource};
+ghost use Rattle.index_row_faults.specs.filesets_reading.Chains.{HasLinks};
 ghost use Rattle.slot_files.specs.Files.{IsWhole};
 ghost use Rattle.slot_files.specs.Said.{ListsPlaces, place_in};
 
 use crate::places::places_said;
 use crate::runs::runs_said;
 use crate::said::SaidPlace;
-use bmt_mcells::{ChainFault, read_chain};
-use domain_base::{CellAt, OutOfMemory};
-use filesets_reading::look_at_chain;
-use page_store::MetaPages;
+use index_row_faults::{CellAt, ChainFault, MetaPages, OutOfMemory, look_at_chain, read_chain};
 use std::alloc::Global;
 
-/// Where each page is by the chain of cells that begins there and is whole.
+/// Where each page is, by the whole chain of cells that begins there.
 pub(crate) fn places_at<M: MetaPages>(
     alloc: Global,
     pages: &M,
@@ -52,7 +49,7 @@ pub(crate) fn look_at_source<M: MetaPages>(
     }
 }
 
-/// Where the source of a clone's file has its pages, and none where it has no source.
+/// Where the source of a clone's file has its pages; no page if it has no source.
 pub(crate) fn source_places<M: MetaPages>(
     alloc: Global,
     pages: &M,

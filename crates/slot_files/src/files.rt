@@ -1,7 +1,7 @@
 //! What is read of a file or directory whose first cell stands at a place.
 ghost use Rattle.std.specs.Prelude.{IfOk, IfSome};
-ghost use Rattle.filesets_reading.specs.Chains.{HasLinks};
-ghost use Rattle.page_ways.specs.Frame.{frame_in};
+ghost use Rattle.index_row_faults.specs.filesets_reading.Chains.{HasLinks};
+ghost use Rattle.index_row_faults.specs.page_ways.Frame.{frame_in};
 ghost use Rattle.slot_files.specs.Files.{HasPagesAt, HasWholeSource, IsBegun, IsOfClone, IsOfOriginal, IsReadAt, IsReadThrough, IsSameFile, IsThrough, IsWhole, ReadsSo, kept_homes};
 
 use crate::chains::{look_at_source, places_at, source_places};
@@ -13,15 +13,12 @@ use crate::records::{
 };
 use crate::said::{SaidHome, SaidPlace};
 use crate::sizes::has_wrong_size;
-use bitfile_core::Attributes;
-use domain_base::{CellAt, Kind, OutOfMemory, Tag};
-use filesets_reading::SeenPages;
-use page_store::MetaPages;
-use page_ways::DomainFrame;
-use row_faults::FileThere;
+use index_row_faults::{
+    Attributes, CellAt, DomainFrame, FileThere, Kind, MetaPages, OutOfMemory, SeenPages, Tag,
+};
 use std::alloc::Global;
 
-/// A file with this tag and first cell, of which no pages are read.
+/// A file with this tag and first cell. No pages of it are read.
 fn file_there<M: MetaPages>(
     alloc: Global,
     pages: &M,
@@ -43,7 +40,8 @@ fn file_there<M: MetaPages>(
     }
 }
 
-/// The same of a directory, by where its cells have its pages and at which homes it has them.
+/// A directory with this tag and first cell, by where its cells have its pages and at which homes
+/// it has them.
 fn directory_there(
     alloc: Global,
     frame: &DomainFrame,
@@ -59,7 +57,7 @@ fn directory_there(
     Ok(file)
 }
 
-/// The file or directory of an original that has these attributes and keeps so many pages.
+/// The file or directory of an original with these attributes and so many kept pages.
 fn original_there<M: MetaPages>(
     alloc: Global,
     pages: &M,
@@ -109,7 +107,7 @@ fn own_there<M: MetaPages>(
     directory_there(alloc, frame, file, &own, &homes)
 }
 
-/// The file or directory as an original has it. None exactly where it is to be removed.
+/// The file or directory as an original has it. None if and only if it is to be removed.
 pub(crate) fn read_original_at<M: MetaPages>(
     alloc: Global,
     pages: &M,
@@ -135,7 +133,7 @@ pub(crate) fn read_original_at<M: MetaPages>(
     Ok(Some(file))
 }
 
-/// The file or directory of a clone's own cells. None exactly where it is to be removed.
+/// The file or directory of a clone's own cells. None if and only if it is to be removed.
 pub(crate) fn read_own_at<M: MetaPages>(
     alloc: Global,
     pages: &M,
@@ -161,7 +159,7 @@ pub(crate) fn read_own_at<M: MetaPages>(
     Ok(Some(file))
 }
 
-/// The file or directory of an original that the clone of that number has too. None exactly where
+/// The file or directory of an original that the clone of that number has, too. None if and only if
 /// it was made after the clone, is out of sync with it, or is to be removed.
 pub(crate) fn read_through_at<M: MetaPages>(
     alloc: Global,

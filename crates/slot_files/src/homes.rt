@@ -1,15 +1,15 @@
 //! The home of each page of a file, as a fileset has it.
 ghost use Rattle.std.specs.Prelude.{◌≡◌, ℕ, IfOk};
-ghost use Rattle.chain_release.specs.Reading.{own_or as own_or_there, read_home as read_there};
-ghost use Rattle.extent_maps.specs.Runs.{home_at};
-ghost use Rattle.extent_records.specs.Writing.{places_before};
+ghost use Rattle.index_row_faults.specs.file_release.Reading.{own_or as own_or_there, read_home as read_there};
+ghost use Rattle.index_row_faults.specs.extent_maps.Runs.{home_at};
+ghost use Rattle.index_row_faults.specs.extent_records.Writing.{places_before};
 ghost use Rattle.slot_files.specs.Said.{home_said, place_in as place_listed, place_there, said_in};
 
 use crate::said::{SaidHome, SaidPlace};
-use domain_base::OutOfMemory;
+use index_row_faults::OutOfMemory;
 use std::alloc::Global;
 
-/// The place of a page in a list, absent behind the last.
+/// The place of a page in a list, absent after the last.
 pub(crate) fn place_in(places: &[SaidPlace], page: usize) -> SaidPlace
     ensures { place_there result ≡ place_listed places.now page }
 {
@@ -29,7 +29,7 @@ fn home_of(place: SaidPlace) -> Option<SaidHome>
     }
 }
 
-/// The homes of the pages in front of one.
+/// The homes of the pages before a page.
 pub(crate) fn homes_before(
     alloc: Global,
     places: &[SaidPlace],
@@ -46,8 +46,8 @@ pub(crate) fn homes_before(
     Ok(homes)
 }
 
-/// The home at which a page is read: its own, or where it is absent and was there when the clone
-/// was made that of the source.
+/// The home at which a page is read: its own, or the source's if the page is absent and was there
+/// when the clone was made.
 fn home_read(own: &[SaidPlace], source: &[SaidPlace], frozen: u32, page: usize) -> Option<SaidHome>
     ensures { home_said result ≡ read_there frozen (place_listed own.now)
         (place_listed source.now) page }
@@ -60,7 +60,8 @@ fn home_read(own: &[SaidPlace], source: &[SaidPlace], frozen: u32, page: usize) 
     }
 }
 
-/// The home at which each page is read that a clone's file has itself or through its source.
+/// For each page that a clone's file has, itself or through its source, the home at which it is
+/// read.
 pub(crate) fn homes_read(
     alloc: Global,
     own: &[SaidPlace],

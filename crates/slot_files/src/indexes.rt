@@ -1,13 +1,13 @@
 //! The indexes that files and directories of an original name.
 ghost use Rattle.std.specs.Prelude.{◌≡◌, ◌↔◌, ◌*◌, IfOk, IsTrue, List, Some};
-ghost use Rattle.domain_base.specs.declared.place.Kind.TheVariants.{Directory};
-ghost use Rattle.bmt_mcells.specs.Chain.{LinksFrom, PlacedCell};
-ghost use Rattle.domain_layout.specs.DirectoryRules.{HasSecondPage};
-ghost use Rattle.domain_layout.specs.Reached.{Frame};
-ghost use Rattle.domain_layout.specs.Seen.{SeenFile, seen_in};
-ghost use Rattle.filesets_reading.specs.Chains.{HasLinks};
+ghost use Rattle.index_row_faults.specs.domain_base.declared.place.Kind.TheVariants.{Directory};
+ghost use Rattle.index_row_faults.specs.metadata_cells.Chain.{LinksFrom, PlacedCell};
+ghost use Rattle.index_row_faults.specs.domain_layout.DirectoryRules.{HasSecondPage};
+ghost use Rattle.index_row_faults.specs.domain_layout.Reached.{Frame};
+ghost use Rattle.index_row_faults.specs.domain_layout.Seen.{SeenFile, seen_in};
+ghost use Rattle.index_row_faults.specs.filesets_reading.Chains.{HasLinks};
 ghost use Rattle.index_row_faults.specs.There.{AreIndexesIn};
-ghost use Rattle.row_faults.specs.There.{AreFilesIn};
+ghost use Rattle.index_row_faults.specs.directory_faults.There.{AreFilesIn};
 ghost use Rattle.slot_files.specs.Files.{IsWhole};
 ghost use Rattle.slot_files.specs.Indexes.{AreIndexesOf, AreWhole, AreWholeAt, HasTwo, IsOf, ReadsIndex, said_of};
 
@@ -15,13 +15,10 @@ use crate::chains::places_at;
 use crate::homes::homes_before;
 use crate::records::{first_record, keep_at};
 use crate::said::SaidHome;
-use domain_base::{CellAt, FilesetNo, Home, Kind, OutOfMemory, VolIx};
-use fileset_table::{FilesetTable, SlotItem};
-use filesets_reading::look_at_chain;
-use index_row_faults::IndexThere;
-use page_store::MetaPages;
-use record_table::Record;
-use row_faults::FileThere;
+use index_row_faults::{
+    CellAt, FileThere, FilesetNo, FilesetTable, Home, IndexThere, Kind, MetaPages, OutOfMemory,
+    Record, SlotItem, VolIx, look_at_chain,
+};
 use std::alloc::Global;
 
 /// Where an index begins, and how many entries its record says.
@@ -49,7 +46,7 @@ fn index_said<M: MetaPages>(pages: &M, at: &CellAt) -> Option<SaidIndex>
     }
 }
 
-/// Whether two pages at least have a home.
+/// Whether at least two pages have a home.
 fn has_two(homes: &[Option<SaidHome>]) -> bool
     ensures { IsTrue result ↔ HasTwo homes.now }
 {
@@ -65,7 +62,7 @@ fn has_two(homes: &[Option<SaidHome>]) -> bool
     false
 }
 
-/// Whether a file of an original whose first cell stands there has more pages than one, on whatever
+/// Whether a file of an original whose first cell stands there has more than one page, on whatever
 /// volumes these are said to be.
 fn has_second_page<M: MetaPages>(alloc: Global, pages: &M, at: &CellAt) -> Result<bool, OutOfMemory>
     requires { IsWhole (M.pages pages.now) at.now }
@@ -82,7 +79,7 @@ fn has_second_page<M: MetaPages>(alloc: Global, pages: &M, at: &CellAt) -> Resul
 }
 
 /// Whether a file or directory that was read of an original may have an index: whether it is a
-/// directory of more pages than one.
+/// directory of more than one page.
 fn may_have_index<M: MetaPages>(
     alloc: Global,
     pages: &M,
@@ -139,8 +136,8 @@ fn read_indexes_of<M: MetaPages>(
     Ok(indexes)
 }
 
-/// All indexes of the files and directories that were read of the fileset in a slot: none where no
-/// original is.
+/// All indexes of the files and directories that were read of the fileset in a slot; none if no
+/// original is in it.
 pub fn read_slot_indexes<M: MetaPages>(
     alloc: Global,
     pages: &M,

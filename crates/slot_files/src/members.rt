@@ -1,14 +1,13 @@
 //! Homes that are a member's.
 ghost use Rattle.std.specs.Prelude.{◌≡◌, ◌↔◌, ℕ, IfOk, Some};
-ghost use Rattle.domain_base.specs.declared.place.Home.{Home as HomeOf};
-ghost use Rattle.domain_layout.specs.Reached.{IsWithin};
-ghost use Rattle.filesets_reading.specs.Seen.{home_in};
-ghost use Rattle.page_ways.specs.Frame.{frame_in};
+ghost use Rattle.index_row_faults.specs.domain_base.declared.place.Home.{Home as HomeOf};
+ghost use Rattle.index_row_faults.specs.domain_layout.Reached.{IsWithin};
+ghost use Rattle.index_row_faults.specs.filesets_reading.Seen.{home_in};
+ghost use Rattle.index_row_faults.specs.page_ways.Frame.{frame_in};
 ghost use Rattle.slot_files.specs.Said.{home_said, said_in};
 
 use crate::said::SaidHome;
-use domain_base::{Home, OutOfMemory, VolIx};
-use page_ways::DomainFrame;
+use index_row_faults::{DomainFrame, Home, OutOfMemory, VolIx};
 use std::alloc::Global;
 
 /// A home, if it is a page of a member.

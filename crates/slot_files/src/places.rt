@@ -1,21 +1,21 @@
 //! Where each page of a file is, by its runs.
 ghost use Rattle.std.specs.Prelude.{◌≡◌, ◌==◌, ◌-◌, ◌<◌, ◌≤◌, ℕ, IfOk, length, if◌then◌else◌};
-ghost use Rattle.extent_maps.specs.Runs.{behind as behind_there, covers, end_of as end_there, place_of, placed};
-ghost use Rattle.extent_maps.specs.declared.run.PagePlace.TheVariants.{Absent};
+ghost use Rattle.index_row_faults.specs.extent_maps.Runs.{behind as behind_there, covers, end_of as end_there, place_of, placed};
+ghost use Rattle.index_row_faults.specs.extent_maps.declared.run.PagePlace.TheVariants.{Absent};
 ghost use Rattle.slot_files.specs.Said.{ListsPlaces, first_there, place_in, place_there, run_there, runs_there};
 
 use crate::said::{SaidFirst, SaidHome, SaidPlace, SaidRun};
-use domain_base::OutOfMemory;
+use index_row_faults::OutOfMemory;
 use std::alloc::Global;
 
-/// The page behind those of a run.
+/// The page after those of a run.
 fn end_of_run(run: &SaidRun) -> u64
     ensures { result ≡ end_there (run_there run.now) }
 {
     u64::from(run.page) + u64::from(run.count)
 }
 
-/// The page behind all pages of runs.
+/// The page after all pages of runs.
 fn end_of(runs: &[SaidRun]) -> u64
     ensures { (page : ℕ) → result ≤ page → place_of (runs_there runs.now) page ≡ Absent }
 {
@@ -26,7 +26,7 @@ fn end_of(runs: &[SaidRun]) -> u64
     end
 }
 
-/// Where the page of a run is that is so many behind its first.
+/// Where the page of a run is that stands `behind` pages after its first.
 fn place_behind(first: &SaidFirst, behind: u32) -> SaidPlace
     ensures { place_there result ≡ placed (behind_there behind (first_there first.now)) }
 {
@@ -65,7 +65,7 @@ fn put_run(places: &mut Vec<SaidPlace>, run: &SaidRun)
     }
 }
 
-/// A list of so many pages that are absent.
+/// A list of `end` absent pages.
 fn absent_pages(alloc: Global, end: u64) -> Result<Vec<SaidPlace>, OutOfMemory>
     ensures length { IfOk result (λ places. length places.items ≡ end) }
     ensures absent { IfOk result (λ places. ListsPlaces (λ page. Absent) places.items) }
@@ -77,7 +77,7 @@ fn absent_pages(alloc: Global, end: u64) -> Result<Vec<SaidPlace>, OutOfMemory>
     Ok(places)
 }
 
-/// Where each page is, by runs of which the first that has a page counts.
+/// Where each page is, by runs. The first run that has a page counts.
 pub(crate) fn places_said(alloc: Global, runs: &[SaidRun]) -> Result<Vec<SaidPlace>, OutOfMemory>
     ensures { IfOk result (λ places. ListsPlaces (place_of (runs_there runs.now)) places.items) }
 {

@@ -1,17 +1,15 @@
 //! What the first cell of a file says.
 ghost use Rattle.std.specs.Prelude.{◌≡◌, IsTrue, List, true};
-ghost use Rattle.bmt_mcells.specs.Chain.{LinksFrom, PlacedCell};
-ghost use Rattle.bitfile_core.specs.Files.{attributes_in as attributes_there, attributes_of, first_record as first_there, is_removed, keep_in as keep_there, keep_of};
-ghost use Rattle.bitfile_core.specs.State.{parent_in as parent_there, parent_of};
-ghost use Rattle.domain_layout.specs.Seen.{frozen_in as frozen_there, frozen_of, is_in_sync as in_sync_there, source_in as source_there, source_of};
-ghost use Rattle.filesets_reading.specs.Chains.{HasLinks};
-ghost use Rattle.row_faults.specs.Clones.{HasVolume};
+ghost use Rattle.index_row_faults.specs.metadata_cells.Chain.{LinksFrom, PlacedCell};
+ghost use Rattle.index_row_faults.specs.fileset_files.Files.{attributes_in as attributes_there, attributes_of, first_record as first_there, is_removed, keep_in as keep_there, keep_of};
+ghost use Rattle.index_row_faults.specs.fileset_files.State.{parent_in as parent_there, parent_of};
+ghost use Rattle.index_row_faults.specs.domain_layout.Seen.{frozen_in as frozen_there, frozen_of, is_in_sync as in_sync_there, source_in as source_there, source_of};
+ghost use Rattle.index_row_faults.specs.filesets_reading.Chains.{HasLinks};
+ghost use Rattle.index_row_faults.specs.fileset_shapes.Clones.{HasVolume};
 
-use bitfile_core::Attributes;
-use bmt_mcells::find_record;
-use domain_base::{CellAt, Kind, Tag, VolIx};
-use page_store::MetaPages;
-use record_table::{Leftover, Record};
+use index_row_faults::{
+    Attributes, CellAt, Kind, Leftover, MetaPages, Record, Tag, VolIx, find_record,
+};
 
 /// The first record of a kind in the first cell of a file, which stands there.
 pub(crate) fn first_record<M: MetaPages>(pages: &M, at: &CellAt, kind: u8) -> Option<Record>

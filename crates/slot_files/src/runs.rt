@@ -1,15 +1,14 @@
 //! The runs of pages that records say.
 ghost use Rattle.std.specs.Prelude.{◌≡◌, ◌++◌, IfOk, OnOk};
 ghost use Rattle.std.specs.List.{flat_map};
-ghost use Rattle.extent_records.specs.Rows.{holes_at, runs_at, runs_in, runs_of};
+ghost use Rattle.index_row_faults.specs.extent_records.Rows.{holes_at, runs_at, runs_in, runs_of};
 ghost use Rattle.slot_files.specs.Said.{runs_there};
 
 use crate::said::{SaidFirst, SaidRun};
-use domain_base::OutOfMemory;
-use record_table::{ExtentField, HoleField, Record};
+use index_row_faults::{ExtentField, HoleField, OutOfMemory, Record};
 use std::alloc::Global;
 
-/// Puts the pages that a row names behind other runs, if it names some.
+/// Appends the pages that a row names to other runs, if it names some.
 fn push_extent(row: &ExtentField, runs: &mut Vec<SaidRun>) -> Result<(), OutOfMemory>
     ensures { OnOk result (runs_there runs.new.items
         ≡ runs_there runs.old.items ++ runs_at row.now) }
@@ -27,7 +26,7 @@ fn push_extent(row: &ExtentField, runs: &mut Vec<SaidRun>) -> Result<(), OutOfMe
     Ok(())
 }
 
-/// The same of a row of holes.
+/// Appends the pages that a row of holes names to other runs, if it names some.
 fn push_hole(row: &HoleField, runs: &mut Vec<SaidRun>) -> Result<(), OutOfMemory>
     ensures { OnOk result (runs_there runs.new.items
         ≡ runs_there runs.old.items ++ holes_at row.now) }
@@ -42,7 +41,7 @@ fn push_hole(row: &HoleField, runs: &mut Vec<SaidRun>) -> Result<(), OutOfMemory
     Ok(())
 }
 
-/// Puts the pages that rows name behind other runs.
+/// Appends the pages that rows name to other runs.
 fn push_extents(rows: &[ExtentField], runs: &mut Vec<SaidRun>) -> Result<(), OutOfMemory>
     ensures { OnOk result (runs_there runs.new.items
         ≡ runs_there runs.old.items ++ flat_map runs_at rows.now) }
@@ -53,7 +52,7 @@ fn push_extents(rows: &[ExtentField], runs: &mut Vec<SaidRun>) -> Result<(), Out
     Ok(())
 }
 
-/// The same of rows of holes.
+/// Appends the pages that rows of holes name to other runs.
 fn push_holes(rows: &[HoleField], runs: &mut Vec<SaidRun>) -> Result<(), OutOfMemory>
     ensures { OnOk result (runs_there runs.new.items
         ≡ runs_there runs.old.items ++ flat_map holes_at rows.now) }
@@ -64,7 +63,7 @@ fn push_holes(rows: &[HoleField], runs: &mut Vec<SaidRun>) -> Result<(), OutOfMe
     Ok(())
 }
 
-/// Puts the runs of a record behind others.
+/// Appends the runs of a record to others.
 fn push_record(value: &Record, runs: &mut Vec<SaidRun>) -> Result<(), OutOfMemory>
     ensures { OnOk result (runs_there runs.new.items
         ≡ runs_there runs.old.items ++ runs_in value.now) }

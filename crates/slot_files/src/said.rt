@@ -1,6 +1,6 @@
-//! Pages of files as records say them, on whatever volume and page that is.
+//! Pages of files as records say them, on whatever volume and page.
 
-/// A page of a volume as a record says it: there need be no such volume, and no such page.
+/// A page of a volume as a record says it. Neither the volume nor the page need exist.
 #[derive(Clone, Copy, Debug, PartialEq, Eq)]
 pub(crate) struct SaidHome {
     pub(crate) vol: u32,
@@ -15,14 +15,14 @@ pub(crate) enum SaidPlace {
     Absent,
 }
 
-/// Where the first page of a run is, behind which its others stand.
+/// Where the first page of a run is. The others stand after it.
 #[derive(Clone, Copy, Debug, PartialEq, Eq)]
 pub(crate) enum SaidFirst {
     At { vol: u32, page: u32 },
     Holes,
 }
 
-/// Pages of a file one behind the other.
+/// A run of a file's pages, one after the other.
 #[derive(Clone, Copy, Debug, PartialEq, Eq)]
 pub(crate) struct SaidRun {
     pub(crate) page: u32,

@@ -1,6 +1,6 @@
 //! Whether a directory has a wrong size, a gap in its pages, or pages that it does not keep.
 ghost use Rattle.std.specs.Prelude.{◌≡◌, ◌⊎◌, ◌↔◌, ◌%◌, ◌<◌, ◌≤◌, IsSome, IsTrue, length};
-ghost use Rattle.extent_maps.specs.Runs.{home_at};
+ghost use Rattle.index_row_faults.specs.extent_maps.Runs.{home_at};
 ghost use Rattle.slot_files.specs.Said.{HasFirst, HasGap, IsLostAt, LosesPage, place_in as place_listed, said_in};
 
 use crate::homes::place_in;
@@ -16,7 +16,7 @@ fn has_home(homes: &[Option<SaidHome>], page: usize) -> bool
     }
 }
 
-/// Whether a page has a home exactly where it is one of the first so many.
+/// Whether a page has a home if it is one of the first `count` pages, and none if it is not.
 fn is_right_at(homes: &[Option<SaidHome>], count: u64, page: usize) -> bool
     ensures { IsTrue result ↔ (IsSome (said_in homes.now page) ↔ (page < count)) }
 {
@@ -27,14 +27,14 @@ fn is_right_at(homes: &[Option<SaidHome>], count: u64, page: usize) -> bool
     }
 }
 
-/// Whether there are so many homes.
+/// Whether there are at least `count` homes.
 fn are_so_many(homes: &[Option<SaidHome>], count: u64) -> bool
     ensures { IsTrue result ↔ (count ≤ length homes.now) }
 {
     count <= homes.len() as u64
 }
 
-/// Whether exactly the first so many pages have a home.
+/// Whether exactly the first `count` pages have a home.
 fn has_first(homes: &[Option<SaidHome>], count: u64) -> bool
     ensures { IsTrue result ↔ HasFirst homes.now count }
 {
@@ -53,7 +53,7 @@ fn is_of_pages(size: u64) -> bool
     size % 8192 == 0
 }
 
-/// Whether a size is another than that of so many pages as have a home, or these have a gap.
+/// Whether a size is not that of the pages that have a home, or these have a gap.
 fn has_gap(homes: &[Option<SaidHome>], size: u64) -> bool
     ensures { IsTrue result ↔ HasGap homes.now size }
 {
@@ -74,7 +74,7 @@ fn has_place(places: &[SaidPlace], page: usize) -> bool
     }
 }
 
-/// Whether a page has a place at a home, and none among the homes.
+/// Whether a page has a place at a home, but no home among the homes.
 fn is_lost(places: &[SaidPlace], homes: &[Option<SaidHome>], page: usize) -> bool
     ensures { IsTrue result ↔ IsLostAt places.now homes.now page }
 {
@@ -84,7 +84,7 @@ fn is_lost(places: &[SaidPlace], homes: &[Option<SaidHome>], page: usize) -> boo
     has_place(places, page)
 }
 
-/// Whether one does.
+/// Whether some page has a place at a home, but no home among the homes.
 fn loses_page(places: &[SaidPlace], homes: &[Option<SaidHome>]) -> bool
     ensures { IsTrue result ↔ LosesPage places.now homes.now }
 {
@@ -96,8 +96,8 @@ fn loses_page(places: &[SaidPlace], homes: &[Option<SaidHome>]) -> bool
     false
 }
 
-/// Whether a directory has another size than its pages or a gap in these, or its cells have pages
-/// that it does not keep.
+/// Whether a directory's size is not that of its pages, its pages have a gap, or its cells have
+/// pages that it does not keep.
 pub(crate) fn has_wrong_size(places: &[SaidPlace], homes: &[Option<SaidHome>], size: u64) -> bool
     ensures { IsTrue result ↔ (HasGap homes.now size ⊎ LosesPage places.now homes.now) }
 {

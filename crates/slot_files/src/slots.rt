@@ -1,23 +1,19 @@
 //! The files and directories of the fileset in a slot.
 ghost use Rattle.std.specs.Prelude.{◌≡◌, ◌≤◌, IfOk, Some, length, slice_get};
-ghost use Rattle.tag_dirs.specs.Directory.{IsDirectory};
-ghost use Rattle.domain_layout.specs.Faults.{HasNoTablesFault};
-ghost use Rattle.filesets_reading.specs.Chains.{IsUnbroken};
-ghost use Rattle.filesets_reading.specs.Tables.{AreTablesOf};
-ghost use Rattle.page_ways.specs.Frame.{frame_in};
-ghost use Rattle.row_faults.specs.There.{AreFilesIn};
+ghost use Rattle.index_row_faults.specs.tag_dirs.Directory.{IsDirectory};
+ghost use Rattle.index_row_faults.specs.domain_layout.Faults.{HasNoTablesFault};
+ghost use Rattle.index_row_faults.specs.filesets_reading.Chains.{IsUnbroken};
+ghost use Rattle.index_row_faults.specs.filesets_reading.Tables.{AreTablesOf};
+ghost use Rattle.index_row_faults.specs.page_ways.Frame.{frame_in};
+ghost use Rattle.index_row_faults.specs.directory_faults.There.{AreFilesIn};
 ghost use Rattle.slot_files.specs.Files.{AreAllSo, HasCloneAt, HasOriginalAt, HaveWholeSources, IsInClone, IsInOriginal};
 
 use crate::tags::{read_in_clone, read_in_original};
-use domain_base::{FilesetNo, OutOfMemory};
-use fileset_shapes::{tags_of_both, used_tags};
-use fileset_table::SlotItem;
-use filesets_reading::DomainTables;
-use page_store::MetaPages;
-use page_ways::DomainFrame;
-use row_faults::FileThere;
+use index_row_faults::{
+    DomainFrame, DomainTables, FileThere, FilesetNo, MetaPages, OutOfMemory, SlotItem, TagDir,
+    tags_of_both, used_tags,
+};
 use std::alloc::Global;
-use tag_dirs::TagDir;
 
 /// All files and directories of an original with this tag directory.
 fn read_original_files<M: MetaPages>(
@@ -77,7 +73,7 @@ fn tags_of(tables: &DomainTables, number: FilesetNo) -> &TagDir
     &tables.tags[number.number() as usize]
 }
 
-/// All files and directories of the clone in a slot, which has that number and is one of the
+/// All files and directories of the clone in a slot, which has that number and is a clone of the
 /// original in another slot.
 fn read_clone_slot<M: MetaPages>(
     alloc: Global,
@@ -99,7 +95,7 @@ fn read_clone_slot<M: MetaPages>(
     read_clone_files(alloc, pages, frame, own, behind, clone)
 }
 
-/// The same of the original in a slot.
+/// All files and directories of the original in a slot.
 fn read_original_slot<M: MetaPages>(
     alloc: Global,
     pages: &M,
@@ -116,8 +112,8 @@ fn read_original_slot<M: MetaPages>(
     read_original_files(alloc, pages, frame, tags_of(tables, number))
 }
 
-/// All files and directories of the fileset in a slot, each once: none where no fileset is, or one
-/// that is being removed.
+/// All files and directories of the fileset in a slot, each once; none if no fileset is in it, or
+/// one that is being removed.
 pub fn read_slot_files<M: MetaPages>(
     alloc: Global,
     pages: &M,

@@ -1,18 +1,15 @@
 //! What a fileset has at a tag.
 ghost use Rattle.std.specs.Prelude.{IfOk};
-ghost use Rattle.tag_dirs.specs.Directory.{IsDirectory};
-ghost use Rattle.filesets_reading.specs.Chains.{IsUnbroken};
-ghost use Rattle.page_ways.specs.Frame.{frame_in};
+ghost use Rattle.index_row_faults.specs.tag_dirs.Directory.{IsDirectory};
+ghost use Rattle.index_row_faults.specs.filesets_reading.Chains.{IsUnbroken};
+ghost use Rattle.index_row_faults.specs.page_ways.Frame.{frame_in};
 ghost use Rattle.slot_files.specs.Files.{HaveWholeSources, IsBehind, IsInClone, IsInOriginal, ReadsSo};
 
 use crate::files::{read_original_at, read_own_at, read_through_at};
-use domain_base::{OutOfMemory, Tag};
-use filesets_reading::look_at_chain;
-use page_store::MetaPages;
-use page_ways::DomainFrame;
-use row_faults::FileThere;
+use index_row_faults::{
+    DomainFrame, FileThere, MetaPages, OutOfMemory, Tag, TagDir, look_at_chain,
+};
 use std::alloc::Global;
-use tag_dirs::TagDir;
 
 /// What an original with this tag directory has at a tag.
 pub(crate) fn read_in_original<M: MetaPages>(
@@ -36,7 +33,8 @@ pub(crate) fn read_in_original<M: MetaPages>(
     }
 }
 
-/// What the clone of that number has at a tag through its original, by this one's tag directory.
+/// What the clone of that number has at a tag through its original, by the original's tag
+/// directory.
 fn read_behind<M: MetaPages>(
     alloc: Global,
     pages: &M,

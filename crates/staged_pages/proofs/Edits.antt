@@ -8,10 +8,10 @@ use Rattle.std.proofs.lemmas.List.{length-append, length-set}
 use Rattle.std.proofs.lemmas.List.Folds.{list_all-append, list_any-append}
 use Rattle.std.proofs.lemmas.Bool.Decides.{nat_tests}
 use mathlib.Core.Bool.{false≢true}
-use Rattle.domain_base.specs.declared.place.Home.{Home}
-use Rattle.numbered_values.specs.Homes.{number_of}
-use Rattle.numbered_values.specs.Rising.{IsGapFor, IsPlaceOf, IsRising, Sets, value_at}
-use Rattle.numbered_values.proofs.Search.{rising_at_place, rising_with, sets_at_place, sets_in_gap, value_at_place, value_in_gap}
+use Rattle.page_store.specs.domain_base.declared.place.Home.{Home}
+use Rattle.page_store.specs.sorted_sets.Homes.{number_of}
+use Rattle.page_store.specs.sorted_sets.Rising.{IsGapFor, IsPlaceOf, IsRising, Sets, value_at}
+use Rattle.page_store.proofs.OfSortedSets.Search.{rising_at_place, rising_with, sets_at_place, sets_in_gap, value_at_place, value_in_gap}
 use Rattle.staged_pages.specs.declared.slot.Slot.{Slot}
 use Rattle.staged_pages.specs.Slots.{AreWhole, is_same, page_before, page_now}
 use Rattle.staged_pages.specs.Staged.{AreSlots, EditsSlot, count_same, have_pages, is_listed}

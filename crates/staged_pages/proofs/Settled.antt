@@ -5,11 +5,11 @@ use Rattle.std.proofs.lemmas.Option.{same_Some}
 use Rattle.std.proofs.lemmas.List.{length-append, length-set}
 use Rattle.std.proofs.lemmas.Bool.{cases_Bool}
 use mathlib.Core.Bool.{false≢true}
-use Rattle.domain_base.specs.declared.place.Home.{Home}
-use Rattle.numbered_values.specs.Homes.{number_of}
+use Rattle.page_store.specs.domain_base.declared.place.Home.{Home}
+use Rattle.page_store.specs.sorted_sets.Homes.{number_of}
 use Rattle.std.proofs.lemmas.Bool.Decides.{nat_tests}
-use Rattle.numbered_values.specs.Rising.{IsPlaceOf, IsRising, Sets, value_at}
-use Rattle.numbered_values.proofs.Search.{sets_at_place, value_at_place}
+use Rattle.page_store.specs.sorted_sets.Rising.{IsPlaceOf, IsRising, Sets, value_at}
+use Rattle.page_store.proofs.OfSortedSets.Search.{sets_at_place, value_at_place}
 use Rattle.staged_pages.specs.declared.slot.Slot.{Slot}
 use Rattle.staged_pages.specs.Slots.{AreWhole, is_same, page_before, page_now}
 use Rattle.staged_pages.specs.Staged.{AreSlots, SettlesSlot, have_pages, is_listed, pages_in}

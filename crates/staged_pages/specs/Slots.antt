@@ -1,6 +1,6 @@
 -- A page, and what stood in its place before a change.
 use Rattle.std.specs.Prelude.{◌≡◌, ℕ, Bool, true, false, List, Option, Some, None, length}
-use Rattle.domain_base.specs.Limits.{page_bytes}
+use Rattle.page_store.specs.domain_base.Limits.{page_bytes}
 use Rattle.staged_pages.specs.declared.slot.Change.{Change}
 use Rattle.staged_pages.specs.declared.slot.Change.TheVariants.{Same, Rewritten, Added, Forgotten, Passed}
 use Rattle.staged_pages.specs.declared.slot.Slot.{Slot}

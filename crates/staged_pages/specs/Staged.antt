@@ -2,10 +2,10 @@
 use Rattle.std.specs.Prelude.{◌≡◌, ◌==◌, ◌+◌, ◌^◌, ◌≤◌, ℕ, Bool, true, false, List, [], ◌∷◌, Option, length, nat_lt, if◌then◌else◌}
 use Rattle.std.specs.List.{list_all, list_any}
 use Rattle.std.specs.Option.{ForSome, option_and_then}
-use Rattle.domain_base.specs.declared.place.Home.{Home}
+use Rattle.page_store.specs.domain_base.declared.place.Home.{Home}
 use Rattle.page_store.specs.Pages.{Pages, same_home}
-use Rattle.numbered_values.specs.Homes.{found_at, number_of}
-use Rattle.numbered_values.specs.Rising.{IsRising, value_at}
+use Rattle.page_store.specs.sorted_sets.Homes.{found_at, number_of}
+use Rattle.page_store.specs.sorted_sets.Rising.{IsRising, value_at}
 use Rattle.staged_pages.specs.declared.slot.Slot.{Slot}
 use Rattle.staged_pages.specs.Slots.{AreWhole, is_same, page_before, page_now}
 

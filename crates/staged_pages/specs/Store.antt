@@ -1,11 +1,11 @@
 -- What a store has at each home, and what it had there before the change that is not kept yet.
 use Rattle.std.specs.Prelude.{◌≡◌, ◌^◌, ℕ, true, false, List, Option, Some, None, IfSome, length, nat_lt, refl, if◌then◌else◌}
 use Rattle.std.specs.Option.{ForSome, option_and_then}
-use Rattle.domain_base.specs.Limits.{page_bytes}
-use Rattle.domain_base.specs.declared.place.Home.{Home}
+use Rattle.page_store.specs.domain_base.Limits.{page_bytes}
+use Rattle.page_store.specs.domain_base.declared.place.Home.{Home}
 use Rattle.page_store.specs.Pages.{AreWhole as WholePages, Pages}
-use Rattle.numbered_values.specs.Homes.{number_of}
-use Rattle.numbered_values.specs.Rising.{value_at}
+use Rattle.page_store.specs.sorted_sets.Homes.{number_of}
+use Rattle.page_store.specs.sorted_sets.Rising.{value_at}
 use Rattle.staged_pages.specs.declared.pages.StagedPages.{StagedPages}
 use Rattle.staged_pages.specs.declared.slot.Change.{Change}
 use Rattle.staged_pages.specs.declared.slot.Change.TheVariants.{Same, Rewritten, Added, Forgotten, Passed}

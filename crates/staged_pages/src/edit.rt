@@ -1,16 +1,16 @@
 //! Changes of single slots.
 ghost use Rattle.std.specs.Prelude.{◌≡◌, ◌+◌, ◌<◌, ◌≤◌, Some, None, IsSome, IsSomeAnd, length, vec_capacity, vec_len};
 ghost use Rattle.std.specs.Option.{option_and_then};
-ghost use Rattle.domain_base.specs.Page.{overwritten};
-ghost use Rattle.numbered_values.specs.Homes.{number_of};
-ghost use Rattle.numbered_values.specs.Rising.{value_at};
+ghost use Rattle.page_store.specs.domain_base.Page.{overwritten};
+ghost use Rattle.page_store.specs.sorted_sets.Homes.{number_of};
+ghost use Rattle.page_store.specs.sorted_sets.Rising.{value_at};
 ghost use Rattle.staged_pages.specs.Slots.{page_now};
 ghost use Rattle.staged_pages.specs.Staged.{AreSlots, EditsSlot};
 
 use crate::slot::Slot;
-use domain_base::limits::PAGE_BYTES;
-use domain_base::{Home, Page};
-use numbered_values::{home_number, place_of};
+use page_store::limits::PAGE_BYTES;
+use page_store::numbered::place_of;
+use page_store::{Home, Page, home_number};
 
 /// Writes these bytes into the page at a home, which is there, from byte `at` on.
 pub(crate) fn rewrite_at(
@@ -43,7 +43,7 @@ pub(crate) fn rewrite_at(
     }
 }
 
-/// Puts a page at a home that has a slot. Where no page is there, another one comes as room for it,
+/// Puts a page at a home that has a slot. If no page is there, another one is given as room for it,
 /// which a vacant slot takes.
 pub(crate) fn put_at(
     entries: &mut Vec<(u64, Slot)>,
@@ -73,7 +73,7 @@ pub(crate) fn put_at(
     }
 }
 
-/// Forgets the page at a home; nothing changes where none is there.
+/// Forgets the page at a home. Nothing changes if none is there.
 pub(crate) fn forget_at(entries: &mut Vec<(u64, Slot)>, changed: &mut Vec<Home>, home: Home)
     requires slots { AreSlots entries.old.items changed.old.items }
     requires room { vec_len entries.old ≤ vec_capacity changed.old }
@@ -97,7 +97,7 @@ pub(crate) fn forget_at(entries: &mut Vec<(u64, Slot)>, changed: &mut Vec<Home>,
     }
 }
 
-/// Puts a page at a home that has no slot, with another one for what it will have been.
+/// Puts a page at a home that has no slot, with another page as room for what it will have been.
 pub(crate) fn add_at(
     entries: &mut Vec<(u64, Slot)>,
     changed: &mut Vec<Home>,

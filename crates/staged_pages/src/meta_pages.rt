@@ -3,9 +3,8 @@ ghost use Rattle.staged_pages.specs.Store.{before_of, pages_of, room_of, whole_p
 
 use crate::edit::{add_at, forget_at, put_at, rewrite_at};
 use crate::pages::StagedPages;
-use domain_base::{Home, OutOfMemory, Page};
-use numbered_values::{find, home_number};
-use page_store::MetaPages;
+use page_store::numbered::find;
+use page_store::{Home, MetaPages, OutOfMemory, Page, home_number};
 use std::alloc::Global;
 
 impl MetaPages for StagedPages {

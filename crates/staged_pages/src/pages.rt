@@ -3,12 +3,12 @@ ghost use Rattle.std.specs.Prelude.{vec_capacity, vec_len};
 ghost use Rattle.staged_pages.specs.Staged.{AreSlots, HaveRoom};
 
 use crate::slot::Slot;
-use domain_base::{Home, Page};
+use page_store::{Home, Page};
 
-/// Pages of metadata by their homes, with a change laid over them, which is kept or taken back as a
-/// whole, in the time of what it has touched. Each page has room for what it was beside it, so
-/// changing one takes no memory. Where a page has gone its slot stays, with no page in it, until
-/// one comes there again: no other slot is moved.
+/// Pages of metadata by their homes, with a change laid over them. The change is kept or taken back
+/// as a whole, in time proportional to what it has touched. Each page has room for its earlier
+/// content beside it, so changing one takes no memory. When a page goes, its slot stays without a
+/// page until one comes there again, so that no other slot is moved.
 #[derive(Drop)]
 pub struct StagedPages {
     pub(crate) entries: Vec<(u64, Slot)>,

@@ -1,15 +1,15 @@
 //! Changes kept or taken back, slot by slot.
 ghost use Rattle.std.specs.Prelude.{◌≡◌, ℕ, [], vec_capacity, vec_len};
 ghost use Rattle.std.specs.Option.{ForSome};
-ghost use Rattle.numbered_values.specs.Rising.{IsRising, value_at};
+ghost use Rattle.page_store.specs.sorted_sets.Rising.{IsRising, value_at};
 ghost use Rattle.staged_pages.specs.Slots.{AreWhole, page_before, page_now};
 ghost use Rattle.staged_pages.specs.Staged.{AreSlots, SettlesAll, SettlesSlot};
 
 use crate::slot::Slot;
-use domain_base::Home;
-use numbered_values::{home_number, place_of};
+use page_store::numbered::place_of;
+use page_store::{Home, home_number};
 
-/// Lets the page of a number be as it is now.
+/// Keeps the page of a number as it is now.
 fn settle_at(entries: &mut Vec<(u64, Slot)>, key: u64)
     requires rising { IsRising entries.old.items }
     requires whole { (q : ℕ) → ForSome (value_at entries.old.items q) AreWhole }
@@ -25,7 +25,7 @@ fn settle_at(entries: &mut Vec<(u64, Slot)>, key: u64)
     entries[place].1.settle();
 }
 
-/// Lets the page of a number be as it was.
+/// Takes the page of a number back to what it was.
 fn take_back_at(entries: &mut Vec<(u64, Slot)>, key: u64)
     requires rising { IsRising entries.old.items }
     requires whole { (q : ℕ) → ForSome (value_at entries.old.items q) AreWhole }
@@ -41,7 +41,7 @@ fn take_back_at(entries: &mut Vec<(u64, Slot)>, key: u64)
     entries[place].1.take_back();
 }
 
-/// Lets all pages be as they are now.
+/// Keeps all pages as they are now.
 pub(crate) fn settle_all(entries: &mut Vec<(u64, Slot)>, changed: &mut Vec<Home>)
     requires slots { AreSlots entries.old.items changed.old.items }
     ensures settles { SettlesAll page_now entries.old.items entries.new.items }
@@ -56,7 +56,7 @@ pub(crate) fn settle_all(entries: &mut Vec<(u64, Slot)>, changed: &mut Vec<Home>
     }
 }
 
-/// Lets all pages be as they were.
+/// Takes all pages back to what they were.
 pub(crate) fn take_back_all(entries: &mut Vec<(u64, Slot)>, changed: &mut Vec<Home>)
     requires slots { AreSlots entries.old.items changed.old.items }
     ensures settles { SettlesAll page_before entries.old.items entries.new.items }

@@ -1,11 +1,11 @@
 //! A page, with what stood in its place before the change.
 ghost use Rattle.std.specs.Prelude.{◌≡◌, ◌+◌, ◌≤◌, ◌⊎◌, true, false, Some, None, IsSome, IsSomeAnd, length};
 ghost use Rattle.std.specs.Option.{option_copied};
-ghost use Rattle.domain_base.specs.Page.{overwritten};
+ghost use Rattle.page_store.specs.domain_base.Page.{overwritten};
 ghost use Rattle.staged_pages.specs.Slots.{AreWhole, is_same, page_before, page_now};
 
-use domain_base::Page;
-use domain_base::limits::PAGE_BYTES;
+use page_store::Page;
+use page_store::limits::PAGE_BYTES;
 use std::mem::{replace, swap};
 
 /// What has become of a page since the last change was kept.
@@ -23,8 +23,8 @@ pub enum Change {
     Passed,
 }
 
-/// A page, and room for another one: for what it was, where it has changed. A vacant slot has no
-/// page and had none, and has room for neither.
+/// A page, and room for another one: for what it was, if it has changed. A vacant slot has no page
+/// and had none, and has room for neither.
 #[derive(Debug, Drop)]
 pub enum Slot {
     Vacant,
@@ -181,7 +181,7 @@ impl Slot {
         }
     }
 
-    /// Lets the page be as it is now; where none is there, the slot is vacant.
+    /// Keeps the page as it is now. If none is there, the slot is vacant.
     pub fn settle(&mut self)
         ensures page { page_now self.new ≡ page_now self.old }
         ensures same { is_same self.new ≡ true }
@@ -195,7 +195,7 @@ impl Slot {
         }
     }
 
-    /// Lets the page be as it was; where none was there, the slot is vacant.
+    /// Takes the page back to what it was. If none was there, the slot is vacant.
     pub fn take_back(&mut self)
         ensures page { page_before self.new ≡ page_before self.old }
         ensures same { is_same self.new ≡ true }

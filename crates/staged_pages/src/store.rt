@@ -1,20 +1,20 @@
-//! What is asked of pages and of the change that is laid over them, and how it is kept or taken
-//! back.
+//! What can be asked of pages and of the change that is laid over them, and how the change is kept
+//! or taken back.
 ghost use Rattle.std.specs.Prelude.{◌≡◌, false, []};
 ghost use Rattle.std.specs.Option.{option_copied};
-ghost use Rattle.domain_base.specs.declared.place.Home.{Home as HomeOf};
+ghost use Rattle.page_store.specs.domain_base.declared.place.Home.{Home as HomeOf};
 ghost use Rattle.page_store.specs.Pages.{no_pages};
 ghost use Rattle.staged_pages.specs.Staged.{is_on};
 ghost use Rattle.staged_pages.specs.Store.{before_of, changed_in, pages_of, room_of};
 
 use crate::pages::StagedPages;
 use crate::settle::{settle_all, take_back_all};
-use domain_base::{Home, Page};
-use numbered_values::{find, home_number};
+use page_store::numbered::find;
+use page_store::{Home, Page, home_number};
 use std::alloc::Global;
 
 impl StagedPages {
-    /// No page at any home, nothing changed, and no room.
+    /// A store without pages, changes or room.
     pub fn new(alloc: Global) -> StagedPages
         ensures pages { pages_of result ≡ no_pages }
         ensures before { before_of result ≡ no_pages }

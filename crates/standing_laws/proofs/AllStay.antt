@@ -1,18 +1,18 @@
 -- A domain stands for the same filesets where each original stands for the one for which it stood.
 use Rattle.std.proofs.Common.{◌≡◌, ◌∙◌, ℕ, true, false, Option, Some, None, IfSome, IsSomeAnd, is_some, slice_get, refl, sym, ap, subst}
 use Rattle.std.specs.FinMap.{get}
-use Rattle.fileset_model.specs.Filesets.{FilesetMap}
-use Rattle.fileset_model.specs.Orders.{Name}
-use Rattle.fileset_model.specs.declared.fileset.FilesetSlot.{FilesetSlot}
-use Rattle.fileset_table.specs.Table.{Table, entry_of}
-use Rattle.fileset_table.specs.declared.slot.FilesetEntry.{FilesetEntry}
-use Rattle.fileset_table.specs.declared.slot.SlotItem.{SlotItem}
-use Rattle.fileset_table.specs.declared.slot.SlotItem.TheVariants as slot
-use Rattle.domain_layout.specs.CellRules.{of_clone}
-use Rattle.domain_layout.specs.Filled.{AreFilled, FillsThere}
-use Rattle.domain_layout.specs.Shape.{AreShapesOf, FilesetShape, HasFileset, IsOriginal, IsShapeOf}
+use Rattle.domain_standing.specs.fileset_model.Filesets.{FilesetMap}
+use Rattle.domain_standing.specs.fileset_values.Orders.{Name}
+use Rattle.domain_standing.specs.fileset_model.declared.fileset.FilesetSlot.{FilesetSlot}
+use Rattle.domain_standing.specs.fileset_table.Table.{Table, entry_of}
+use Rattle.domain_standing.specs.fileset_table.declared.slot.FilesetEntry.{FilesetEntry}
+use Rattle.domain_standing.specs.fileset_table.declared.slot.SlotItem.{SlotItem}
+use Rattle.domain_standing.specs.fileset_table.declared.slot.SlotItem.TheVariants as slot
+use Rattle.domain_standing.specs.domain_layout.CellRules.{of_clone}
+use Rattle.domain_standing.specs.domain_layout.Filled.{AreFilled, FillsThere}
+use Rattle.domain_standing.specs.domain_layout.Shape.{AreShapesOf, FilesetShape, HasFileset, IsOriginal, IsShapeOf}
 use Rattle.domain_standing.specs.Domain.{DomainNow, item_in}
-use Rattle.domain_standing.specs.Sets.{StandsAsSet}
+use Rattle.domain_standing.specs.stored_set.Sets.{StandsAsSet}
 use Rattle.domain_standing.specs.Slots.{StandSlots}
 use Rattle.standing_laws.specs.Slots.{StandsSlot}
 use Rattle.standing_laws.proofs.FilesetPut.{StoodIn, stood_in}

@@ -5,46 +5,46 @@ use Rattle.std.specs.Cmp.{nat_cmp_total}
 use Rattle.std.specs.FinMap as map
 use Rattle.std.specs.Option.{option_and_then}
 use Rattle.std.specs.Prelude.{unwrap_or}
-use Rattle.domain_base.specs.declared.place.CellAt.{CellAt}
-use Rattle.domain_base.specs.declared.place.Home.{Home}
-use Rattle.domain_base.specs.declared.place.Kind.{Kind}
-use Rattle.domain_base.specs.declared.place.Kind.TheVariants as kind
-use Rattle.domain_base.specs.declared.place.Tag.{Tag}
-use Rattle.page_store.specs.Bitfiles.{Bitfiles, new_file as shown_new, same_tag, with_file}
-use Rattle.bmt_mcells.specs.Chain.{PlacedCell}
-use Rattle.extent_maps.specs.declared.run.PagePlace.TheVariants.{At}
-use Rattle.bitfile_core.specs.Creation.{root_tag}
-use Rattle.bitfile_core.specs.Files.{Chains, attributes_of}
-use Rattle.bitfile_core.specs.Shown.{IsWhat, ShowsAt, ShowsFile}
-use Rattle.fileset_model.specs.Filesets.{FilesetMap}
-use Rattle.fileset_model.specs.LooksLike.{IsShown}
-use Rattle.fileset_model.specs.Orders.{Path, owner_cmp}
-use Rattle.fileset_model.specs.Usage.{limits_of}
-use Rattle.fileset_model.specs.declared.command.Owner.{Owner}
-use Rattle.fileset_model.specs.declared.command.Owner.TheVariants as owner
-use Rattle.fileset_model.specs.declared.fileset.FilesetSlot.{FilesetSlot}
-use Rattle.fileset_model.specs.declared.fileset.Limits.{Limits}
-use Rattle.fileset_model.specs.declared.node.Node.TheVariants.{Directory as DirectoryNode}
-use Rattle.fileset_model.proofs.MapLemmas.{get-insert_same}
-use Rattle.fileset_laws.proofs.ValidLemmas.{to_some_and}
-use Rattle.fileset_table.specs.Table.{Table, entry_of}
-use Rattle.fileset_table.specs.declared.slot.FilesetEntry.{FilesetEntry}
-use Rattle.fileset_table.specs.declared.slot.SlotItem.{SlotItem}
-use Rattle.fileset_table.specs.declared.slot.SlotItem.TheVariants as slot
-use Rattle.fileset_table.proofs.Leaving.{get_other}
-use Rattle.name_space.specs.Laws.{IsRootAlone}
-use Rattle.name_space.specs.Names.{led_to, number_of}
-use Rattle.name_space.proofs.CreatedNames.{by_tag}
-use Rattle.name_space.proofs.Roots.{root_original_lem}
-use Rattle.domain_standing.specs.Sets.{StandsAsSet}
-use Rattle.domain_standing.proofs.Making.{made_shown}
-use Rattle.deferred_delete.specs.Standing.{Files, place_in}
-use Rattle.deferred_delete.proofs.Spread.{none_not, some_same}
-use Rattle.deferred_laws.specs.Calls.{Makes, StandsWell}
-use Rattle.domain_layout.specs.Filled.{IsFilled}
-use Rattle.domain_layout.specs.Seen.{SeenFile, seen_in}
-use Rattle.domain_layout.specs.Shape.{AreQuotas, FilesetShape, IsOriginal, limits_in}
-use Rattle.domain_standing.proofs.OriginalFiles.{kept}
+use Rattle.domain_standing.specs.domain_base.declared.place.CellAt.{CellAt}
+use Rattle.domain_standing.specs.domain_base.declared.place.Home.{Home}
+use Rattle.domain_standing.specs.domain_base.declared.place.Kind.{Kind}
+use Rattle.domain_standing.specs.domain_base.declared.place.Kind.TheVariants as kind
+use Rattle.domain_standing.specs.domain_base.declared.place.Tag.{Tag}
+use Rattle.domain_standing.specs.page_store.Bitfiles.{Bitfiles, new_file as shown_new, same_tag, with_file}
+use Rattle.domain_standing.specs.metadata_cells.Chain.{PlacedCell}
+use Rattle.domain_standing.specs.extent_maps.declared.run.PagePlace.TheVariants.{At}
+use Rattle.domain_standing.specs.fileset_files.Creation.{root_tag}
+use Rattle.domain_standing.specs.fileset_files.Files.{Chains, attributes_of}
+use Rattle.domain_standing.specs.fileset_files.Shown.{IsWhat, ShowsAt, ShowsFile}
+use Rattle.domain_standing.specs.fileset_model.Filesets.{FilesetMap}
+use Rattle.domain_standing.specs.fileset_model.LooksLike.{IsShown}
+use Rattle.domain_standing.specs.fileset_values.Orders.{Path, owner_cmp}
+use Rattle.domain_standing.specs.fileset_model.Usage.{limits_of}
+use Rattle.domain_standing.specs.fileset_values.declared.command.Owner.{Owner}
+use Rattle.domain_standing.specs.fileset_values.declared.command.Owner.TheVariants as owner
+use Rattle.domain_standing.specs.fileset_model.declared.fileset.FilesetSlot.{FilesetSlot}
+use Rattle.domain_standing.specs.fileset_model.declared.fileset.Limits.{Limits}
+use Rattle.domain_standing.specs.fileset_model.declared.node.Node.TheVariants.{Directory as DirectoryNode}
+use Rattle.domain_standing.proofs.OfFilesetValues.MapLemmas.{get-insert_same}
+use Rattle.domain_standing.proofs.OfLegalHistories.ValidLemmas.{to_some_and}
+use Rattle.domain_standing.specs.fileset_table.Table.{Table, entry_of}
+use Rattle.domain_standing.specs.fileset_table.declared.slot.FilesetEntry.{FilesetEntry}
+use Rattle.domain_standing.specs.fileset_table.declared.slot.SlotItem.{SlotItem}
+use Rattle.domain_standing.specs.fileset_table.declared.slot.SlotItem.TheVariants as slot
+use Rattle.domain_standing.proofs.OfFilesetTable.Leaving.{get_other}
+use Rattle.domain_standing.specs.name_space.Laws.{IsRootAlone}
+use Rattle.domain_standing.specs.name_space.Names.{led_to, number_of}
+use Rattle.domain_standing.proofs.OfNameSpace.CreatedNames.{by_tag}
+use Rattle.domain_standing.proofs.OfNameSpace.Roots.{root_original_lem}
+use Rattle.domain_standing.specs.stored_set.Sets.{StandsAsSet}
+use Rattle.domain_standing.proofs.OfStoredSet.Making.{made_shown}
+use Rattle.domain_standing.specs.release_list.Standing.{Files, place_in}
+use Rattle.domain_standing.proofs.OfReleaseList.Spread.{none_not, some_same}
+use Rattle.domain_standing.specs.release_steps.Calls.{Makes, StandsWell}
+use Rattle.domain_standing.specs.domain_layout.Filled.{IsFilled}
+use Rattle.domain_standing.specs.domain_layout.Seen.{SeenFile, seen_in}
+use Rattle.domain_standing.specs.domain_layout.Shape.{AreQuotas, FilesetShape, IsOriginal, limits_in}
+use Rattle.domain_standing.proofs.OfFilesetShapes.OriginalFiles.{kept}
 use Rattle.domain_standing.specs.Chains.{IndexesAt}
 use Rattle.domain_standing.specs.Domain.{DomainNow, item_in}
 use Rattle.domain_standing.specs.Slots.{StandSlots}

@@ -1,18 +1,18 @@
 -- All of a domain but its filesets stands on after a call on a tag.
 use Rattle.std.proofs.Common.{◌≡◌, ℕ, List, [], ◌∷◌, Option, Some, None}
 use Rattle.std.specs.Option.{option_and_then}
-use Rattle.domain_base.specs.declared.place.CellAt.{CellAt}
-use Rattle.domain_base.specs.declared.place.Home.{Home}
-use Rattle.domain_base.specs.declared.place.Tag.{Tag}
-use Rattle.bmt_mcells.specs.Chain.{PlacedCell}
-use Rattle.fileset_model.specs.Filesets.{FilesetMap}
-use Rattle.free_space.specs.Spaces.{volume_of}
-use Rattle.free_space.specs.VolumeSpace.{VolumeSpace}
-use Rattle.bitfile_core.specs.Files.{Chains}
-use Rattle.deferred_delete.specs.Listed.{IsEntry}
-use Rattle.deferred_delete.specs.Listing.{Adds, Listing}
-use Rattle.deferred_delete.specs.Standing.{Files}
-use Rattle.deferred_laws.specs.Tags.{start_of}
+use Rattle.domain_standing.specs.domain_base.declared.place.CellAt.{CellAt}
+use Rattle.domain_standing.specs.domain_base.declared.place.Home.{Home}
+use Rattle.domain_standing.specs.domain_base.declared.place.Tag.{Tag}
+use Rattle.domain_standing.specs.metadata_cells.Chain.{PlacedCell}
+use Rattle.domain_standing.specs.fileset_model.Filesets.{FilesetMap}
+use Rattle.domain_standing.specs.free_space.Spaces.{volume_of}
+use Rattle.domain_standing.specs.free_space.VolumeSpace.{VolumeSpace}
+use Rattle.domain_standing.specs.fileset_files.Files.{Chains}
+use Rattle.domain_standing.specs.release_list.Listed.{IsEntry}
+use Rattle.domain_standing.specs.release_list.Listing.{Adds, Listing}
+use Rattle.domain_standing.specs.release_list.Standing.{Files}
+use Rattle.domain_standing.specs.release_steps.Tags.{start_of}
 use Rattle.domain_standing.specs.Chains.{IndexesAt, IsToDo}
 use Rattle.domain_standing.specs.Domain.{DomainNow}
 use Rattle.domain_standing.specs.Holders.{AreHeldAt, Holder, Holds, HoldsOwned, IsUnheld}

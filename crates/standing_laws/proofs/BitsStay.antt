@@ -2,19 +2,19 @@
 use Rattle.std.proofs.Common.{◌≡◌, ◌∙◌, ⊎_elim, ℕ, ◌*◌, ◌/◌, ◌%◌, ◌<◌, ◌≤◌, false, List, Option, Some, is_some, sym, ap, subst, arith}
 use Rattle.std.proofs.lemmas.Bool.{cases_Bool}
 use Rattle.std.specs.Option.{option_map_or}
-use Rattle.domain_base.specs.Version.{bitmap_pages, most_pages}
-use Rattle.domain_base.specs.declared.place.Home.{Home}
-use Rattle.domain_base.specs.declared.version.Version.{Version}
-use Rattle.domain_base.specs.declared.version.Version.TheVariants.{Three, Four}
-use Rattle.tag_dirs.specs.Directory.{has_home}
-use Rattle.log_ring.specs.Homes.{IsMember, member_of}
-use Rattle.storage_bitmap.specs.Bits.{is_set}
-use Rattle.free_space.specs.Spaces.{Spaces}
-use Rattle.bitfile_core.specs.Creation.{LeavesBeside}
-use Rattle.fileset_table.specs.declared.slot.FilesetEntry.{FilesetEntry}
-use Rattle.deferred_delete.specs.Standing.{Files}
-use Rattle.domain_layout.specs.Reached.{Frame, first_cells}
-use Rattle.bitmap_marks.specs.Marks.{bitmap_home, is_marked}
+use Rattle.domain_standing.specs.domain_base.Version.{bitmap_pages, most_pages}
+use Rattle.domain_standing.specs.domain_base.declared.place.Home.{Home}
+use Rattle.domain_standing.specs.domain_base.declared.version.Version.{Version}
+use Rattle.domain_standing.specs.domain_base.declared.version.Version.TheVariants.{Three, Four}
+use Rattle.domain_standing.specs.tag_dirs.Directory.{has_home}
+use Rattle.domain_standing.specs.log_ring.Homes.{IsMember, member_of}
+use Rattle.domain_standing.specs.free_space.Bits.{is_set}
+use Rattle.domain_standing.specs.free_space.Spaces.{Spaces}
+use Rattle.domain_standing.specs.fileset_files.Creation.{LeavesBeside}
+use Rattle.domain_standing.specs.fileset_table.declared.slot.FilesetEntry.{FilesetEntry}
+use Rattle.domain_standing.specs.release_list.Standing.{Files}
+use Rattle.domain_standing.specs.domain_layout.Reached.{Frame, first_cells}
+use Rattle.domain_standing.specs.free_cells.Marks.{bitmap_home, is_marked}
 use Rattle.domain_standing.specs.Chains.{IndexesAt}
 use Rattle.domain_standing.specs.Domain.{DomainNow}
 use Rattle.domain_standing.specs.Holders.{Holds}

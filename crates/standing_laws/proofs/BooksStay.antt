@@ -2,22 +2,22 @@
 use Rattle.std.proofs.Common.{◌≡◌, ◌∙◌, ◌⊎◌, ⊎_elim, inl, inr, ℕ, ◌==◌, Option, Some, IfSome, IsSomeAnd, refl, sym, ap, subst}
 use Rattle.std.proofs.lemmas.Bool.{both_ways, cases_Bool, eq-eqb, eqb-true}
 use Rattle.std.specs.FinMap.{get, insert}
-use Rattle.fileset_model.proofs.MapLemmas.{get-insert_other, get-insert_same}
-use Rattle.fileset_model.specs.Filesets.{FilesetMap}
-use Rattle.fileset_model.specs.Orders.{name_cmp-total, name_cmp-IsAntisymmetric}
-use Rattle.fileset_model.specs.Usage.{with_limits}
-use Rattle.fileset_model.specs.declared.fileset.FilesetSlot.{FilesetSlot}
-use Rattle.fileset_table.specs.Table.{entry_of}
-use Rattle.fileset_table.specs.declared.slot.FilesetEntry.{FilesetEntry}
-use Rattle.fileset_table.specs.declared.slot.SlotItem.{SlotItem}
-use Rattle.fileset_table.specs.declared.slot.SlotItem.TheVariants as slot
-use Rattle.name_space.specs.Names.{number_of, root_tag}
-use Rattle.quota_book.specs.Book.{Book, empty_book}
-use Rattle.quota_book.specs.Sums.{IsBookOf}
-use Rattle.quota_book.proofs.Sums.{empty_is}
-use Rattle.quota_book.proofs.Unchanged.{limited_same}
-use Rattle.deferred_delete.specs.Standing.{Files}
-use Rattle.deferred_delete.proofs.Spread.{some_same}
+use Rattle.domain_standing.proofs.OfFilesetValues.MapLemmas.{get-insert_other, get-insert_same}
+use Rattle.domain_standing.specs.fileset_model.Filesets.{FilesetMap}
+use Rattle.domain_standing.specs.fileset_values.Orders.{name_cmp-total, name_cmp-IsAntisymmetric}
+use Rattle.domain_standing.specs.fileset_model.Usage.{with_limits}
+use Rattle.domain_standing.specs.fileset_model.declared.fileset.FilesetSlot.{FilesetSlot}
+use Rattle.domain_standing.specs.fileset_table.Table.{entry_of}
+use Rattle.domain_standing.specs.fileset_table.declared.slot.FilesetEntry.{FilesetEntry}
+use Rattle.domain_standing.specs.fileset_table.declared.slot.SlotItem.{SlotItem}
+use Rattle.domain_standing.specs.fileset_table.declared.slot.SlotItem.TheVariants as slot
+use Rattle.domain_standing.specs.name_space.Names.{number_of, root_tag}
+use Rattle.domain_standing.specs.quota_book.Book.{Book, empty_book}
+use Rattle.domain_standing.specs.quota_book.Sums.{IsBookOf}
+use Rattle.domain_standing.proofs.OfQuotaBook.Sums.{empty_is}
+use Rattle.domain_standing.proofs.OfQuotaBook.Unchanged.{limited_same}
+use Rattle.domain_standing.specs.release_list.Standing.{Files}
+use Rattle.domain_standing.proofs.OfReleaseList.Spread.{some_same}
 use Rattle.domain_standing.specs.Chains.{IndexesAt}
 use Rattle.domain_standing.specs.Domain.{DomainNow, item_in}
 use Rattle.domain_standing.specs.Standing.{AreBooksOf}

@@ -4,38 +4,38 @@ use Rattle.std.proofs.lemmas.Bool.{and_parts, cases_Bool, eq-eqb, lt-ltb, ltb-tr
 use Rattle.std.specs.List.{AllByRecursion}
 use Rattle.std.specs.Option.{option_and_then}
 use Rattle.std.specs.Prelude.{slice_index_or}
-use Rattle.domain_base.specs.declared.place.CellAt.{CellAt}
-use Rattle.domain_base.specs.declared.place.Home.{Home}
-use Rattle.domain_base.specs.declared.place.Tag.{Tag}
-use Rattle.domain_base.specs.declared.version.Version.{Version}
-use Rattle.page_store.specs.Pages.{Pages, same_home}
-use Rattle.bmt_mcells.specs.declared.head.CellHead.{CellHead}
-use Rattle.bmt_mcells.specs.declared.head.CellKind.{CellKind}
-use Rattle.bmt_mcells.specs.declared.head.CellKind.TheVariants.{Chain, Primary, Quota, Volume}
-use Rattle.bmt_mcells.specs.Cell.{Cell}
-use Rattle.bmt_mcells.specs.CellPage.{IsCellPage, cell_at, cell_of, home_of, is_cell_page, is_free_in}
-use Rattle.bmt_mcells.specs.Chain.{Follow, PlacedCell, StandsAt, is_at, may_follow, places}
-use Rattle.bmt_mcells.proofs.CellKinds.{free_kind, used_not_zeros, zeros_kind}
-use Rattle.bmt_mcells.proofs.Changed.{homes_same}
-use Rattle.bmt_mcells.proofs.Unique.{one_stands}
-use Rattle.free_cells.specs.Belong.{Belong, IsPageOf, home_at}
-use Rattle.free_cells.specs.Cells.{Cells, is_free, table_of}
-use Rattle.free_cells.proofs.Belongs.{used_not_free}
-use Rattle.free_space.specs.Spaces.{Spaces}
-use Rattle.bitfile_cells.specs.Allocated.{AreAllocated}
-use Rattle.bitfile_cells.specs.Changes.{IsInUse}
-use Rattle.bitfile_cells.specs.FileChanges.{AreOnTables}
-use Rattle.bitfile_cells.specs.Files.{AreFile, IsFile}
-use Rattle.bitfile_cells.specs.MapChanges.{IsHandedOut, TakesOne}
-use Rattle.bitfile_cells.proofs.Added.{handed_now, used_of}
-use Rattle.bitfile_cells.proofs.ChainChanges.{at_same, in_first, in_later, stand_file}
-use Rattle.bitfile_core.specs.Changes.{ChangesBeside, ChangesFirst, says_removed, with_first}
-use Rattle.bitfile_core.proofs.Grown.{allocated_taken}
-use Rattle.deferred_delete.proofs.Lists.{last_in}
-use Rattle.deferred_delete.proofs.Standings.{same_or_not}
-use Rattle.deferred_laws.specs.Calls.{Drops, FilesetNow, Gives, Makes, Refuses, SetsFirst, StandsWell}
-use Rattle.deferred_laws.proofs.FirstWell.{are_file, tag_now as tag_set}
-use Rattle.deferred_laws.proofs.MakeWell.{tag_now as tag_made}
+use Rattle.domain_standing.specs.domain_base.declared.place.CellAt.{CellAt}
+use Rattle.domain_standing.specs.domain_base.declared.place.Home.{Home}
+use Rattle.domain_standing.specs.domain_base.declared.place.Tag.{Tag}
+use Rattle.domain_standing.specs.domain_base.declared.version.Version.{Version}
+use Rattle.domain_standing.specs.page_store.Pages.{Pages, same_home}
+use Rattle.domain_standing.specs.metadata_cells.declared.head.CellHead.{CellHead}
+use Rattle.domain_standing.specs.metadata_cells.declared.head.CellKind.{CellKind}
+use Rattle.domain_standing.specs.metadata_cells.declared.head.CellKind.TheVariants.{Chain, Primary, Quota, Volume}
+use Rattle.domain_standing.specs.metadata_cells.Cell.{Cell}
+use Rattle.domain_standing.specs.metadata_cells.CellPage.{IsCellPage, cell_at, cell_of, home_of, is_cell_page, is_free_in}
+use Rattle.domain_standing.specs.metadata_cells.Chain.{Follow, PlacedCell, StandsAt, is_at, may_follow, places}
+use Rattle.domain_standing.proofs.OfMetadataCells.CellKinds.{free_kind, used_not_zeros, zeros_kind}
+use Rattle.domain_standing.proofs.OfMetadataCells.Changed.{homes_same}
+use Rattle.domain_standing.proofs.OfMetadataCells.Unique.{one_stands}
+use Rattle.domain_standing.specs.free_cells.Belong.{Belong, IsPageOf, home_at}
+use Rattle.domain_standing.specs.free_cells.Cells.{Cells, is_free, table_of}
+use Rattle.domain_standing.proofs.OfFreeCells.Belongs.{used_not_free}
+use Rattle.domain_standing.specs.free_space.Spaces.{Spaces}
+use Rattle.domain_standing.specs.file_chains.Allocated.{AreAllocated}
+use Rattle.domain_standing.specs.file_chains.Changes.{IsInUse}
+use Rattle.domain_standing.specs.file_chains.FileChanges.{AreOnTables}
+use Rattle.domain_standing.specs.file_chains.Files.{AreFile, IsFile}
+use Rattle.domain_standing.specs.file_chains.MapChanges.{IsHandedOut, TakesOne}
+use Rattle.domain_standing.proofs.OfFileChains.Added.{handed_now, used_of}
+use Rattle.domain_standing.proofs.OfFileChains.ChainChanges.{at_same, in_first, in_later, stand_file}
+use Rattle.domain_standing.specs.fileset_files.Changes.{ChangesBeside, ChangesFirst, says_removed, with_first}
+use Rattle.domain_standing.proofs.OfFilesetFiles.Grown.{allocated_taken}
+use Rattle.domain_standing.proofs.OfReleaseList.Lists.{last_in}
+use Rattle.domain_standing.proofs.OfReleaseList.Standings.{same_or_not}
+use Rattle.domain_standing.specs.release_steps.Calls.{Drops, FilesetNow, Gives, Makes, Refuses, SetsFirst, StandsWell}
+use Rattle.domain_standing.proofs.OfReleaseSteps.FirstWell.{are_file, tag_now as tag_set}
+use Rattle.domain_standing.proofs.OfReleaseSteps.MakeWell.{tag_now as tag_made}
 use Rattle.standing_laws.proofs.TablesTaken.{low_table}
 
 -- ---- cells

@@ -1,36 +1,36 @@
 -- What a call on a tag makes of the chain of its file.
 use Rattle.std.proofs.Common.{◌≡◌, ◌∙◌, ◌⊎◌, inl, inr, ℕ, zero, suc, List, [], ◌∷◌, Option, Some, None, IfSome, IsSome, Contains, is_some, refl, ap, arith}
 use Rattle.std.specs.Option.{option_and_then, option_map}
-use Rattle.domain_base.specs.declared.place.CellAt.{CellAt}
-use Rattle.domain_base.specs.declared.place.Tag.{Tag}
-use Rattle.domain_base.specs.declared.version.Version.{Version}
-use Rattle.domain_base.specs.declared.version.Version.TheVariants.{Three, Four}
-use Rattle.record_table.specs.declared.record.Leftover.TheVariants.{Remove, Trim}
-use Rattle.record_table.specs.declared.record.Record.{Record}
-use Rattle.record_table.specs.declared.record.Record.TheVariants as written
-use Rattle.record_table.specs.Records.{kind_of}
-use Rattle.bmt_mcells.specs.Cell.{Cell, record_of}
-use Rattle.bmt_mcells.specs.Chain.{PlacedCell, places}
-use Rattle.extent_records.specs.Writing.{short_kind}
-use Rattle.bitfile_cells.proofs.ChainChanges.{in_first}
-use Rattle.bitfile_cells.proofs.MapRecords.{kind_found}
-use Rattle.bitfile_core.specs.declared.attributes.Attributes.{Attributes}
-use Rattle.bitfile_core.specs.Changes.{says_attributes, says_parent, says_removed, with_attributes, with_first}
-use Rattle.bitfile_core.specs.Files.{Chains, first_record}
-use Rattle.bitfile_core.specs.Truncation.{resized, says_size, says_truncated}
-use Rattle.bitfile_core.proofs.FirstCell.{find_other, find_put}
-use Rattle.bitfile_core.proofs.Room.{attributes_kind}
-use Rattle.bitfile_core.proofs.Truncated.{resized_kind}
-use Rattle.deferred_delete.specs.Listed.{left_of, leftover_in}
-use Rattle.deferred_delete.specs.Standing.{with_file}
-use Rattle.deferred_delete.proofs.Firsts.{first_same}
-use Rattle.deferred_laws.specs.Calls.{Call, Drops, FilesetNow, Gives, Makes, Refuses, SetsFirst, StandsWell, cut, described, dropped, given, indexed, made, moved, put_in, refused}
-use Rattle.deferred_laws.specs.Tags.{start_of}
-use Rattle.deferred_laws.proofs.CallTables.{chain_put}
-use Rattle.deferred_laws.proofs.FirstWell.{files_left, tag_now as tag_set}
-use Rattle.deferred_laws.proofs.MakeWell.{no_file, tag_now as tag_made}
-use Rattle.deferred_laws.proofs.Said.{left_first}
-use Rattle.deferred_laws.proofs.TagFile.{started}
+use Rattle.domain_standing.specs.domain_base.declared.place.CellAt.{CellAt}
+use Rattle.domain_standing.specs.domain_base.declared.place.Tag.{Tag}
+use Rattle.domain_standing.specs.domain_base.declared.version.Version.{Version}
+use Rattle.domain_standing.specs.domain_base.declared.version.Version.TheVariants.{Three, Four}
+use Rattle.domain_standing.specs.cell_records.declared.record.Leftover.TheVariants.{Remove, Trim}
+use Rattle.domain_standing.specs.cell_records.declared.record.Record.{Record}
+use Rattle.domain_standing.specs.cell_records.declared.record.Record.TheVariants as written
+use Rattle.domain_standing.specs.cell_records.Records.{kind_of}
+use Rattle.domain_standing.specs.metadata_cells.Cell.{Cell, record_of}
+use Rattle.domain_standing.specs.metadata_cells.Chain.{PlacedCell, places}
+use Rattle.domain_standing.specs.extent_records.Writing.{short_kind}
+use Rattle.domain_standing.proofs.OfFileChains.ChainChanges.{in_first}
+use Rattle.domain_standing.proofs.OfFileChains.MapRecords.{kind_found}
+use Rattle.domain_standing.specs.fileset_files.declared.attributes.Attributes.{Attributes}
+use Rattle.domain_standing.specs.fileset_files.Changes.{says_attributes, says_parent, says_removed, with_attributes, with_first}
+use Rattle.domain_standing.specs.fileset_files.Files.{Chains, first_record}
+use Rattle.domain_standing.specs.fileset_files.Truncation.{resized, says_size, says_truncated}
+use Rattle.domain_standing.proofs.OfFilesetFiles.FirstCell.{find_other, find_put}
+use Rattle.domain_standing.proofs.OfFilesetFiles.Room.{attributes_kind}
+use Rattle.domain_standing.proofs.OfFilesetFiles.Truncated.{resized_kind}
+use Rattle.domain_standing.specs.release_list.Listed.{left_of, leftover_in}
+use Rattle.domain_standing.specs.release_list.Standing.{with_file}
+use Rattle.domain_standing.proofs.OfReleaseList.Firsts.{first_same}
+use Rattle.domain_standing.specs.release_steps.Calls.{Call, Drops, FilesetNow, Gives, Makes, Refuses, SetsFirst, StandsWell, cut, described, dropped, given, indexed, made, moved, put_in, refused}
+use Rattle.domain_standing.specs.release_steps.Tags.{start_of}
+use Rattle.domain_standing.proofs.OfReleaseSteps.CallTables.{chain_put}
+use Rattle.domain_standing.proofs.OfReleaseSteps.FirstWell.{files_left, tag_now as tag_set}
+use Rattle.domain_standing.proofs.OfReleaseSteps.MakeWell.{no_file, tag_now as tag_made}
+use Rattle.domain_standing.proofs.OfReleaseSteps.Said.{left_first}
+use Rattle.domain_standing.proofs.OfReleaseSteps.TagFile.{started}
 use Rattle.standing_laws.specs.Leads.{MayCall}
 use Rattle.standing_laws.proofs.CellsNow.{AreUsed, CellsGoOn, dropped_cells, given_cells, made_cells, set_cells}
 

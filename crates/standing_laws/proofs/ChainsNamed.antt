@@ -2,36 +2,36 @@
 use Rattle.std.proofs.Common.{◌≡◌, ◌∙◌, ◌⊎◌, ◌==◌, ℕ, suc, true, false, List, [], ◌∷◌, Option, Some, None, IfSome, IsSomeAnd, Contains, inl, inr, is_some, slice_get, refl, sym, ap, subst, eqb-true, ⊎_elim}
 use Rattle.std.proofs.lemmas.Bool.{both_ways, cases_Bool, eq-eqb, true≢false}
 use Rattle.std.specs.Option.{option_and_then}
-use Rattle.domain_base.specs.declared.place.CellAt.{CellAt}
-use Rattle.domain_base.specs.declared.place.Home.{Home}
-use Rattle.domain_base.specs.declared.place.Tag.{Tag}
-use Rattle.page_store.specs.Bitfiles.{same_tag}
-use Rattle.page_store.specs.Pages.{Pages}
-use Rattle.bmt_mcells.specs.Chain.{PlacedCell}
-use Rattle.tag_dirs.specs.declared.dir.TagPlace.{TagPlace}
-use Rattle.tag_dirs.specs.Directory.{cell_of}
-use Rattle.bitfile_cells.specs.Files.{IsFile}
-use Rattle.bitfile_core.specs.Files.{AreFiles, Chains, LeadsToFile}
-use Rattle.bitfile_core.specs.Shown.{index_in, index_of}
-use Rattle.bitfile_core.proofs.OneFile.{tags_same}
-use Rattle.bitfile_core.proofs.Tags.{cell_same, pages_same}
-use Rattle.stored_index.specs.Homes.{AreIndexHomes, IsIndexPage, next_at}
-use Rattle.tag_dirs.specs.TagPage.{next_of}
-use Rattle.fileset_table.specs.Table.{Table}
-use Rattle.fileset_table.specs.declared.slot.SlotItem.{SlotItem}
-use Rattle.deferred_delete.specs.Listed.{left_of}
-use Rattle.deferred_delete.specs.Listing.{Listing}
-use Rattle.deferred_delete.specs.Standing.{Files}
-use Rattle.deferred_delete.proofs.Spread.{none_not, some_same}
-use Rattle.deferred_delete.proofs.Standings.{same_or_not}
-use Rattle.deferred_laws.specs.Calls.{FilesetNow, Refuses}
-use Rattle.deferred_laws.specs.Links.{homes_of}
-use Rattle.deferred_laws.specs.Tags.{start_of}
-use Rattle.deferred_laws.proofs.Listing.{list_call}
-use Rattle.deferred_laws.proofs.TagCalls.{same_call}
-use Rattle.deferred_laws.proofs.Tags.{IsNamed, file_start, named}
-use Rattle.domain_layout.specs.Layout.{AreTagPlaces, first_tag_of}
-use Rattle.domain_layout.specs.TagRules.{quota_of}
+use Rattle.domain_standing.specs.domain_base.declared.place.CellAt.{CellAt}
+use Rattle.domain_standing.specs.domain_base.declared.place.Home.{Home}
+use Rattle.domain_standing.specs.domain_base.declared.place.Tag.{Tag}
+use Rattle.domain_standing.specs.page_store.Bitfiles.{same_tag}
+use Rattle.domain_standing.specs.page_store.Pages.{Pages}
+use Rattle.domain_standing.specs.metadata_cells.Chain.{PlacedCell}
+use Rattle.domain_standing.specs.tag_dirs.declared.dir.TagPlace.{TagPlace}
+use Rattle.domain_standing.specs.tag_dirs.Directory.{cell_of}
+use Rattle.domain_standing.specs.file_chains.Files.{IsFile}
+use Rattle.domain_standing.specs.fileset_files.Files.{AreFiles, Chains, LeadsToFile}
+use Rattle.domain_standing.specs.fileset_files.Shown.{index_in, index_of}
+use Rattle.domain_standing.proofs.OfFilesetFiles.OneFile.{tags_same}
+use Rattle.domain_standing.proofs.OfFilesetFiles.Tags.{cell_same, pages_same}
+use Rattle.domain_standing.specs.index_pages.Homes.{AreIndexHomes, IsIndexPage, next_at}
+use Rattle.domain_standing.specs.tag_dirs.TagPage.{next_of}
+use Rattle.domain_standing.specs.fileset_table.Table.{Table}
+use Rattle.domain_standing.specs.fileset_table.declared.slot.SlotItem.{SlotItem}
+use Rattle.domain_standing.specs.release_list.Listed.{left_of}
+use Rattle.domain_standing.specs.release_list.Listing.{Listing}
+use Rattle.domain_standing.specs.release_list.Standing.{Files}
+use Rattle.domain_standing.proofs.OfReleaseList.Spread.{none_not, some_same}
+use Rattle.domain_standing.proofs.OfReleaseList.Standings.{same_or_not}
+use Rattle.domain_standing.specs.release_steps.Calls.{FilesetNow, Refuses}
+use Rattle.domain_standing.specs.release_steps.Links.{homes_of}
+use Rattle.domain_standing.specs.release_steps.Tags.{start_of}
+use Rattle.domain_standing.proofs.OfReleaseSteps.Listing.{list_call}
+use Rattle.domain_standing.proofs.OfReleaseSteps.TagCalls.{same_call}
+use Rattle.domain_standing.proofs.OfReleaseSteps.Tags.{IsNamed, file_start, named}
+use Rattle.domain_standing.specs.domain_layout.Layout.{AreTagPlaces, first_tag_of}
+use Rattle.domain_standing.specs.domain_layout.TagRules.{quota_of}
 use Rattle.domain_standing.specs.Chains.{HasEmptyTags, IndexesAt, IsOnList, IsQuotaOf, IsQuotaToGo, IsRemoved, IsSomebodys, IsTagged, IsToDo, StandsInSlot}
 use Rattle.domain_standing.specs.Domain.{DomainNow}
 use Rattle.domain_standing.specs.Holders.Holder.{of_index}

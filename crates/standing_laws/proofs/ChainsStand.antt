@@ -1,21 +1,21 @@
 -- The chains of a domain after a call on a tag.
 use Rattle.std.proofs.Common.{◌≡◌, ◌∙◌, ◌⊎◌, ℕ, List, Some, IsSomeAnd, Contains, inl, inr, sym, ap, subst, ⊎_elim}
-use Rattle.domain_base.specs.declared.place.CellAt.{CellAt}
-use Rattle.domain_base.specs.declared.place.Tag.{Tag}
-use Rattle.bmt_mcells.specs.Cell.{Cell}
-use Rattle.bmt_mcells.specs.Chain.{PlacedCell, places}
-use Rattle.free_cells.specs.Cells.{Cells}
-use Rattle.free_cells.proofs.Belongs.{used_not_free}
-use Rattle.bitfile_cells.specs.MapChanges.{IsHandedOut}
-use Rattle.bitfile_cells.proofs.Added.{used_of}
-use Rattle.bitfile_core.specs.Files.{Chains}
-use Rattle.deferred_delete.specs.Standing.{Files}
-use Rattle.deferred_delete.proofs.Standings.{file_other, file_there, same_or_not}
-use Rattle.deferred_laws.specs.Calls.{FilesetNow, Refuses}
-use Rattle.deferred_laws.proofs.StillAmong.{file_of_tag}
-use Rattle.domain_layout.specs.CellRules.{IsFirstPlace}
-use Rattle.domain_layout.specs.Owners.{IsOnTable}
-use Rattle.domain_layout.specs.Reached.{Frame}
+use Rattle.domain_standing.specs.domain_base.declared.place.CellAt.{CellAt}
+use Rattle.domain_standing.specs.domain_base.declared.place.Tag.{Tag}
+use Rattle.domain_standing.specs.metadata_cells.Cell.{Cell}
+use Rattle.domain_standing.specs.metadata_cells.Chain.{PlacedCell, places}
+use Rattle.domain_standing.specs.free_cells.Cells.{Cells}
+use Rattle.domain_standing.proofs.OfFreeCells.Belongs.{used_not_free}
+use Rattle.domain_standing.specs.file_chains.MapChanges.{IsHandedOut}
+use Rattle.domain_standing.proofs.OfFileChains.Added.{used_of}
+use Rattle.domain_standing.specs.fileset_files.Files.{Chains}
+use Rattle.domain_standing.specs.release_list.Standing.{Files}
+use Rattle.domain_standing.proofs.OfReleaseList.Standings.{file_other, file_there, same_or_not}
+use Rattle.domain_standing.specs.release_steps.Calls.{FilesetNow, Refuses}
+use Rattle.domain_standing.proofs.OfReleaseSteps.StillAmong.{file_of_tag}
+use Rattle.domain_standing.specs.domain_layout.CellRules.{IsFirstPlace}
+use Rattle.domain_standing.specs.domain_layout.Owners.{IsOnTable}
+use Rattle.domain_standing.specs.domain_layout.Reached.{Frame}
 use Rattle.domain_standing.specs.Chains.{IndexesAt, IsInChain}
 use Rattle.domain_standing.specs.Domain.{DomainNow, layout_of}
 use Rattle.standing_laws.specs.Leads.{LeadsOn, StandsBelow}

@@ -5,26 +5,26 @@ use Rattle.std.proofs.lemmas.List.{length-set}
 use Rattle.std.proofs.lemmas.List.Edits.{length-swap, swapped_from_swap}
 use Rattle.std.specs.List.{swap}
 use Rattle.std.specs.Option.{option_and_then, option_map_or}
-use Rattle.domain_base.specs.declared.place.CellAt.{CellAt}
-use Rattle.domain_base.specs.declared.place.Home.{Home}
-use Rattle.domain_base.specs.declared.place.Tag.{Tag}
-use Rattle.record_table.specs.declared.record.Leftover.TheVariants.{Remove, Trim}
-use Rattle.record_table.specs.declared.record.Record.{Record}
-use Rattle.record_table.specs.declared.record.Record.TheVariants as written
-use Rattle.bmt_mcells.specs.Chain.{PlacedCell}
-use Rattle.bitfile_core.specs.Files.{Chains, first_record, is_removed, says_remove}
-use Rattle.deferred_delete.proofs.Lists.{last_in}
-use Rattle.deferred_delete.proofs.Spread.{none_not, some_same}
-use Rattle.deferred_delete.proofs.Standings.{same_or_not}
-use Rattle.deferred_delete.specs.declared.list.Entry.{Entry}
-use Rattle.deferred_delete.specs.Listed.{IsEntry, left_of, leftover_in}
-use Rattle.deferred_delete.specs.Listing.{Adds, Listing, Orders}
-use Rattle.deferred_delete.specs.Standing.{Files}
-use Rattle.deferred_laws.specs.Calls.{FilesetNow, Refuses}
-use Rattle.deferred_laws.specs.Tags.{start_of}
-use Rattle.deferred_laws.proofs.Listing.{entry_among, entry_listed, which_entry}
-use Rattle.deferred_laws.proofs.StillAmong.{file_of_tag}
-use Rattle.domain_layout.specs.Layout.{first_tag_of}
+use Rattle.domain_standing.specs.domain_base.declared.place.CellAt.{CellAt}
+use Rattle.domain_standing.specs.domain_base.declared.place.Home.{Home}
+use Rattle.domain_standing.specs.domain_base.declared.place.Tag.{Tag}
+use Rattle.domain_standing.specs.cell_records.declared.record.Leftover.TheVariants.{Remove, Trim}
+use Rattle.domain_standing.specs.cell_records.declared.record.Record.{Record}
+use Rattle.domain_standing.specs.cell_records.declared.record.Record.TheVariants as written
+use Rattle.domain_standing.specs.metadata_cells.Chain.{PlacedCell}
+use Rattle.domain_standing.specs.fileset_files.Files.{Chains, first_record, is_removed, says_remove}
+use Rattle.domain_standing.proofs.OfReleaseList.Lists.{last_in}
+use Rattle.domain_standing.proofs.OfReleaseList.Spread.{none_not, some_same}
+use Rattle.domain_standing.proofs.OfReleaseList.Standings.{same_or_not}
+use Rattle.domain_standing.specs.release_list.declared.list.Entry.{Entry}
+use Rattle.domain_standing.specs.release_list.Listed.{IsEntry, left_of, leftover_in}
+use Rattle.domain_standing.specs.release_list.Listing.{Adds, Listing, Orders}
+use Rattle.domain_standing.specs.release_list.Standing.{Files}
+use Rattle.domain_standing.specs.release_steps.Calls.{FilesetNow, Refuses}
+use Rattle.domain_standing.specs.release_steps.Tags.{start_of}
+use Rattle.domain_standing.proofs.OfReleaseSteps.Listing.{entry_among, entry_listed, which_entry}
+use Rattle.domain_standing.proofs.OfReleaseSteps.StillAmong.{file_of_tag}
+use Rattle.domain_standing.specs.domain_layout.Layout.{first_tag_of}
 use Rattle.domain_standing.specs.Chains.{AreQuotasOf, HasEmptyTags, HasFilesAmong, IndexesAt, IsOnList, IsQuotaOf, IsQuotaToGo, IsSomebodys, IsToDo, StandChains, StandsInSlot}
 use Rattle.domain_standing.specs.Domain.{DomainNow, all_of}
 use Rattle.standing_laws.specs.Leads.{LeadsOn, StandsBelow, fileset_now}

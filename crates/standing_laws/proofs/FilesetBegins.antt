@@ -4,66 +4,66 @@ use Rattle.std.proofs.lemmas.Bool.{both_ways, cases_Bool, eq-eqb, eqb-true, fals
 use Rattle.std.specs.FinSet.{contains}
 use Rattle.std.specs.List.{AllByRecursion}
 use Rattle.std.specs.Option.{option_and_then, option_map_or}
-use Rattle.domain_base.specs.declared.place.CellAt.{CellAt}
-use Rattle.domain_base.specs.declared.place.Home.{Home}
-use Rattle.domain_base.specs.declared.place.Tag.{Tag}
-use Rattle.log_ring.specs.Homes.{IsMember}
-use Rattle.page_store.specs.Pages.{Pages, same_home}
-use Rattle.record_table.specs.declared.record.Leftover.TheVariants.{Remove, Trim}
-use Rattle.record_table.specs.declared.record.Record.{Record}
-use Rattle.record_table.specs.declared.record.Record.TheVariants as written
-use Rattle.bmt_mcells.specs.Cell.{Cell, record_of}
-use Rattle.bmt_mcells.specs.CellPage.{home_of, is_free_in}
-use Rattle.bmt_mcells.specs.Chain.{PlacedCell, StandsAt, places as cell_places}
-use Rattle.bmt_mcells.specs.declared.head.CellKind.TheVariants.{Chain, Primary, Quota, Volume}
-use Rattle.bmt_mcells.proofs.Changed.{homes_same, same_itself}
-use Rattle.bmt_mcells.proofs.Unique.{one_stands}
-use Rattle.tag_dirs.specs.Directory.{cell_of, has_home}
-use Rattle.tag_dirs.specs.TagPage.{IsNewPage}
-use Rattle.tag_dirs.specs.declared.dir.TagPlace.{TagPlace}
-use Rattle.extent_maps.specs.declared.run.PagePlace.TheVariants.{Absent, At}
-use Rattle.free_cells.specs.Cells.{table_of}
-use Rattle.free_space.specs.Spaces.{CanTake, Spaces, change_volume, volume_of}
-use Rattle.free_space.specs.VolumeSpace.{IsFreePage, VolumeSpace, is_waiting, with_page}
-use Rattle.free_space.proofs.Places.{free_can, held_taken}
-use Rattle.bitfile_cells.specs.Allocated.{AreAllocated}
-use Rattle.bitfile_cells.specs.FileChanges.{AreOnTables}
-use Rattle.bitfile_cells.specs.Files.{IsFile}
-use Rattle.bitfile_cells.proofs.ChainChanges.{stand_file}
-use Rattle.bitfile_core.specs.Files.{AreFiles, IsOf, LeadsToFile, first_record, is_removed, says_remove}
-use Rattle.bitfile_core.specs.Shown.{index_of}
-use Rattle.bitfile_core.specs.Together.{IsHeldApart}
-use Rattle.bitfile_core.proofs.Created.{allocated_beside, stands_by_page}
-use Rattle.bitfile_core.proofs.Grown.{allocated_taken}
-use Rattle.bitfile_core.proofs.NewDirectory.{new_names_none}
-use Rattle.bitfile_core.proofs.OneChain.{file_by}
-use Rattle.bitfile_core.proofs.Tags.{cell_same, directory_same, pages_same}
-use Rattle.stored_index.specs.Homes.{AreIndexHomes}
-use Rattle.stored_index.proofs.Homes.{kept_same}
-use Rattle.fileset_table.specs.Page.{IsTablePage}
-use Rattle.fileset_table.specs.Table.{Table, with_slot}
-use Rattle.fileset_table.specs.declared.slot.FilesetEntry.{FilesetEntry}
-use Rattle.fileset_table.specs.declared.slot.SlotItem.{SlotItem}
-use Rattle.fileset_table.specs.declared.slot.SlotItem.TheVariants as slot
-use Rattle.fileset_table.proofs.Leaving.{get_other}
-use Rattle.deferred_delete.specs.Listed.{left_of, leftover_in}
-use Rattle.deferred_delete.specs.Standing.{Files, IsFileOrQuotas, IsQuotaCell, IsQuotas, IsStanding, place_in}
-use Rattle.deferred_delete.specs.Steps.{IsWell}
-use Rattle.deferred_delete.proofs.Spread.{none_not, some_same}
-use Rattle.deferred_delete.proofs.Standings.{chain_by, each_from, low_home, quota_first, stand_chain, standing}
-use Rattle.deferred_laws.specs.Calls.{StandsWell}
-use Rattle.deferred_laws.specs.Links.{homes_of}
-use Rattle.deferred_laws.specs.Tags.{AreAmong}
-use Rattle.deferred_laws.proofs.StillAmong.{file_of_tag}
-use Rattle.deferred_laws.proofs.Tags.{has_attributes}
-use Rattle.layout_laws.proofs.Reached.{member_or_none}
+use Rattle.domain_standing.specs.domain_base.declared.place.CellAt.{CellAt}
+use Rattle.domain_standing.specs.domain_base.declared.place.Home.{Home}
+use Rattle.domain_standing.specs.domain_base.declared.place.Tag.{Tag}
+use Rattle.domain_standing.specs.log_ring.Homes.{IsMember}
+use Rattle.domain_standing.specs.page_store.Pages.{Pages, same_home}
+use Rattle.domain_standing.specs.cell_records.declared.record.Leftover.TheVariants.{Remove, Trim}
+use Rattle.domain_standing.specs.cell_records.declared.record.Record.{Record}
+use Rattle.domain_standing.specs.cell_records.declared.record.Record.TheVariants as written
+use Rattle.domain_standing.specs.metadata_cells.Cell.{Cell, record_of}
+use Rattle.domain_standing.specs.metadata_cells.CellPage.{home_of, is_free_in}
+use Rattle.domain_standing.specs.metadata_cells.Chain.{PlacedCell, StandsAt, places as cell_places}
+use Rattle.domain_standing.specs.metadata_cells.declared.head.CellKind.TheVariants.{Chain, Primary, Quota, Volume}
+use Rattle.domain_standing.proofs.OfMetadataCells.Changed.{homes_same, same_itself}
+use Rattle.domain_standing.proofs.OfMetadataCells.Unique.{one_stands}
+use Rattle.domain_standing.specs.tag_dirs.Directory.{cell_of, has_home}
+use Rattle.domain_standing.specs.tag_dirs.TagPage.{IsNewPage}
+use Rattle.domain_standing.specs.tag_dirs.declared.dir.TagPlace.{TagPlace}
+use Rattle.domain_standing.specs.extent_maps.declared.run.PagePlace.TheVariants.{Absent, At}
+use Rattle.domain_standing.specs.free_cells.Cells.{table_of}
+use Rattle.domain_standing.specs.free_space.Spaces.{CanTake, Spaces, change_volume, volume_of}
+use Rattle.domain_standing.specs.free_space.VolumeSpace.{IsFreePage, VolumeSpace, is_waiting, with_page}
+use Rattle.domain_standing.proofs.OfFreeSpace.Places.{free_can, held_taken}
+use Rattle.domain_standing.specs.file_chains.Allocated.{AreAllocated}
+use Rattle.domain_standing.specs.file_chains.FileChanges.{AreOnTables}
+use Rattle.domain_standing.specs.file_chains.Files.{IsFile}
+use Rattle.domain_standing.proofs.OfFileChains.ChainChanges.{stand_file}
+use Rattle.domain_standing.specs.fileset_files.Files.{AreFiles, IsOf, LeadsToFile, first_record, is_removed, says_remove}
+use Rattle.domain_standing.specs.fileset_files.Shown.{index_of}
+use Rattle.domain_standing.specs.fileset_files.Together.{IsHeldApart}
+use Rattle.domain_standing.proofs.OfFilesetFiles.Created.{allocated_beside, stands_by_page}
+use Rattle.domain_standing.proofs.OfFilesetFiles.Grown.{allocated_taken}
+use Rattle.domain_standing.proofs.OfFilesetFiles.NewDirectory.{new_names_none}
+use Rattle.domain_standing.proofs.OfFilesetFiles.OneChain.{file_by}
+use Rattle.domain_standing.proofs.OfFilesetFiles.Tags.{cell_same, directory_same, pages_same}
+use Rattle.domain_standing.specs.index_pages.Homes.{AreIndexHomes}
+use Rattle.domain_standing.proofs.OfIndexPages.Homes.{kept_same}
+use Rattle.domain_standing.specs.fileset_table.Page.{IsTablePage}
+use Rattle.domain_standing.specs.fileset_table.Table.{Table, with_slot}
+use Rattle.domain_standing.specs.fileset_table.declared.slot.FilesetEntry.{FilesetEntry}
+use Rattle.domain_standing.specs.fileset_table.declared.slot.SlotItem.{SlotItem}
+use Rattle.domain_standing.specs.fileset_table.declared.slot.SlotItem.TheVariants as slot
+use Rattle.domain_standing.proofs.OfFilesetTable.Leaving.{get_other}
+use Rattle.domain_standing.specs.release_list.Listed.{left_of, leftover_in}
+use Rattle.domain_standing.specs.release_list.Standing.{Files, IsFileOrQuotas, IsQuotaCell, IsQuotas, IsStanding, place_in}
+use Rattle.domain_standing.specs.release_list.Steps.{IsWell}
+use Rattle.domain_standing.proofs.OfReleaseList.Spread.{none_not, some_same}
+use Rattle.domain_standing.proofs.OfReleaseList.Standings.{chain_by, each_from, low_home, quota_first, stand_chain, standing}
+use Rattle.domain_standing.specs.release_steps.Calls.{StandsWell}
+use Rattle.domain_standing.specs.release_steps.Links.{homes_of}
+use Rattle.domain_standing.specs.release_steps.Tags.{AreAmong}
+use Rattle.domain_standing.proofs.OfReleaseSteps.StillAmong.{file_of_tag}
+use Rattle.domain_standing.proofs.OfReleaseSteps.Tags.{has_attributes}
+use Rattle.domain_standing.proofs.OfDomainLayout.Reached.{member_or_none}
 use Rattle.domain_standing.specs.Space.{IsFreeAt}
-use Rattle.domain_layout.specs.CellRules.{IsFirstPlace, has_first_records, has_its_kinds, has_kind, is_good_first, item_of, keeps_well, of_clone, of_original, say_removed}
-use Rattle.domain_layout.specs.Filled.{Contents}
-use Rattle.domain_layout.specs.Layout.{AreTagPlaces, IsCellTable, IsPageAt, first_tag_of}
-use Rattle.domain_layout.specs.Owners.{IsOnTable}
-use Rattle.domain_layout.specs.Reached.{first_cells}
-use Rattle.domain_layout.specs.TagRules.{IsLate, quota_of}
+use Rattle.domain_standing.specs.domain_layout.CellRules.{IsFirstPlace, has_first_records, has_its_kinds, has_kind, is_good_first, item_of, keeps_well, of_clone, of_original, say_removed}
+use Rattle.domain_standing.specs.domain_layout.Filled.{Contents}
+use Rattle.domain_standing.specs.domain_layout.Layout.{AreTagPlaces, IsCellTable, IsPageAt, first_tag_of}
+use Rattle.domain_standing.specs.domain_layout.Owners.{IsOnTable}
+use Rattle.domain_standing.specs.domain_layout.Reached.{first_cells}
+use Rattle.domain_standing.specs.domain_layout.TagRules.{IsLate, quota_of}
 use Rattle.domain_standing.specs.Chains.{AreQuotasOf, HasEmptyTags, HasFilesAmong, IndexesAt, IsQuotaOf, IsQuotaToGo, IsRemoved, IsSomebodys, IsTagged, StandChains, StandsInSlot}
 use Rattle.domain_standing.specs.Domain.{DomainNow, all_of, item_in, layout_of, named_by}
 use Rattle.domain_standing.specs.Holders.{AreHeldAt, AreHeldOn, Holder, Holds, HoldsOwned, IsUnheld}

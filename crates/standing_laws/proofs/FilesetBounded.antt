@@ -3,38 +3,38 @@ use Rattle.std.proofs.Common.{◌≡◌, ◌∙◌, ◌⊎◌, ⊎_elim, inl, in
 use Rattle.std.proofs.lemmas.Bool.{both_ways, cases_Bool, eq-eqb, eqb-true, false_from_ne_true}
 use Rattle.std.specs.FinMap.{get, insert}
 use Rattle.std.specs.Option.{option_and_then, option_map_or}
-use Rattle.domain_base.specs.declared.place.CellAt.{CellAt}
-use Rattle.domain_base.specs.declared.place.Home.{Home}
-use Rattle.domain_base.specs.declared.place.Tag.{Tag}
-use Rattle.bmt_mcells.specs.Cell.{Cell, record_of}
-use Rattle.bmt_mcells.specs.Chain.{PlacedCell}
-use Rattle.free_cells.specs.Cells.{table_of}
-use Rattle.free_space.specs.Spaces.{Spaces}
-use Rattle.fileset_model.specs.Filesets.{FilesetMap}
-use Rattle.fileset_model.specs.Usage.{with_limits}
-use Rattle.fileset_model.specs.declared.command.Owner.{Owner}
-use Rattle.fileset_model.specs.declared.command.Owner.TheVariants as owner
-use Rattle.fileset_model.specs.declared.fileset.FilesetSlot.{FilesetSlot}
-use Rattle.fileset_model.specs.declared.fileset.Limits.{Limits}
-use Rattle.fileset_table.specs.Page.{IsTablePage}
-use Rattle.fileset_table.specs.Table.{Table, entry_of, with_slot}
-use Rattle.fileset_table.specs.declared.slot.FilesetEntry.{FilesetEntry}
-use Rattle.fileset_table.specs.declared.slot.SlotItem.{SlotItem}
-use Rattle.fileset_table.specs.declared.slot.SlotItem.TheVariants as slot
-use Rattle.fileset_table.proofs.Leaving.{get_other}
-use Rattle.quota_book.specs.Book.{Book}
-use Rattle.quota_book.specs.Owners.{same_owner}
-use Rattle.quota_book.specs.Sums.{IsBookOf}
-use Rattle.quota_book.proofs.Unchanged.{limited_same}
-use Rattle.deferred_delete.specs.Standing.{Files}
-use Rattle.deferred_delete.proofs.Spread.{some_same}
-use Rattle.domain_layout.specs.CellRules.{has_first_records, has_its_kinds, has_kind, is_good_first, keeps_well, of_clone, of_original, say_removed}
-use Rattle.domain_layout.specs.DirectoryRules.{IsInItem, IsInOriginal}
-use Rattle.domain_layout.specs.Filled.{Fills}
-use Rattle.domain_layout.specs.Layout.{first_tag_of}
-use Rattle.domain_layout.specs.Seen.{SeenFile}
-use Rattle.domain_layout.specs.Shape.{FilesetShape, IsOriginal, limits_in}
-use Rattle.domain_layout.specs.TagRules.{quota_of}
+use Rattle.domain_standing.specs.domain_base.declared.place.CellAt.{CellAt}
+use Rattle.domain_standing.specs.domain_base.declared.place.Home.{Home}
+use Rattle.domain_standing.specs.domain_base.declared.place.Tag.{Tag}
+use Rattle.domain_standing.specs.metadata_cells.Cell.{Cell, record_of}
+use Rattle.domain_standing.specs.metadata_cells.Chain.{PlacedCell}
+use Rattle.domain_standing.specs.free_cells.Cells.{table_of}
+use Rattle.domain_standing.specs.free_space.Spaces.{Spaces}
+use Rattle.domain_standing.specs.fileset_model.Filesets.{FilesetMap}
+use Rattle.domain_standing.specs.fileset_model.Usage.{with_limits}
+use Rattle.domain_standing.specs.fileset_values.declared.command.Owner.{Owner}
+use Rattle.domain_standing.specs.fileset_values.declared.command.Owner.TheVariants as owner
+use Rattle.domain_standing.specs.fileset_model.declared.fileset.FilesetSlot.{FilesetSlot}
+use Rattle.domain_standing.specs.fileset_model.declared.fileset.Limits.{Limits}
+use Rattle.domain_standing.specs.fileset_table.Page.{IsTablePage}
+use Rattle.domain_standing.specs.fileset_table.Table.{Table, entry_of, with_slot}
+use Rattle.domain_standing.specs.fileset_table.declared.slot.FilesetEntry.{FilesetEntry}
+use Rattle.domain_standing.specs.fileset_table.declared.slot.SlotItem.{SlotItem}
+use Rattle.domain_standing.specs.fileset_table.declared.slot.SlotItem.TheVariants as slot
+use Rattle.domain_standing.proofs.OfFilesetTable.Leaving.{get_other}
+use Rattle.domain_standing.specs.quota_book.Book.{Book}
+use Rattle.domain_standing.specs.quota_book.Owners.{same_owner}
+use Rattle.domain_standing.specs.quota_book.Sums.{IsBookOf}
+use Rattle.domain_standing.proofs.OfQuotaBook.Unchanged.{limited_same}
+use Rattle.domain_standing.specs.release_list.Standing.{Files}
+use Rattle.domain_standing.proofs.OfReleaseList.Spread.{some_same}
+use Rattle.domain_standing.specs.domain_layout.CellRules.{has_first_records, has_its_kinds, has_kind, is_good_first, keeps_well, of_clone, of_original, say_removed}
+use Rattle.domain_standing.specs.domain_layout.DirectoryRules.{IsInItem, IsInOriginal}
+use Rattle.domain_standing.specs.domain_layout.Filled.{Fills}
+use Rattle.domain_standing.specs.domain_layout.Layout.{first_tag_of}
+use Rattle.domain_standing.specs.domain_layout.Seen.{SeenFile}
+use Rattle.domain_standing.specs.domain_layout.Shape.{FilesetShape, IsOriginal, limits_in}
+use Rattle.domain_standing.specs.domain_layout.TagRules.{quota_of}
 use Rattle.domain_standing.specs.Chains.{IndexesAt, IsRemoved}
 use Rattle.domain_standing.specs.Domain.{DomainNow, item_in}
 use Rattle.domain_standing.specs.Holders.{Holder, Holds}

@@ -3,28 +3,28 @@ use Rattle.std.proofs.Common.{◌≡◌, ◌∙◌, ◌⊎◌, ⊎_elim, inl, in
 use Rattle.std.proofs.lemmas.Bool.{and_from, and_parts, both_ways, cases_Bool, cases_lt, eq-eqb, eqb-true, false_from_ne_true, or_right, true≢false}
 use Rattle.std.specs.FinMap.{get, remove}
 use Rattle.std.specs.Option.{option_and_then, option_map_or}
-use Rattle.domain_base.specs.declared.place.Home.{Home}
-use Rattle.bmt_mcells.specs.Cell.{Cell, record_of}
-use Rattle.fileset_model.proofs.MapLemmas.{get-remove_other, got-remove}
-use Rattle.fileset_model.specs.Filesets.{FilesetMap}
-use Rattle.fileset_model.specs.Orders.{Name, name_cmp-total, name_cmp-IsAntisymmetric}
-use Rattle.fileset_model.specs.declared.fileset.FilesetSlot.{FilesetSlot}
-use Rattle.fileset_table.specs.Page.{IsTablePage}
-use Rattle.fileset_table.specs.Table.{Table, entry_of, with_slot}
-use Rattle.fileset_table.specs.declared.slot.FilesetEntry.{FilesetEntry}
-use Rattle.fileset_table.specs.declared.slot.SlotItem.{SlotItem}
-use Rattle.fileset_table.specs.declared.slot.SlotItem.TheVariants as slot
-use Rattle.fileset_table.proofs.Leaving.{get_other}
-use Rattle.quota_book.specs.Book.{Book}
-use Rattle.quota_book.specs.Sums.{IsBookOf}
-use Rattle.domain_standing.specs.Sets.{StandsAsSet}
-use Rattle.deferred_delete.specs.Standing.{Files}
-use Rattle.deferred_delete.proofs.Spread.{some_same}
-use Rattle.domain_layout.specs.CellRules.{has_first_records, has_its_kinds, has_kind, is_good_first, keeps_well, of_clone, of_original, say_removed}
-use Rattle.domain_layout.specs.Filled.{FillsThere}
-use Rattle.domain_layout.specs.Layout.{first_tag_of}
-use Rattle.domain_layout.specs.Shape.{FilesetShape, HasFileset, IsOriginal, IsShapeOf, Shapes}
-use Rattle.domain_layout.specs.TagRules.{quota_of}
+use Rattle.domain_standing.specs.domain_base.declared.place.Home.{Home}
+use Rattle.domain_standing.specs.metadata_cells.Cell.{Cell, record_of}
+use Rattle.domain_standing.proofs.OfFilesetValues.MapLemmas.{get-remove_other, got-remove}
+use Rattle.domain_standing.specs.fileset_model.Filesets.{FilesetMap}
+use Rattle.domain_standing.specs.fileset_values.Orders.{Name, name_cmp-total, name_cmp-IsAntisymmetric}
+use Rattle.domain_standing.specs.fileset_model.declared.fileset.FilesetSlot.{FilesetSlot}
+use Rattle.domain_standing.specs.fileset_table.Page.{IsTablePage}
+use Rattle.domain_standing.specs.fileset_table.Table.{Table, entry_of, with_slot}
+use Rattle.domain_standing.specs.fileset_table.declared.slot.FilesetEntry.{FilesetEntry}
+use Rattle.domain_standing.specs.fileset_table.declared.slot.SlotItem.{SlotItem}
+use Rattle.domain_standing.specs.fileset_table.declared.slot.SlotItem.TheVariants as slot
+use Rattle.domain_standing.proofs.OfFilesetTable.Leaving.{get_other}
+use Rattle.domain_standing.specs.quota_book.Book.{Book}
+use Rattle.domain_standing.specs.quota_book.Sums.{IsBookOf}
+use Rattle.domain_standing.specs.stored_set.Sets.{StandsAsSet}
+use Rattle.domain_standing.specs.release_list.Standing.{Files}
+use Rattle.domain_standing.proofs.OfReleaseList.Spread.{some_same}
+use Rattle.domain_standing.specs.domain_layout.CellRules.{has_first_records, has_its_kinds, has_kind, is_good_first, keeps_well, of_clone, of_original, say_removed}
+use Rattle.domain_standing.specs.domain_layout.Filled.{FillsThere}
+use Rattle.domain_standing.specs.domain_layout.Layout.{first_tag_of}
+use Rattle.domain_standing.specs.domain_layout.Shape.{FilesetShape, HasFileset, IsOriginal, IsShapeOf, Shapes}
+use Rattle.domain_standing.specs.domain_layout.TagRules.{quota_of}
 use Rattle.domain_standing.specs.Chains.{IndexesAt, IsRemoved}
 use Rattle.domain_standing.specs.Domain.{DomainNow, item_in}
 use Rattle.domain_standing.specs.Holders.{Holder, Holds}

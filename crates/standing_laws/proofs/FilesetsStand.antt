@@ -1,17 +1,17 @@
 -- The filesets for which a domain stands after a call on a tag.
 use Rattle.std.proofs.Common.{◌≡◌, ◌∙◌, ℕ, IfSome, refl, sym, ap, subst, slice_get}
 use Rattle.std.specs.FinMap.{insert}
-use Rattle.domain_base.specs.declared.place.Tag.{Tag}
-use Rattle.bitfile_core.specs.Files.{Chains}
-use Rattle.fileset_model.specs.Filesets.{FilesetMap}
-use Rattle.fileset_model.specs.declared.fileset.FilesetSlot.{FilesetSlot}
-use Rattle.fileset_table.specs.Table.{Table, entry_of}
-use Rattle.fileset_table.specs.declared.slot.FilesetEntry.{FilesetEntry}
-use Rattle.fileset_table.specs.declared.slot.SlotItem.{SlotItem}
-use Rattle.fileset_table.specs.declared.slot.SlotItem.TheVariants as slot
-use Rattle.deferred_delete.specs.Standing.{Files}
-use Rattle.deferred_delete.proofs.Spread.{some_same}
-use Rattle.domain_layout.specs.Shape.{FilesetShape}
+use Rattle.domain_standing.specs.domain_base.declared.place.Tag.{Tag}
+use Rattle.domain_standing.specs.fileset_files.Files.{Chains}
+use Rattle.domain_standing.specs.fileset_model.Filesets.{FilesetMap}
+use Rattle.domain_standing.specs.fileset_model.declared.fileset.FilesetSlot.{FilesetSlot}
+use Rattle.domain_standing.specs.fileset_table.Table.{Table, entry_of}
+use Rattle.domain_standing.specs.fileset_table.declared.slot.FilesetEntry.{FilesetEntry}
+use Rattle.domain_standing.specs.fileset_table.declared.slot.SlotItem.{SlotItem}
+use Rattle.domain_standing.specs.fileset_table.declared.slot.SlotItem.TheVariants as slot
+use Rattle.domain_standing.specs.release_list.Standing.{Files}
+use Rattle.domain_standing.proofs.OfReleaseList.Spread.{some_same}
+use Rattle.domain_standing.specs.domain_layout.Shape.{FilesetShape}
 use Rattle.domain_standing.specs.Chains.{IndexesAt}
 use Rattle.domain_standing.specs.Domain.{DomainNow}
 use Rattle.domain_standing.specs.Slots.{StandSlots}

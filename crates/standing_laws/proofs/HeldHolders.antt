@@ -3,35 +3,35 @@ use Rattle.std.proofs.Common.{◌≡◌, ◌∙◌, ◌⊎◌, ⊎_elim, inl, in
 use Rattle.std.proofs.lemmas.Bool.{eqb-true, or_right, true≢false}
 use Rattle.std.proofs.lemmas.List.Folds.{list_any-append}
 use Rattle.std.specs.Option.{option_map_or}
-use Rattle.domain_base.specs.declared.place.CellAt.{CellAt}
-use Rattle.domain_base.specs.declared.place.Home.{Home}
-use Rattle.domain_base.specs.declared.place.Tag.{Tag}
-use Rattle.domain_base.specs.declared.version.Version.{Version}
-use Rattle.page_store.specs.Pages.{same_home}
-use Rattle.bmt_mcells.specs.Cell.{Cell}
-use Rattle.bmt_mcells.specs.Chain.{PlacedCell}
-use Rattle.bmt_mcells.proofs.Changed.{homes_same, same_itself}
-use Rattle.tag_dirs.specs.declared.dir.TagPlace.{TagPlace}
-use Rattle.tag_dirs.specs.Directory.{has_home}
-use Rattle.extent_maps.specs.declared.run.PagePlace.{PagePlace}
-use Rattle.extent_maps.specs.declared.run.PagePlace.TheVariants.{Absent, At}
-use Rattle.extent_maps.specs.Runs.{place_of}
-use Rattle.free_cells.specs.Cells.{Cells, table_of}
-use Rattle.free_space.specs.VolumeSpace.{with_page}
-use Rattle.free_space.specs.Spaces.{CanTake, Spaces, change_volume}
-use Rattle.bitfile_cells.specs.Files.{places_of}
-use Rattle.bitfile_core.specs.Changes.{says_removed, with_first}
-use Rattle.bitfile_core.proofs.FirstTogether.{runs_kept}
-use Rattle.chain_release.proofs.Given.{absent_home}
-use Rattle.deferred_delete.specs.Standing.{Files, place_in, with_file}
-use Rattle.deferred_delete.proofs.Standings.{file_other, file_there, place_by, same_or_not}
-use Rattle.deferred_laws.specs.Calls.{Call, FilesetNow, Gives, Makes, SetsFirst, StandsWell, cut, described, dropped, given, indexed, made, moved, put_in, refused}
-use Rattle.deferred_laws.specs.Tags.{start_of}
-use Rattle.deferred_laws.specs.Taken.{HasHome}
-use Rattle.deferred_laws.proofs.CallTables.{at_page, low_put}
-use Rattle.deferred_laws.proofs.FirstWell.{SaysBeside, are_file, attributes_beside, files_left, parent_beside, removed_beside, set_file, truncated_beside}
-use Rattle.deferred_laws.proofs.MakeWell.{no_file}
-use Rattle.deferred_laws.proofs.TagFile.{file_is, started}
+use Rattle.domain_standing.specs.domain_base.declared.place.CellAt.{CellAt}
+use Rattle.domain_standing.specs.domain_base.declared.place.Home.{Home}
+use Rattle.domain_standing.specs.domain_base.declared.place.Tag.{Tag}
+use Rattle.domain_standing.specs.domain_base.declared.version.Version.{Version}
+use Rattle.domain_standing.specs.page_store.Pages.{same_home}
+use Rattle.domain_standing.specs.metadata_cells.Cell.{Cell}
+use Rattle.domain_standing.specs.metadata_cells.Chain.{PlacedCell}
+use Rattle.domain_standing.proofs.OfMetadataCells.Changed.{homes_same, same_itself}
+use Rattle.domain_standing.specs.tag_dirs.declared.dir.TagPlace.{TagPlace}
+use Rattle.domain_standing.specs.tag_dirs.Directory.{has_home}
+use Rattle.domain_standing.specs.extent_maps.declared.run.PagePlace.{PagePlace}
+use Rattle.domain_standing.specs.extent_maps.declared.run.PagePlace.TheVariants.{Absent, At}
+use Rattle.domain_standing.specs.extent_maps.Runs.{place_of}
+use Rattle.domain_standing.specs.free_cells.Cells.{Cells, table_of}
+use Rattle.domain_standing.specs.free_space.VolumeSpace.{with_page}
+use Rattle.domain_standing.specs.free_space.Spaces.{CanTake, Spaces, change_volume}
+use Rattle.domain_standing.specs.file_chains.Files.{places_of}
+use Rattle.domain_standing.specs.fileset_files.Changes.{says_removed, with_first}
+use Rattle.domain_standing.proofs.OfFilesetFiles.FirstTogether.{runs_kept}
+use Rattle.domain_standing.proofs.OfFileRelease.Given.{absent_home}
+use Rattle.domain_standing.specs.release_list.Standing.{Files, place_in, with_file}
+use Rattle.domain_standing.proofs.OfReleaseList.Standings.{file_other, file_there, place_by, same_or_not}
+use Rattle.domain_standing.specs.release_steps.Calls.{Call, FilesetNow, Gives, Makes, SetsFirst, StandsWell, cut, described, dropped, given, indexed, made, moved, put_in, refused}
+use Rattle.domain_standing.specs.release_steps.Tags.{start_of}
+use Rattle.domain_standing.specs.release_steps.Taken.{HasHome}
+use Rattle.domain_standing.proofs.OfReleaseSteps.CallTables.{at_page, low_put}
+use Rattle.domain_standing.proofs.OfReleaseSteps.FirstWell.{SaysBeside, are_file, attributes_beside, files_left, parent_beside, removed_beside, set_file, truncated_beside}
+use Rattle.domain_standing.proofs.OfReleaseSteps.MakeWell.{no_file}
+use Rattle.domain_standing.proofs.OfReleaseSteps.TagFile.{file_is, started}
 use Rattle.standing_laws.specs.Leads.{MayCall}
 use Rattle.standing_laws.proofs.HeldSpaces.{SpacesGrow, can_before, one_new, one_spaces, spaces_missed, spaces_page, spaces_same, spaces_then}
 

@@ -3,15 +3,15 @@ use Rattle.std.proofs.Common.{◌≡◌, ◌∙◌, ◌⊎◌, ⊎_elim, inl, in
 use Rattle.std.proofs.lemmas.Bool.{both_ways, eq-eqb, eqb-true, or_cases, or_right}
 use Rattle.std.specs.FinSet.{contains}
 use Rattle.std.specs.Option.{option_map}
-use Rattle.domain_base.specs.declared.place.Home.{Home}
-use Rattle.page_store.specs.Pages.{Pages}
-use Rattle.storage_bitmap.proofs.Used.{contains-inserted}
-use Rattle.free_cells.specs.Cells.{Cells, JoinsEmptyPage, table_of, with_page_last}
-use Rattle.free_space.specs.VolumeSpace.{IsFreePage, VolumeSpace, is_among, with_page}
-use Rattle.free_space.specs.Spaces.{CanTake, Spaces, change_volume, missed, volume_of}
-use Rattle.free_space.proofs.Places.{volume_of-change_other, volume_of-change_same}
-use Rattle.bitfile_cells.specs.MapChanges.{TakesOne}
-use Rattle.deferred_laws.proofs.Listing.{inside_last}
+use Rattle.domain_standing.specs.domain_base.declared.place.Home.{Home}
+use Rattle.domain_standing.specs.page_store.Pages.{Pages}
+use Rattle.domain_standing.proofs.OfFreeSpace.Used.{contains-inserted}
+use Rattle.domain_standing.specs.free_cells.Cells.{Cells, JoinsEmptyPage, table_of, with_page_last}
+use Rattle.domain_standing.specs.free_space.VolumeSpace.{IsFreePage, VolumeSpace, is_among, with_page}
+use Rattle.domain_standing.specs.free_space.Spaces.{CanTake, Spaces, change_volume, missed, volume_of}
+use Rattle.domain_standing.proofs.OfFreeSpace.Places.{volume_of-change_other, volume_of-change_same}
+use Rattle.domain_standing.specs.file_chains.MapChanges.{TakesOne}
+use Rattle.domain_standing.proofs.OfReleaseSteps.Listing.{inside_last}
 
 -- more pages of a volume are used, each of which is one of these, and all else is as it was
 pub record VolumeGrows (vol : ℕ) (taken : Home → Type 0) (v w : VolumeSpace) : Type 0 where

@@ -2,22 +2,22 @@
 use Rattle.std.proofs.Common.{◌≡◌, ◌∙◌, ◌⊎◌, ⊎_elim, inl, inr, ℕ, ◌≤◌, ◌<◌, ◌==◌, Bool, true, false, List, Option, Some, None, IsSomeAnd, refl, sym, ap, subst, arith, eqb-true}
 use Rattle.std.proofs.lemmas.Bool.{both_ways, eq-eqb, true≢false}
 use Rattle.std.specs.FinSet.{contains}
-use Rattle.domain_base.specs.declared.place.CellAt.{CellAt}
-use Rattle.domain_base.specs.declared.place.Home.{Home}
-use Rattle.domain_base.specs.declared.place.Tag.{Tag}
-use Rattle.log_ring.specs.Homes.{IsLogPage, IsMember, member_of}
-use Rattle.tag_dirs.specs.declared.dir.TagPlace.{TagPlace}
-use Rattle.tag_dirs.specs.Directory.{has_home}
-use Rattle.free_cells.specs.Cells.{table_of}
-use Rattle.free_space.specs.VolumeSpace.{IsFreePage, VolumeSpace, is_among, is_waiting}
-use Rattle.free_space.specs.Spaces.{IsHeld, volume_of}
-use Rattle.bitfile_cells.proofs.Allocated.{there_is}
-use Rattle.bitfile_core.specs.Files.{Chains}
-use Rattle.deferred_delete.specs.Standing.{Files}
-use Rattle.deferred_laws.specs.Calls.{FilesetNow, StandsWell}
-use Rattle.deferred_laws.proofs.CallTables.{call_places, call_tables}
-use Rattle.deferred_laws.proofs.CallsWell.{stands_call}
-use Rattle.domain_layout.specs.Reached.{Frame, first_cells}
+use Rattle.domain_standing.specs.domain_base.declared.place.CellAt.{CellAt}
+use Rattle.domain_standing.specs.domain_base.declared.place.Home.{Home}
+use Rattle.domain_standing.specs.domain_base.declared.place.Tag.{Tag}
+use Rattle.domain_standing.specs.log_ring.Homes.{IsLogPage, IsMember, member_of}
+use Rattle.domain_standing.specs.tag_dirs.declared.dir.TagPlace.{TagPlace}
+use Rattle.domain_standing.specs.tag_dirs.Directory.{has_home}
+use Rattle.domain_standing.specs.free_cells.Cells.{table_of}
+use Rattle.domain_standing.specs.free_space.VolumeSpace.{IsFreePage, VolumeSpace, is_among, is_waiting}
+use Rattle.domain_standing.specs.free_space.Spaces.{IsHeld, volume_of}
+use Rattle.domain_standing.proofs.OfFileChains.Allocated.{there_is}
+use Rattle.domain_standing.specs.fileset_files.Files.{Chains}
+use Rattle.domain_standing.specs.release_list.Standing.{Files}
+use Rattle.domain_standing.specs.release_steps.Calls.{FilesetNow, StandsWell}
+use Rattle.domain_standing.proofs.OfReleaseSteps.CallTables.{call_places, call_tables}
+use Rattle.domain_standing.proofs.OfReleaseSteps.CallsWell.{stands_call}
+use Rattle.domain_standing.specs.domain_layout.Reached.{Frame, first_cells}
 use Rattle.domain_standing.specs.Space.{IsOpen}
 use Rattle.domain_standing.specs.Chains.{IndexesAt}
 use Rattle.domain_standing.specs.Domain.{DomainNow}

@@ -1,6 +1,6 @@
 -- Homes in lists, and at their places.
 use Rattle.std.proofs.Common.{◌≡◌, ℕ, zero, suc, List, [], ◌∷◌, Some, None, Contains, slice_get, ap, arith}
-use Rattle.domain_base.specs.declared.place.Home.{Home}
+use Rattle.domain_standing.specs.domain_base.declared.place.Home.{Home}
 
 pub get_in : (xs : List Home) (k : ℕ) (x : Home) → slice_get xs k ≡ Some x → Contains xs x
 get_in [] k x is = absurd (none_some is)

@@ -2,36 +2,36 @@
 use Rattle.std.proofs.Common.{◌≡◌, ◌∙◌, ◌⊎◌, ⊎_elim, inl, inr, ℕ, ◌==◌, Bool, false, cond, List, [], ◌∷◌, Option, Some, None, IfSome, IsSomeAnd, Contains, is_some, slice_get, refl, sym, ap, subst, arith, eqb-true}
 use Rattle.std.proofs.lemmas.Bool.{both_ways, cases_Bool, eq-eqb}
 use Rattle.std.specs.Option.{option_and_then}
-use Rattle.domain_base.specs.declared.place.CellAt.{CellAt}
-use Rattle.domain_base.specs.declared.place.Home.{Home}
-use Rattle.domain_base.specs.declared.place.Tag.{Tag}
-use Rattle.page_store.specs.Bitfiles.{same_tag}
-use Rattle.page_store.specs.Pages.{Pages}
-use Rattle.bmt_mcells.specs.Cell.{Cell}
-use Rattle.bmt_mcells.specs.Chain.{PlacedCell, places as cell_places}
-use Rattle.tag_dirs.specs.Directory.{cell_of}
-use Rattle.free_space.specs.Spaces.{Spaces}
-use Rattle.bitfile_cells.specs.Files.{IsFile}
-use Rattle.bitfile_cells.proofs.ChainChanges.{at_apart, in_first}
-use Rattle.bitfile_core.specs.Files.{IsOf, LeadsToFile, first_record}
-use Rattle.bitfile_core.specs.Shown.{index_of}
-use Rattle.bitfile_core.proofs.OneFile.{tags_same}
-use Rattle.bitfile_core.proofs.Tags.{cell_same, directory_same, pages_same}
-use Rattle.stored_index.specs.Homes.{AreIndexHomes}
-use Rattle.stored_index.proofs.Homes.{kept_same}
-use Rattle.fileset_table.specs.declared.slot.SlotItem.{SlotItem}
-use Rattle.deferred_delete.specs.Listed.{left_of}
-use Rattle.deferred_delete.specs.Standing.{Files, IsFileOrQuotas, IsQuotas, IsStanding}
-use Rattle.deferred_delete.specs.Steps.{IsWell}
-use Rattle.deferred_delete.proofs.Spread.{none_not, some_same}
-use Rattle.deferred_delete.proofs.Standings.{at_itself, is_file, quota_first, same_or_not, standing}
-use Rattle.deferred_laws.specs.Tags.{AreAmong, start_of}
-use Rattle.deferred_laws.proofs.FirstWell.{StaysLive}
-use Rattle.deferred_laws.proofs.Tags.{IsNamed, file_start, has_attributes, named}
-use Rattle.domain_layout.specs.CellRules.{IsFirstPlace}
-use Rattle.domain_layout.specs.Filled.{Contents}
-use Rattle.domain_layout.specs.Layout.{AreTagPlaces, first_tag_of}
-use Rattle.domain_layout.specs.Owners.{IsOnTable}
+use Rattle.domain_standing.specs.domain_base.declared.place.CellAt.{CellAt}
+use Rattle.domain_standing.specs.domain_base.declared.place.Home.{Home}
+use Rattle.domain_standing.specs.domain_base.declared.place.Tag.{Tag}
+use Rattle.domain_standing.specs.page_store.Bitfiles.{same_tag}
+use Rattle.domain_standing.specs.page_store.Pages.{Pages}
+use Rattle.domain_standing.specs.metadata_cells.Cell.{Cell}
+use Rattle.domain_standing.specs.metadata_cells.Chain.{PlacedCell, places as cell_places}
+use Rattle.domain_standing.specs.tag_dirs.Directory.{cell_of}
+use Rattle.domain_standing.specs.free_space.Spaces.{Spaces}
+use Rattle.domain_standing.specs.file_chains.Files.{IsFile}
+use Rattle.domain_standing.proofs.OfFileChains.ChainChanges.{at_apart, in_first}
+use Rattle.domain_standing.specs.fileset_files.Files.{IsOf, LeadsToFile, first_record}
+use Rattle.domain_standing.specs.fileset_files.Shown.{index_of}
+use Rattle.domain_standing.proofs.OfFilesetFiles.OneFile.{tags_same}
+use Rattle.domain_standing.proofs.OfFilesetFiles.Tags.{cell_same, directory_same, pages_same}
+use Rattle.domain_standing.specs.index_pages.Homes.{AreIndexHomes}
+use Rattle.domain_standing.proofs.OfIndexPages.Homes.{kept_same}
+use Rattle.domain_standing.specs.fileset_table.declared.slot.SlotItem.{SlotItem}
+use Rattle.domain_standing.specs.release_list.Listed.{left_of}
+use Rattle.domain_standing.specs.release_list.Standing.{Files, IsFileOrQuotas, IsQuotas, IsStanding}
+use Rattle.domain_standing.specs.release_list.Steps.{IsWell}
+use Rattle.domain_standing.proofs.OfReleaseList.Spread.{none_not, some_same}
+use Rattle.domain_standing.proofs.OfReleaseList.Standings.{at_itself, is_file, quota_first, same_or_not, standing}
+use Rattle.domain_standing.specs.release_steps.Tags.{AreAmong, start_of}
+use Rattle.domain_standing.proofs.OfReleaseSteps.FirstWell.{StaysLive}
+use Rattle.domain_standing.proofs.OfReleaseSteps.Tags.{IsNamed, file_start, has_attributes, named}
+use Rattle.domain_standing.specs.domain_layout.CellRules.{IsFirstPlace}
+use Rattle.domain_standing.specs.domain_layout.Filled.{Contents}
+use Rattle.domain_standing.specs.domain_layout.Layout.{AreTagPlaces, first_tag_of}
+use Rattle.domain_standing.specs.domain_layout.Owners.{IsOnTable}
 use Rattle.domain_standing.specs.Chains.{AreQuotasOf, HasEmptyTags, HasFilesAmong, IndexesAt, IsInChain, IsOnList, IsQuotaOf, IsQuotaToGo, IsSomebodys, IsTagged, IsToDo, StandsInSlot}
 use Rattle.domain_standing.specs.Domain.{DomainNow, all_of, layout_of, named_by}
 use Rattle.domain_standing.specs.Holders.Holder.{of_index}

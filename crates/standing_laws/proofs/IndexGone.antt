@@ -1,37 +1,37 @@
 -- A domain stands on where a file is taken away, and with it its index.
 use Rattle.std.proofs.Common.{◌≡◌, ◌∙◌, inr, ℕ, true, false, List, [], ◌∷◌, Option, Some, None, IsSomeAnd, cond, is_some, slice_get, refl, sym, ap, subst, arith}
 use Rattle.std.specs.Option.{option_and_then, option_map}
-use Rattle.domain_base.specs.declared.place.CellAt.{CellAt}
-use Rattle.domain_base.specs.declared.place.Home.{Home}
-use Rattle.domain_base.specs.declared.place.Tag.{Tag}
-use Rattle.page_store.specs.Pages.{Pages}
-use Rattle.record_table.specs.declared.record.Leftover.TheVariants.{Remove}
-use Rattle.record_table.specs.declared.record.Record.{Record}
-use Rattle.record_table.specs.declared.record.Record.TheVariants as written
-use Rattle.bmt_mcells.specs.Cell.{Cell, record_of}
-use Rattle.bmt_mcells.specs.CellPage.{cell_at, home_of}
-use Rattle.bmt_mcells.specs.Chain.{PlacedCell}
-use Rattle.tag_dirs.proofs.Slots.{off_slot}
-use Rattle.free_space.specs.Spaces.{Spaces}
-use Rattle.bitfile_cells.specs.Files.{AreFile, IsFile}
-use Rattle.bitfile_core.specs.Changes.{ChangesBeside, Removes, says_removed, with_chain, with_first, without_chain}
-use Rattle.bitfile_core.specs.Files.{Chains, is_removed}
-use Rattle.bitfile_core.specs.Index.{says_index}
-use Rattle.bitfile_core.specs.Shown.{index_in, index_of}
-use Rattle.bitfile_core.specs.Together.{AreTogether}
-use Rattle.bitfile_core.proofs.FirstCell.{find_other}
-use Rattle.bitfile_core.proofs.OneChain.{chain_same, same_tag_itself}
-use Rattle.stored_index.specs.Homes.{AreIndexHomes}
-use Rattle.domain_standing.specs.Sets.{GivesIndexBack, without_index, without_index_from}
-use Rattle.deferred_delete.specs.Listed.{IsEntry, left_of, leftover_in}
-use Rattle.deferred_delete.specs.Listing.{Adds, Listing}
-use Rattle.deferred_delete.specs.Standing.{Files, with_file}
-use Rattle.deferred_laws.specs.Calls.{StandsWell}
-use Rattle.deferred_laws.specs.Tags.{AreAmong, start_of}
-use Rattle.deferred_laws.proofs.FirstWell.{SaysBeside, removed_beside}
-use Rattle.domain_layout.specs.CellRules.{is_good_first, of_original}
-use Rattle.domain_layout.specs.Filled.{Contents}
-use Rattle.domain_layout.specs.TagRules.{IsLate}
+use Rattle.domain_standing.specs.domain_base.declared.place.CellAt.{CellAt}
+use Rattle.domain_standing.specs.domain_base.declared.place.Home.{Home}
+use Rattle.domain_standing.specs.domain_base.declared.place.Tag.{Tag}
+use Rattle.domain_standing.specs.page_store.Pages.{Pages}
+use Rattle.domain_standing.specs.cell_records.declared.record.Leftover.TheVariants.{Remove}
+use Rattle.domain_standing.specs.cell_records.declared.record.Record.{Record}
+use Rattle.domain_standing.specs.cell_records.declared.record.Record.TheVariants as written
+use Rattle.domain_standing.specs.metadata_cells.Cell.{Cell, record_of}
+use Rattle.domain_standing.specs.metadata_cells.CellPage.{cell_at, home_of}
+use Rattle.domain_standing.specs.metadata_cells.Chain.{PlacedCell}
+use Rattle.domain_standing.proofs.OfTagDirs.Slots.{off_slot}
+use Rattle.domain_standing.specs.free_space.Spaces.{Spaces}
+use Rattle.domain_standing.specs.file_chains.Files.{AreFile, IsFile}
+use Rattle.domain_standing.specs.fileset_files.Changes.{ChangesBeside, Removes, says_removed, with_chain, with_first, without_chain}
+use Rattle.domain_standing.specs.fileset_files.Files.{Chains, is_removed}
+use Rattle.domain_standing.specs.fileset_files.Index.{says_index}
+use Rattle.domain_standing.specs.fileset_files.Shown.{index_in, index_of}
+use Rattle.domain_standing.specs.fileset_files.Together.{AreTogether}
+use Rattle.domain_standing.proofs.OfFilesetFiles.FirstCell.{find_other}
+use Rattle.domain_standing.proofs.OfFilesetFiles.OneChain.{chain_same, same_tag_itself}
+use Rattle.domain_standing.specs.index_pages.Homes.{AreIndexHomes}
+use Rattle.domain_standing.specs.stored_set.Sets.{GivesIndexBack, without_index, without_index_from}
+use Rattle.domain_standing.specs.release_list.Listed.{IsEntry, left_of, leftover_in}
+use Rattle.domain_standing.specs.release_list.Listing.{Adds, Listing}
+use Rattle.domain_standing.specs.release_list.Standing.{Files, with_file}
+use Rattle.domain_standing.specs.release_steps.Calls.{StandsWell}
+use Rattle.domain_standing.specs.release_steps.Tags.{AreAmong, start_of}
+use Rattle.domain_standing.proofs.OfReleaseSteps.FirstWell.{SaysBeside, removed_beside}
+use Rattle.domain_standing.specs.domain_layout.CellRules.{is_good_first, of_original}
+use Rattle.domain_standing.specs.domain_layout.Filled.{Contents}
+use Rattle.domain_standing.specs.domain_layout.TagRules.{IsLate}
 use Rattle.domain_standing.specs.Chains.{IndexesAt, IsToDo}
 use Rattle.domain_standing.specs.Domain.{DomainNow, all_of, item_in}
 use Rattle.standing_laws.specs.IndexCalls.{KeepsTables, NamesFile, with_index_at, with_removed}

@@ -2,16 +2,16 @@
 use Rattle.std.proofs.Common.{◌≡◌, ◌∙◌, ⊎_elim, ℕ, ◌≤◌, ◌<◌, Bool, true, false, cond, List, Option, Some, None, IsSomeAnd, Contains, slice_get, refl, sym, ap, subst, arith}
 use Rattle.std.proofs.lemmas.Bool.{both_ways, cases_Bool, false_from_ne_true, true≢false}
 use Rattle.std.specs.FinSet.{contains}
-use Rattle.domain_base.specs.declared.place.CellAt.{CellAt}
-use Rattle.domain_base.specs.declared.place.Home.{Home}
-use Rattle.page_store.specs.Pages.{Pages}
-use Rattle.bmt_mcells.specs.Chain.{is_at}
-use Rattle.free_space.specs.Spaces.{Spaces, volume_of}
-use Rattle.free_space.specs.VolumeSpace.{IsFreePage, VolumeSpace, is_waiting}
-use Rattle.bitfile_cells.proofs.ChainChanges.{at_same}
-use Rattle.deferred_delete.specs.Standing.{Files}
-use Rattle.deferred_delete.proofs.Standings.{at_itself}
-use Rattle.domain_layout.specs.Filled.{Contents}
+use Rattle.domain_standing.specs.domain_base.declared.place.CellAt.{CellAt}
+use Rattle.domain_standing.specs.domain_base.declared.place.Home.{Home}
+use Rattle.domain_standing.specs.page_store.Pages.{Pages}
+use Rattle.domain_standing.specs.metadata_cells.Chain.{is_at}
+use Rattle.domain_standing.specs.free_space.Spaces.{Spaces, volume_of}
+use Rattle.domain_standing.specs.free_space.VolumeSpace.{IsFreePage, VolumeSpace, is_waiting}
+use Rattle.domain_standing.proofs.OfFileChains.ChainChanges.{at_same}
+use Rattle.domain_standing.specs.release_list.Standing.{Files}
+use Rattle.domain_standing.proofs.OfReleaseList.Standings.{at_itself}
+use Rattle.domain_standing.specs.domain_layout.Filled.{Contents}
 use Rattle.domain_standing.specs.Chains.{IndexesAt}
 use Rattle.domain_standing.specs.Domain.{DomainNow}
 use Rattle.domain_standing.specs.Holders.{AreHeldAt, AreHeldOn, Holder, Holds, HoldsOwned, IsUnheld}

@@ -1,22 +1,22 @@
 -- The chains of a domain stand once what is left to be done of one file is on the list.
 use Rattle.std.proofs.Common.{◌≡◌, ◌∙◌, ◌⊎◌, ⊎_elim, inl, inr, ℕ, false, List, Option, Some, None, IfSome, IsSomeAnd, Contains, is_some, refl, sym, ap, subst}
 use Rattle.std.specs.Option.{option_and_then}
-use Rattle.domain_base.specs.declared.place.CellAt.{CellAt}
-use Rattle.domain_base.specs.declared.place.Home.{Home}
-use Rattle.domain_base.specs.declared.place.Tag.{Tag}
-use Rattle.record_table.specs.declared.record.Leftover.TheVariants.{Trim}
-use Rattle.bmt_mcells.specs.Chain.{PlacedCell}
-use Rattle.bitfile_core.specs.Files.{is_removed}
-use Rattle.deferred_delete.proofs.Spread.{none_not}
-use Rattle.deferred_delete.proofs.Standings.{same_or_not}
-use Rattle.deferred_delete.specs.declared.list.Entry.{Entry}
-use Rattle.deferred_delete.specs.Listed.{IsEntry, left_of}
-use Rattle.deferred_delete.specs.Listing.{Adds, Listing}
-use Rattle.deferred_delete.specs.Standing.{Files}
-use Rattle.deferred_laws.specs.Tags.{AreAmong, start_of}
-use Rattle.deferred_laws.proofs.Listing.{entry_among, entry_listed, which_entry}
-use Rattle.deferred_laws.proofs.StillAmong.{file_of_tag}
-use Rattle.domain_layout.specs.Layout.{first_tag_of}
+use Rattle.domain_standing.specs.domain_base.declared.place.CellAt.{CellAt}
+use Rattle.domain_standing.specs.domain_base.declared.place.Home.{Home}
+use Rattle.domain_standing.specs.domain_base.declared.place.Tag.{Tag}
+use Rattle.domain_standing.specs.cell_records.declared.record.Leftover.TheVariants.{Trim}
+use Rattle.domain_standing.specs.metadata_cells.Chain.{PlacedCell}
+use Rattle.domain_standing.specs.fileset_files.Files.{is_removed}
+use Rattle.domain_standing.proofs.OfReleaseList.Spread.{none_not}
+use Rattle.domain_standing.proofs.OfReleaseList.Standings.{same_or_not}
+use Rattle.domain_standing.specs.release_list.declared.list.Entry.{Entry}
+use Rattle.domain_standing.specs.release_list.Listed.{IsEntry, left_of}
+use Rattle.domain_standing.specs.release_list.Listing.{Adds, Listing}
+use Rattle.domain_standing.specs.release_list.Standing.{Files}
+use Rattle.domain_standing.specs.release_steps.Tags.{AreAmong, start_of}
+use Rattle.domain_standing.proofs.OfReleaseSteps.Listing.{entry_among, entry_listed, which_entry}
+use Rattle.domain_standing.proofs.OfReleaseSteps.StillAmong.{file_of_tag}
+use Rattle.domain_standing.specs.domain_layout.Layout.{first_tag_of}
 use Rattle.domain_standing.specs.Chains.{AreQuotasOf, HasEmptyTags, HasFilesAmong, IndexesAt, IsOnList, IsQuotaToGo, IsSomebodys, IsToDo, StandChains, StandsInSlot}
 use Rattle.domain_standing.specs.Domain.{DomainNow, all_of, named_by}
 use Rattle.standing_laws.proofs.EntryListed.{kept, listed_one, trim_there}

@@ -1,28 +1,28 @@
 -- What a call on an index leaves of the filesets of other slots.
 use Rattle.std.proofs.Common.{◌≡◌, ◌∙◌, ⊎_elim, inl, inr, ℕ, Bool, cond, List, [], ◌∷◌, Option, Some, None, IfSome, IsSomeAnd, refl, sym, ap, subst, arith}
-use Rattle.domain_base.specs.declared.place.CellAt.{CellAt}
-use Rattle.domain_base.specs.declared.place.Home.{Home}
-use Rattle.domain_base.specs.declared.place.Tag.{Tag}
-use Rattle.page_store.specs.Pages.{Pages}
-use Rattle.bmt_mcells.specs.Chain.{PlacedCell}
-use Rattle.tag_dirs.specs.Directory.{cell_of}
-use Rattle.tag_dirs.specs.declared.dir.TagPlace.{TagPlace}
-use Rattle.free_space.specs.Spaces.{Spaces}
-use Rattle.bitfile_cells.specs.Files.{IsFile}
-use Rattle.bitfile_cells.proofs.ChainChanges.{at_apart}
-use Rattle.bitfile_core.specs.Files.{LeadsToFile}
-use Rattle.fileset_model.specs.declared.fileset.FilesetSlot.{FilesetSlot}
-use Rattle.fileset_table.specs.declared.slot.FilesetEntry.{FilesetEntry}
-use Rattle.fileset_table.specs.declared.slot.SlotItem.TheVariants as slot
-use Rattle.deferred_delete.specs.Listing.{Listing}
-use Rattle.deferred_delete.specs.Standing.{Files}
-use Rattle.deferred_delete.proofs.Spread.{none_not, some_same}
-use Rattle.deferred_delete.proofs.Standings.{quota_first}
-use Rattle.deferred_laws.proofs.StillAmong.{file_of_tag}
-use Rattle.deferred_laws.proofs.Tags.{has_attributes}
-use Rattle.domain_layout.specs.Filled.{Contents}
-use Rattle.domain_layout.specs.Layout.{first_tag_of}
-use Rattle.domain_layout.specs.Shape.{FilesetShape}
+use Rattle.domain_standing.specs.domain_base.declared.place.CellAt.{CellAt}
+use Rattle.domain_standing.specs.domain_base.declared.place.Home.{Home}
+use Rattle.domain_standing.specs.domain_base.declared.place.Tag.{Tag}
+use Rattle.domain_standing.specs.page_store.Pages.{Pages}
+use Rattle.domain_standing.specs.metadata_cells.Chain.{PlacedCell}
+use Rattle.domain_standing.specs.tag_dirs.Directory.{cell_of}
+use Rattle.domain_standing.specs.tag_dirs.declared.dir.TagPlace.{TagPlace}
+use Rattle.domain_standing.specs.free_space.Spaces.{Spaces}
+use Rattle.domain_standing.specs.file_chains.Files.{IsFile}
+use Rattle.domain_standing.proofs.OfFileChains.ChainChanges.{at_apart}
+use Rattle.domain_standing.specs.fileset_files.Files.{LeadsToFile}
+use Rattle.domain_standing.specs.fileset_model.declared.fileset.FilesetSlot.{FilesetSlot}
+use Rattle.domain_standing.specs.fileset_table.declared.slot.FilesetEntry.{FilesetEntry}
+use Rattle.domain_standing.specs.fileset_table.declared.slot.SlotItem.TheVariants as slot
+use Rattle.domain_standing.specs.release_list.Listing.{Listing}
+use Rattle.domain_standing.specs.release_list.Standing.{Files}
+use Rattle.domain_standing.proofs.OfReleaseList.Spread.{none_not, some_same}
+use Rattle.domain_standing.proofs.OfReleaseList.Standings.{quota_first}
+use Rattle.domain_standing.proofs.OfReleaseSteps.StillAmong.{file_of_tag}
+use Rattle.domain_standing.proofs.OfReleaseSteps.Tags.{has_attributes}
+use Rattle.domain_standing.specs.domain_layout.Filled.{Contents}
+use Rattle.domain_standing.specs.domain_layout.Layout.{first_tag_of}
+use Rattle.domain_standing.specs.domain_layout.Shape.{FilesetShape}
 use Rattle.domain_standing.specs.Chains.{AreQuotasOf, HasFilesAmong, IndexesAt, IsQuotaOf, StandsInSlot}
 use Rattle.domain_standing.specs.Domain.{DomainNow, item_in, named_by}
 use Rattle.domain_standing.specs.Holders.{Holder, Holds}

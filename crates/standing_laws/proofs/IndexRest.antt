@@ -2,34 +2,34 @@
 use Rattle.std.proofs.Common.{◌≡◌, ◌∙◌, ◌≤◌, ⊎_elim, ℕ, true, false, List, [], ◌∷◌, Option, Some, None, IfSome, IsSomeAnd, Contains, refl, sym, ap, subst}
 use Rattle.std.proofs.lemmas.Bool.{cases_Bool}
 use Rattle.std.specs.List.{AllByRecursion}
-use Rattle.domain_base.specs.declared.place.CellAt.{CellAt}
-use Rattle.domain_base.specs.declared.place.Home.{Home}
-use Rattle.domain_base.specs.declared.place.Tag.{Tag}
-use Rattle.page_store.specs.Bitfiles.{same_tag}
-use Rattle.page_store.specs.Pages.{Pages}
-use Rattle.record_table.specs.Records.{kind_of, last_kind}
-use Rattle.record_table.specs.declared.record.Record.{Record}
-use Rattle.bmt_mcells.specs.Cell.{Cell, record_of}
-use Rattle.bmt_mcells.specs.Chain.{PlacedCell, StandsAt}
-use Rattle.bmt_mcells.specs.declared.head.CellKind.TheVariants.{Primary}
-use Rattle.bmt_mcells.proofs.Unique.{one_stands}
-use Rattle.tag_dirs.specs.Directory.{cell_of}
-use Rattle.tag_dirs.specs.declared.dir.TagPlace.{TagPlace}
-use Rattle.free_cells.specs.Cells.{table_of}
-use Rattle.free_space.specs.Spaces.{Spaces}
-use Rattle.bitfile_cells.specs.Files.{IsFile}
-use Rattle.bitfile_core.specs.Files.{LeadsToFile, is_removed}
-use Rattle.bitfile_core.proofs.OneFile.{tags_same}
-use Rattle.deferred_delete.specs.Standing.{Files}
-use Rattle.deferred_delete.proofs.Spread.{none_not, some_same}
-use Rattle.deferred_delete.proofs.Standings.{same_or_not}
-use Rattle.deferred_laws.proofs.FirstWell.{are_file}
-use Rattle.deferred_laws.proofs.StillAmong.{file_of_tag}
-use Rattle.domain_layout.specs.CellRules.{is_good_first, item_of, of_original}
-use Rattle.domain_layout.specs.Filled.{Contents}
-use Rattle.domain_layout.specs.Layout.{first_tag_of}
-use Rattle.domain_layout.specs.Owners.{IsOnTable}
-use Rattle.domain_layout.specs.TagRules.{IsLate}
+use Rattle.domain_standing.specs.domain_base.declared.place.CellAt.{CellAt}
+use Rattle.domain_standing.specs.domain_base.declared.place.Home.{Home}
+use Rattle.domain_standing.specs.domain_base.declared.place.Tag.{Tag}
+use Rattle.domain_standing.specs.page_store.Bitfiles.{same_tag}
+use Rattle.domain_standing.specs.page_store.Pages.{Pages}
+use Rattle.domain_standing.specs.cell_records.Records.{kind_of, last_kind}
+use Rattle.domain_standing.specs.cell_records.declared.record.Record.{Record}
+use Rattle.domain_standing.specs.metadata_cells.Cell.{Cell, record_of}
+use Rattle.domain_standing.specs.metadata_cells.Chain.{PlacedCell, StandsAt}
+use Rattle.domain_standing.specs.metadata_cells.declared.head.CellKind.TheVariants.{Primary}
+use Rattle.domain_standing.proofs.OfMetadataCells.Unique.{one_stands}
+use Rattle.domain_standing.specs.tag_dirs.Directory.{cell_of}
+use Rattle.domain_standing.specs.tag_dirs.declared.dir.TagPlace.{TagPlace}
+use Rattle.domain_standing.specs.free_cells.Cells.{table_of}
+use Rattle.domain_standing.specs.free_space.Spaces.{Spaces}
+use Rattle.domain_standing.specs.file_chains.Files.{IsFile}
+use Rattle.domain_standing.specs.fileset_files.Files.{LeadsToFile, is_removed}
+use Rattle.domain_standing.proofs.OfFilesetFiles.OneFile.{tags_same}
+use Rattle.domain_standing.specs.release_list.Standing.{Files}
+use Rattle.domain_standing.proofs.OfReleaseList.Spread.{none_not, some_same}
+use Rattle.domain_standing.proofs.OfReleaseList.Standings.{same_or_not}
+use Rattle.domain_standing.proofs.OfReleaseSteps.FirstWell.{are_file}
+use Rattle.domain_standing.proofs.OfReleaseSteps.StillAmong.{file_of_tag}
+use Rattle.domain_standing.specs.domain_layout.CellRules.{is_good_first, item_of, of_original}
+use Rattle.domain_standing.specs.domain_layout.Filled.{Contents}
+use Rattle.domain_standing.specs.domain_layout.Layout.{first_tag_of}
+use Rattle.domain_standing.specs.domain_layout.Owners.{IsOnTable}
+use Rattle.domain_standing.specs.domain_layout.TagRules.{IsLate}
 use Rattle.domain_standing.specs.Chains.{HasFilesAmong, IndexesAt, StandsInSlot}
 use Rattle.domain_standing.specs.Domain.{DomainNow, item_in, layout_of, named_by}
 use Rattle.domain_standing.specs.Rest.{HasNoHoles, IsOfOriginal, SaysTheRest, StaysInOriginal}

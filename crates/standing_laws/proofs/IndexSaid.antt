@@ -1,23 +1,23 @@
 -- A first cell that says another index, or that its file goes and has none: what is asked of it.
 use Rattle.std.proofs.Common.{◌≡◌, ◌∙◌, ◌≤◌, ℕ, true, false, List, ◌∷◌, Option, Some, None, IfSome, is_some, refl, sym, ap, arith}
 use Rattle.std.specs.Option.{option_map, option_map_or}
-use Rattle.domain_base.specs.declared.version.Version.{Version}
-use Rattle.page_store.specs.Pages.{Pages}
-use Rattle.record_table.specs.Records.{kind_of, last_kind}
-use Rattle.record_table.specs.declared.record.Leftover.TheVariants.{Remove}
-use Rattle.record_table.specs.declared.record.Record.TheVariants as written
-use Rattle.bmt_mcells.specs.Cell.{Cell, record_of}
-use Rattle.bmt_mcells.specs.Chain.{PlacedCell}
-use Rattle.bitfile_cells.specs.Files.{AreFile}
-use Rattle.bitfile_core.specs.declared.indexing.IndexPlace.{IndexPlace}
-use Rattle.bitfile_core.specs.Changes.{says_removed}
-use Rattle.bitfile_core.specs.Files.{is_first_kind, is_removed, says_remove}
-use Rattle.bitfile_core.specs.Index.{index_record, says_index}
-use Rattle.bitfile_core.proofs.FirstCell.{find_other, find_put, map_stays}
-use Rattle.bitfile_core.proofs.FirstTogether.{index_keeps, not_of, rows}
-use Rattle.fileset_table.specs.Table.{Table}
-use Rattle.deferred_laws.proofs.FirstWell.{SaysBeside}
-use Rattle.domain_layout.specs.CellRules.{is_good_first, keeps_well, says_directory}
+use Rattle.domain_standing.specs.domain_base.declared.version.Version.{Version}
+use Rattle.domain_standing.specs.page_store.Pages.{Pages}
+use Rattle.domain_standing.specs.cell_records.Records.{kind_of, last_kind}
+use Rattle.domain_standing.specs.cell_records.declared.record.Leftover.TheVariants.{Remove}
+use Rattle.domain_standing.specs.cell_records.declared.record.Record.TheVariants as written
+use Rattle.domain_standing.specs.metadata_cells.Cell.{Cell, record_of}
+use Rattle.domain_standing.specs.metadata_cells.Chain.{PlacedCell}
+use Rattle.domain_standing.specs.file_chains.Files.{AreFile}
+use Rattle.domain_standing.specs.fileset_files.declared.indexing.IndexPlace.{IndexPlace}
+use Rattle.domain_standing.specs.fileset_files.Changes.{says_removed}
+use Rattle.domain_standing.specs.fileset_files.Files.{is_first_kind, is_removed, says_remove}
+use Rattle.domain_standing.specs.fileset_files.Index.{index_record, says_index}
+use Rattle.domain_standing.proofs.OfFilesetFiles.FirstCell.{find_other, find_put, map_stays}
+use Rattle.domain_standing.proofs.OfFilesetFiles.FirstTogether.{index_keeps, not_of, rows}
+use Rattle.domain_standing.specs.fileset_table.Table.{Table}
+use Rattle.domain_standing.proofs.OfReleaseSteps.FirstWell.{SaysBeside}
+use Rattle.domain_standing.specs.domain_layout.CellRules.{is_good_first, keeps_well, says_directory}
 use Rattle.standing_laws.proofs.RestFirst.{AreFirsts, AreKnown, SaysWell, low_kind, removed_good, removed_known, removed_well}
 use Rattle.standing_laws.proofs.RestRecords.{all_first, first_alike, kinds_put}
 

@@ -3,42 +3,42 @@ use Rattle.std.proofs.Common.{◌≡◌, ◌∙◌, ◌⊎◌, ⊎_elim, inl, in
 use Rattle.std.proofs.lemmas.Bool.{false_from_ne_true}
 use Rattle.std.specs.List.{insert}
 use Rattle.std.specs.Option.{option_and_then, option_map}
-use Rattle.domain_base.specs.declared.place.CellAt.{CellAt}
-use Rattle.domain_base.specs.declared.place.Home.{Home}
-use Rattle.domain_base.specs.declared.place.Tag.{Tag}
-use Rattle.page_store.specs.Pages.{Pages, same_home}
-use Rattle.bmt_mcells.specs.Cell.{Cell}
-use Rattle.bmt_mcells.specs.CellPage.{cell_at, home_of}
-use Rattle.bmt_mcells.specs.Chain.{PlacedCell, is_at}
-use Rattle.bmt_mcells.proofs.Changed.{homes_same}
-use Rattle.tag_dirs.specs.Directory.{cell_of, has_home}
-use Rattle.free_cells.specs.Cells.{table_of}
-use Rattle.free_space.specs.Spaces.{Spaces}
-use Rattle.bitfile_cells.specs.Files.{IsFile}
-use Rattle.bitfile_cells.proofs.ChainChanges.{at_same}
-use Rattle.bitfile_core.specs.Changes.{ChangesFirst, with_chain, with_first}
-use Rattle.bitfile_core.specs.Files.{Chains, LeadsToFile}
-use Rattle.bitfile_core.specs.Index.{index_record, says_index}
-use Rattle.bitfile_core.specs.Shown.{index_in, index_of}
-use Rattle.bitfile_core.specs.Together.{AreTogether}
-use Rattle.bitfile_core.proofs.FirstCell.{find_put}
-use Rattle.bitfile_core.proofs.OneChain.{chain_other, chain_same, same_tag_itself}
-use Rattle.stored_index.specs.Homes.{AreIndexHomes}
-use Rattle.stored_index.proofs.Dropped.{low_from}
-use Rattle.stored_index.proofs.Held.{in_inserted}
-use Rattle.set_laws.proofs.Together.{together_away}
-use Rattle.domain_standing.specs.Sets.{AddsIndexPage, SaysIndex, WritesIndexPage}
-use Rattle.fileset_model.specs.declared.fileset.FilesetSlot.{FilesetSlot}
-use Rattle.fileset_table.specs.declared.slot.FilesetEntry.{FilesetEntry}
-use Rattle.fileset_table.specs.declared.slot.SlotItem.TheVariants as slot
-use Rattle.deferred_delete.specs.Listed.{left_of, leftover_in}
-use Rattle.deferred_delete.specs.Standing.{Files, with_file}
-use Rattle.deferred_delete.proofs.Spread.{none_not, some_same}
-use Rattle.deferred_laws.specs.Calls.{StandsWell}
-use Rattle.deferred_laws.specs.Tags.{start_of}
-use Rattle.deferred_laws.proofs.FirstWell.{are_file, index_beside, index_live}
-use Rattle.domain_layout.specs.Filled.{Contents}
-use Rattle.domain_layout.specs.Shape.{FilesetShape}
+use Rattle.domain_standing.specs.domain_base.declared.place.CellAt.{CellAt}
+use Rattle.domain_standing.specs.domain_base.declared.place.Home.{Home}
+use Rattle.domain_standing.specs.domain_base.declared.place.Tag.{Tag}
+use Rattle.domain_standing.specs.page_store.Pages.{Pages, same_home}
+use Rattle.domain_standing.specs.metadata_cells.Cell.{Cell}
+use Rattle.domain_standing.specs.metadata_cells.CellPage.{cell_at, home_of}
+use Rattle.domain_standing.specs.metadata_cells.Chain.{PlacedCell, is_at}
+use Rattle.domain_standing.proofs.OfMetadataCells.Changed.{homes_same}
+use Rattle.domain_standing.specs.tag_dirs.Directory.{cell_of, has_home}
+use Rattle.domain_standing.specs.free_cells.Cells.{table_of}
+use Rattle.domain_standing.specs.free_space.Spaces.{Spaces}
+use Rattle.domain_standing.specs.file_chains.Files.{IsFile}
+use Rattle.domain_standing.proofs.OfFileChains.ChainChanges.{at_same}
+use Rattle.domain_standing.specs.fileset_files.Changes.{ChangesFirst, with_chain, with_first}
+use Rattle.domain_standing.specs.fileset_files.Files.{Chains, LeadsToFile}
+use Rattle.domain_standing.specs.fileset_files.Index.{index_record, says_index}
+use Rattle.domain_standing.specs.fileset_files.Shown.{index_in, index_of}
+use Rattle.domain_standing.specs.fileset_files.Together.{AreTogether}
+use Rattle.domain_standing.proofs.OfFilesetFiles.FirstCell.{find_put}
+use Rattle.domain_standing.proofs.OfFilesetFiles.OneChain.{chain_other, chain_same, same_tag_itself}
+use Rattle.domain_standing.specs.index_pages.Homes.{AreIndexHomes}
+use Rattle.domain_standing.proofs.OfIndexPages.Dropped.{low_from}
+use Rattle.domain_standing.proofs.OfIndexPages.Held.{in_inserted}
+use Rattle.domain_standing.proofs.OfStoredSet.Together.{together_away}
+use Rattle.domain_standing.specs.stored_set.Sets.{AddsIndexPage, SaysIndex, WritesIndexPage}
+use Rattle.domain_standing.specs.fileset_model.declared.fileset.FilesetSlot.{FilesetSlot}
+use Rattle.domain_standing.specs.fileset_table.declared.slot.FilesetEntry.{FilesetEntry}
+use Rattle.domain_standing.specs.fileset_table.declared.slot.SlotItem.TheVariants as slot
+use Rattle.domain_standing.specs.release_list.Listed.{left_of, leftover_in}
+use Rattle.domain_standing.specs.release_list.Standing.{Files, with_file}
+use Rattle.domain_standing.proofs.OfReleaseList.Spread.{none_not, some_same}
+use Rattle.domain_standing.specs.release_steps.Calls.{StandsWell}
+use Rattle.domain_standing.specs.release_steps.Tags.{start_of}
+use Rattle.domain_standing.proofs.OfReleaseSteps.FirstWell.{are_file, index_beside, index_live}
+use Rattle.domain_standing.specs.domain_layout.Filled.{Contents}
+use Rattle.domain_standing.specs.domain_layout.Shape.{FilesetShape}
 use Rattle.domain_standing.specs.Chains.{IndexesAt, IsOnList, IsToDo}
 use Rattle.domain_standing.specs.Domain.{DomainNow, item_in}
 use Rattle.domain_standing.specs.Holders.{IsUnheld}

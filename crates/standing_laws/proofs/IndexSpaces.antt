@@ -4,15 +4,15 @@ use Rattle.std.proofs.lemmas.Bool.{both_ways, eq-eqb, eqb-true, false_from_ne_tr
 use Rattle.std.proofs.lemmas.List.Folds.{list_any-append}
 use Rattle.std.specs.FinSet.{contains}
 use Rattle.std.specs.Option.{option_map}
-use Rattle.domain_base.specs.declared.place.Home.{Home}
-use Rattle.storage_bitmap.proofs.Used.{contains-inserted}
-use Rattle.free_space.specs.declared.waiting.PageUse.TheVariants.{Metadata}
-use Rattle.free_space.specs.declared.waiting.Waiting.{Waiting}
-use Rattle.free_space.specs.VolumeSpace.{IsFreePage, VolumeSpace, is_waiting, with_page, with_waiting}
-use Rattle.free_space.specs.Spaces.{CanTake, IsHeld, Spaces, change_volume, volume_of}
-use Rattle.free_space.proofs.Places.{volume_of-change_other, volume_of-change_same}
-use Rattle.stored_index.specs.Changes.{with_waiting_at}
-use Rattle.stored_index.proofs.Homes.{head_there, tail_there}
+use Rattle.domain_standing.specs.domain_base.declared.place.Home.{Home}
+use Rattle.domain_standing.proofs.OfFreeSpace.Used.{contains-inserted}
+use Rattle.domain_standing.specs.free_space.declared.waiting.PageUse.TheVariants.{Metadata}
+use Rattle.domain_standing.specs.free_space.declared.waiting.Waiting.{Waiting}
+use Rattle.domain_standing.specs.free_space.VolumeSpace.{IsFreePage, VolumeSpace, is_waiting, with_page, with_waiting}
+use Rattle.domain_standing.specs.free_space.Spaces.{CanTake, IsHeld, Spaces, change_volume, volume_of}
+use Rattle.domain_standing.proofs.OfFreeSpace.Places.{volume_of-change_other, volume_of-change_same}
+use Rattle.domain_standing.specs.index_pages.Changes.{with_waiting_at}
+use Rattle.domain_standing.proofs.OfIndexPages.Homes.{head_there, tail_there}
 
 -- some pages of a volume are used that were not, some wait that did not, and all else is as it was
 pub record VolumeMoves (vol : ℕ) (comes goes : Home → Type 0) (v w : VolumeSpace) : Type 0 where

@@ -1,31 +1,31 @@
 -- The tables of a domain once the first cell of a file and the pages of its index have changed.
 use Rattle.std.proofs.Common.{◌≡◌, ◌∙◌, ⊎_elim, ℕ, ◌+◌, ◌<◌, true, nat_eq, List, length, Option, Some, None, IsSomeAnd, slice_get, slice_index, refl, sym, ap, subst, arith}
 use Rattle.std.proofs.lemmas.Bool.{cases_Bool, cases_lt, eq-eqb, eqb-true, true≢false}
-use Rattle.domain_base.specs.declared.place.CellAt.{CellAt}
-use Rattle.domain_base.specs.declared.place.Home.{Home}
-use Rattle.log_ring.specs.Homes.{IsMember}
-use Rattle.page_store.specs.Pages.{Pages}
-use Rattle.bmt_mcells.specs.Cell.{Cell}
-use Rattle.bmt_mcells.specs.CellPage.{next_of}
-use Rattle.bmt_mcells.specs.Chain.{StandsAt}
-use Rattle.bmt_mcells.specs.declared.head.CellKind.TheVariants.{Primary, Volume}
-use Rattle.bmt_mcells.proofs.Unique.{one_stands}
-use Rattle.free_cells.specs.Belong.{IsPageOf, home_at}
-use Rattle.free_cells.specs.Cells.{is_free, table_of}
-use Rattle.free_cells.proofs.Belongs.{free_below, used_not_free}
-use Rattle.free_space.specs.Spaces.{Spaces}
-use Rattle.bitfile_cells.specs.Changes.{IsInUse}
-use Rattle.bitfile_cells.specs.MapChanges.{IsHandedOut}
-use Rattle.bitfile_cells.proofs.Added.{used_of}
-use Rattle.bitfile_core.proofs.Tags.{directory_same, pages_same}
-use Rattle.fileset_table.specs.Page.{IsTablePage}
-use Rattle.fileset_table.specs.declared.slot.SlotItem.{SlotItem}
-use Rattle.deferred_delete.specs.Standing.{Files}
-use Rattle.deferred_delete.proofs.Standings.{same_or_not}
+use Rattle.domain_standing.specs.domain_base.declared.place.CellAt.{CellAt}
+use Rattle.domain_standing.specs.domain_base.declared.place.Home.{Home}
+use Rattle.domain_standing.specs.log_ring.Homes.{IsMember}
+use Rattle.domain_standing.specs.page_store.Pages.{Pages}
+use Rattle.domain_standing.specs.metadata_cells.Cell.{Cell}
+use Rattle.domain_standing.specs.metadata_cells.CellPage.{next_of}
+use Rattle.domain_standing.specs.metadata_cells.Chain.{StandsAt}
+use Rattle.domain_standing.specs.metadata_cells.declared.head.CellKind.TheVariants.{Primary, Volume}
+use Rattle.domain_standing.proofs.OfMetadataCells.Unique.{one_stands}
+use Rattle.domain_standing.specs.free_cells.Belong.{IsPageOf, home_at}
+use Rattle.domain_standing.specs.free_cells.Cells.{is_free, table_of}
+use Rattle.domain_standing.proofs.OfFreeCells.Belongs.{free_below, used_not_free}
+use Rattle.domain_standing.specs.free_space.Spaces.{Spaces}
+use Rattle.domain_standing.specs.file_chains.Changes.{IsInUse}
+use Rattle.domain_standing.specs.file_chains.MapChanges.{IsHandedOut}
+use Rattle.domain_standing.proofs.OfFileChains.Added.{used_of}
+use Rattle.domain_standing.proofs.OfFilesetFiles.Tags.{directory_same, pages_same}
+use Rattle.domain_standing.specs.fileset_table.Page.{IsTablePage}
+use Rattle.domain_standing.specs.fileset_table.declared.slot.SlotItem.{SlotItem}
+use Rattle.domain_standing.specs.release_list.Standing.{Files}
+use Rattle.domain_standing.proofs.OfReleaseList.Standings.{same_or_not}
 use Rattle.domain_standing.specs.Space.{AreCellsOf, IsFreeAt}
-use Rattle.domain_layout.specs.Filled.{Contents}
-use Rattle.domain_layout.specs.Layout.{AreTagPlaces, IsCellTable, IsPageAt, first_tag_of}
-use Rattle.domain_layout.specs.Reached.{first_cells}
+use Rattle.domain_standing.specs.domain_layout.Filled.{Contents}
+use Rattle.domain_standing.specs.domain_layout.Layout.{AreTagPlaces, IsCellTable, IsPageAt, first_tag_of}
+use Rattle.domain_standing.specs.domain_layout.Reached.{first_cells}
 use Rattle.domain_standing.specs.Chains.{IndexesAt}
 use Rattle.domain_standing.specs.Domain.{DomainNow, layout_of}
 use Rattle.domain_standing.specs.Holders.Holder.{of_table}

@@ -3,40 +3,40 @@
 use Rattle.std.proofs.Common.{◌≡◌, ◌∙◌, ◌⊎◌, ⊎_elim, ℕ, true, false, List, ◌∷◌, length, Some, None, Contains, slice_get, refl, sym, ap, arith}
 use Rattle.std.proofs.lemmas.Bool.{cases_Bool}
 use Rattle.std.specs.Option.{option_map_or}
-use Rattle.domain_base.specs.declared.place.CellAt.{CellAt}
-use Rattle.domain_base.specs.declared.place.Home.{Home}
-use Rattle.domain_base.specs.declared.place.Tag.{Tag}
-use Rattle.log_ring.specs.Homes.{IsMember}
-use Rattle.page_store.specs.Bitfiles.{same_tag}
-use Rattle.page_store.specs.Pages.{Pages}
-use Rattle.record_table.specs.declared.record.Leftover.TheVariants.{Remove}
-use Rattle.record_table.specs.declared.record.Record.{Record}
-use Rattle.bmt_mcells.specs.Cell.{Cell, record_of}
-use Rattle.bmt_mcells.specs.CellPage.{cell_at}
-use Rattle.bmt_mcells.specs.Chain.{PlacedCell, StandsAt, is_at}
-use Rattle.tag_dirs.specs.Directory.{has_home}
-use Rattle.extent_maps.specs.declared.run.PagePlace.TheVariants.{Absent}
-use Rattle.extent_maps.specs.Runs.{place_of}
-use Rattle.free_cells.specs.Belong.{Belong, LeadsTo}
-use Rattle.free_cells.specs.Cells.{table_of}
-use Rattle.free_space.specs.Spaces.{Spaces}
-use Rattle.bitfile_cells.specs.Files.{AreFile, IsFile, places_of}
-use Rattle.bitfile_cells.proofs.ChainChanges.{at_apart}
-use Rattle.bitfile_core.specs.Changes.{with_first}
-use Rattle.bitfile_core.specs.Files.{AreFiles, Chains}
-use Rattle.bitfile_core.specs.Shown.{index_of}
-use Rattle.bitfile_core.proofs.FirstTogether.{runs_kept}
-use Rattle.stored_index.specs.Homes.{AreIndexHomes}
-use Rattle.deferred_delete.specs.Listed.{left_of}
-use Rattle.deferred_delete.specs.Standing.{Files, IsStanding, place_in, with_file}
-use Rattle.deferred_delete.proofs.Standings.{file_other, file_there, place_by, same_or_not, standing}
-use Rattle.deferred_laws.specs.Calls.{StandsWell}
-use Rattle.deferred_laws.proofs.FirstWell.{SaysBeside, StaysLive, are_file}
-use Rattle.deferred_laws.proofs.TagFile.{file_is}
-use Rattle.domain_layout.specs.CellRules.{is_good_first, of_original}
-use Rattle.domain_layout.specs.Filled.{Contents}
-use Rattle.domain_layout.specs.TagRules.{IsLate}
-use Rattle.layout_laws.proofs.Reached.{member_or_none}
+use Rattle.domain_standing.specs.domain_base.declared.place.CellAt.{CellAt}
+use Rattle.domain_standing.specs.domain_base.declared.place.Home.{Home}
+use Rattle.domain_standing.specs.domain_base.declared.place.Tag.{Tag}
+use Rattle.domain_standing.specs.log_ring.Homes.{IsMember}
+use Rattle.domain_standing.specs.page_store.Bitfiles.{same_tag}
+use Rattle.domain_standing.specs.page_store.Pages.{Pages}
+use Rattle.domain_standing.specs.cell_records.declared.record.Leftover.TheVariants.{Remove}
+use Rattle.domain_standing.specs.cell_records.declared.record.Record.{Record}
+use Rattle.domain_standing.specs.metadata_cells.Cell.{Cell, record_of}
+use Rattle.domain_standing.specs.metadata_cells.CellPage.{cell_at}
+use Rattle.domain_standing.specs.metadata_cells.Chain.{PlacedCell, StandsAt, is_at}
+use Rattle.domain_standing.specs.tag_dirs.Directory.{has_home}
+use Rattle.domain_standing.specs.extent_maps.declared.run.PagePlace.TheVariants.{Absent}
+use Rattle.domain_standing.specs.extent_maps.Runs.{place_of}
+use Rattle.domain_standing.specs.free_cells.Belong.{Belong, LeadsTo}
+use Rattle.domain_standing.specs.free_cells.Cells.{table_of}
+use Rattle.domain_standing.specs.free_space.Spaces.{Spaces}
+use Rattle.domain_standing.specs.file_chains.Files.{AreFile, IsFile, places_of}
+use Rattle.domain_standing.proofs.OfFileChains.ChainChanges.{at_apart}
+use Rattle.domain_standing.specs.fileset_files.Changes.{with_first}
+use Rattle.domain_standing.specs.fileset_files.Files.{AreFiles, Chains}
+use Rattle.domain_standing.specs.fileset_files.Shown.{index_of}
+use Rattle.domain_standing.proofs.OfFilesetFiles.FirstTogether.{runs_kept}
+use Rattle.domain_standing.specs.index_pages.Homes.{AreIndexHomes}
+use Rattle.domain_standing.specs.release_list.Listed.{left_of}
+use Rattle.domain_standing.specs.release_list.Standing.{Files, IsStanding, place_in, with_file}
+use Rattle.domain_standing.proofs.OfReleaseList.Standings.{file_other, file_there, place_by, same_or_not, standing}
+use Rattle.domain_standing.specs.release_steps.Calls.{StandsWell}
+use Rattle.domain_standing.proofs.OfReleaseSteps.FirstWell.{SaysBeside, StaysLive, are_file}
+use Rattle.domain_standing.proofs.OfReleaseSteps.TagFile.{file_is}
+use Rattle.domain_standing.specs.domain_layout.CellRules.{is_good_first, of_original}
+use Rattle.domain_standing.specs.domain_layout.Filled.{Contents}
+use Rattle.domain_standing.specs.domain_layout.TagRules.{IsLate}
+use Rattle.domain_standing.proofs.OfDomainLayout.Reached.{member_or_none}
 use Rattle.domain_standing.specs.Chains.{IndexesAt}
 use Rattle.domain_standing.specs.Domain.{DomainNow, item_in}
 use Rattle.domain_standing.specs.Holders.{Holder, Holds, IsUnheld}

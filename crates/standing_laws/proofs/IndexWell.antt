@@ -3,36 +3,36 @@ use Rattle.std.proofs.Common.{◌≡◌, ◌∙◌, ⊎_elim, inl, ◌≤◌, ze
 use Rattle.std.proofs.lemmas.Bool.{or_left, or_right}
 use Rattle.std.specs.List.{AllByRecursion}
 use Rattle.std.specs.Option.{option_and_then}
-use Rattle.domain_base.specs.declared.place.CellAt.{CellAt}
-use Rattle.domain_base.specs.declared.place.Home.{Home}
-use Rattle.page_store.specs.Pages.{Pages, same_home}
-use Rattle.record_table.specs.declared.record.Leftover.{Leftover}
-use Rattle.record_table.specs.declared.record.Leftover.TheVariants.{Remove, Trim}
-use Rattle.record_table.specs.declared.record.Record.{Record}
-use Rattle.bmt_mcells.specs.Cell.{record_of}
-use Rattle.bmt_mcells.specs.Chain.{PlacedCell, StandsAt, places as cell_places}
-use Rattle.bmt_mcells.proofs.Changed.{same_itself}
-use Rattle.tag_dirs.specs.Directory.{has_home}
-use Rattle.tag_dirs.specs.declared.dir.TagPlace.{TagPlace}
-use Rattle.free_cells.specs.Belong.{home_at}
-use Rattle.free_cells.specs.Cells.{table_of}
-use Rattle.free_space.specs.Spaces.{Spaces}
-use Rattle.bitfile_cells.specs.Allocated.{AreAllocated}
-use Rattle.bitfile_cells.specs.FileChanges.{AreOnTables}
-use Rattle.bitfile_cells.proofs.ChainChanges.{in_first, in_later}
-use Rattle.bitfile_core.specs.Files.{is_removed}
-use Rattle.bitfile_core.specs.Together.{IsHeldApart}
-use Rattle.deferred_delete.specs.Listed.{left_of, leftover_in}
-use Rattle.deferred_delete.specs.Standing.{Files, IsFileOrQuotas}
-use Rattle.deferred_delete.specs.Steps.{IsWell, now_of}
-use Rattle.deferred_delete.specs.declared.list.Entry.{Entry}
-use Rattle.deferred_delete.proofs.Spread.{none_not}
-use Rattle.deferred_delete.proofs.Standings.{chain_by, low_home, stand_chain}
-use Rattle.deferred_laws.specs.Links.{homes_of}
-use Rattle.deferred_laws.specs.Tags.{AreAmong, start_of}
-use Rattle.deferred_laws.proofs.FirstWell.{set_among, set_well}
-use Rattle.deferred_laws.proofs.OneFile.{SaysByFirst}
-use Rattle.domain_layout.specs.Filled.{Contents}
+use Rattle.domain_standing.specs.domain_base.declared.place.CellAt.{CellAt}
+use Rattle.domain_standing.specs.domain_base.declared.place.Home.{Home}
+use Rattle.domain_standing.specs.page_store.Pages.{Pages, same_home}
+use Rattle.domain_standing.specs.cell_records.declared.record.Leftover.{Leftover}
+use Rattle.domain_standing.specs.cell_records.declared.record.Leftover.TheVariants.{Remove, Trim}
+use Rattle.domain_standing.specs.cell_records.declared.record.Record.{Record}
+use Rattle.domain_standing.specs.metadata_cells.Cell.{record_of}
+use Rattle.domain_standing.specs.metadata_cells.Chain.{PlacedCell, StandsAt, places as cell_places}
+use Rattle.domain_standing.proofs.OfMetadataCells.Changed.{same_itself}
+use Rattle.domain_standing.specs.tag_dirs.Directory.{has_home}
+use Rattle.domain_standing.specs.tag_dirs.declared.dir.TagPlace.{TagPlace}
+use Rattle.domain_standing.specs.free_cells.Belong.{home_at}
+use Rattle.domain_standing.specs.free_cells.Cells.{table_of}
+use Rattle.domain_standing.specs.free_space.Spaces.{Spaces}
+use Rattle.domain_standing.specs.file_chains.Allocated.{AreAllocated}
+use Rattle.domain_standing.specs.file_chains.FileChanges.{AreOnTables}
+use Rattle.domain_standing.proofs.OfFileChains.ChainChanges.{in_first, in_later}
+use Rattle.domain_standing.specs.fileset_files.Files.{is_removed}
+use Rattle.domain_standing.specs.fileset_files.Together.{IsHeldApart}
+use Rattle.domain_standing.specs.release_list.Listed.{left_of, leftover_in}
+use Rattle.domain_standing.specs.release_list.Standing.{Files, IsFileOrQuotas}
+use Rattle.domain_standing.specs.release_list.Steps.{IsWell, now_of}
+use Rattle.domain_standing.specs.release_list.declared.list.Entry.{Entry}
+use Rattle.domain_standing.proofs.OfReleaseList.Spread.{none_not}
+use Rattle.domain_standing.proofs.OfReleaseList.Standings.{chain_by, low_home, stand_chain}
+use Rattle.domain_standing.specs.release_steps.Links.{homes_of}
+use Rattle.domain_standing.specs.release_steps.Tags.{AreAmong, start_of}
+use Rattle.domain_standing.proofs.OfReleaseSteps.FirstWell.{set_among, set_well}
+use Rattle.domain_standing.proofs.OfReleaseSteps.OneFile.{SaysByFirst}
+use Rattle.domain_standing.specs.domain_layout.Filled.{Contents}
 use Rattle.domain_standing.specs.Chains.{IndexesAt}
 use Rattle.domain_standing.specs.Domain.{DomainNow}
 use Rattle.domain_standing.specs.Holders.Holder.{of_cells, of_file, of_tags}

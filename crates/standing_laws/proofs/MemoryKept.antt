@@ -3,34 +3,34 @@ use Rattle.std.proofs.Common.{◌≡◌, ◌∙◌, ◌↔◌, ◌⊎◌, inl, i
 use Rattle.std.specs.FinSet.{contains}
 use Rattle.std.specs.List.{AllByRecursion}
 use Rattle.std.specs.Option.{option_map}
-use Rattle.domain_base.specs.declared.place.CellAt.{CellAt}
-use Rattle.domain_base.specs.declared.place.Home.{Home}
-use Rattle.domain_base.specs.declared.place.Tag.{Tag}
-use Rattle.page_store.specs.Bitfiles.{Bitfiles}
-use Rattle.page_store.specs.Pages.{Pages}
-use Rattle.log_ring.specs.Homes.{IsMember}
-use Rattle.bmt_mcells.specs.Cell.{Cell}
-use Rattle.bmt_mcells.specs.CellPage.{next_of}
-use Rattle.bmt_mcells.specs.Chain.{PlacedCell}
-use Rattle.tag_dirs.specs.declared.dir.TagPlace.{TagPlace}
-use Rattle.free_space.specs.Spaces.{CanTake, IsHeld, Spaces, volume_of}
-use Rattle.free_space.specs.VolumeSpace.{IsFreePage, VolumeSpace, is_among, keeping}
-use Rattle.free_cells.specs.Belong.{Belong, IsPageOf, LeadsTo}
-use Rattle.free_cells.specs.Cells.{Cells, is_closed, is_free, table_of}
-use Rattle.bitfile_cells.specs.Allocated.{AreAllocated}
-use Rattle.bitfile_cells.specs.FileChanges.{AreOnTables}
-use Rattle.bitfile_core.specs.Files.{Chains}
-use Rattle.bitfile_core.specs.Together.{AreTogether, IsFilePage, IsHeldApart}
-use Rattle.set_laws.specs.Standing.{Indexes, StandsShown}
-use Rattle.domain_standing.specs.Sets.{StandsAsSet}
-use Rattle.deferred_delete.specs.Standing.{Files, IsStanding, StandTogether}
-use Rattle.deferred_delete.specs.Steps.{IsWell}
-use Rattle.deferred_laws.specs.Tags.{AreAmong}
-use Rattle.fileset_model.specs.Filesets.{FilesetMap}
+use Rattle.domain_standing.specs.domain_base.declared.place.CellAt.{CellAt}
+use Rattle.domain_standing.specs.domain_base.declared.place.Home.{Home}
+use Rattle.domain_standing.specs.domain_base.declared.place.Tag.{Tag}
+use Rattle.domain_standing.specs.page_store.Bitfiles.{Bitfiles}
+use Rattle.domain_standing.specs.page_store.Pages.{Pages}
+use Rattle.domain_standing.specs.log_ring.Homes.{IsMember}
+use Rattle.domain_standing.specs.metadata_cells.Cell.{Cell}
+use Rattle.domain_standing.specs.metadata_cells.CellPage.{next_of}
+use Rattle.domain_standing.specs.metadata_cells.Chain.{PlacedCell}
+use Rattle.domain_standing.specs.tag_dirs.declared.dir.TagPlace.{TagPlace}
+use Rattle.domain_standing.specs.free_space.Spaces.{CanTake, IsHeld, Spaces, volume_of}
+use Rattle.domain_standing.specs.free_space.VolumeSpace.{IsFreePage, VolumeSpace, is_among, keeping}
+use Rattle.domain_standing.specs.free_cells.Belong.{Belong, IsPageOf, LeadsTo}
+use Rattle.domain_standing.specs.free_cells.Cells.{Cells, is_closed, is_free, table_of}
+use Rattle.domain_standing.specs.file_chains.Allocated.{AreAllocated}
+use Rattle.domain_standing.specs.file_chains.FileChanges.{AreOnTables}
+use Rattle.domain_standing.specs.fileset_files.Files.{Chains}
+use Rattle.domain_standing.specs.fileset_files.Together.{AreTogether, IsFilePage, IsHeldApart}
+use Rattle.domain_standing.specs.stored_set.Standing.{Indexes, StandsShown}
+use Rattle.domain_standing.specs.stored_set.Sets.{StandsAsSet}
+use Rattle.domain_standing.specs.release_list.Standing.{Files, IsStanding, StandTogether}
+use Rattle.domain_standing.specs.release_list.Steps.{IsWell}
+use Rattle.domain_standing.specs.release_steps.Tags.{AreAmong}
+use Rattle.domain_standing.specs.fileset_model.Filesets.{FilesetMap}
 use Rattle.domain_standing.specs.Space.{AreCellsOf, IsFreeAt}
-use Rattle.domain_layout.specs.Layout.{IsCellTable, first_tag_of}
-use Rattle.domain_layout.specs.Owners.{IsOnTable}
-use Rattle.domain_layout.specs.Reached.{first_cells}
+use Rattle.domain_standing.specs.domain_layout.Layout.{IsCellTable, first_tag_of}
+use Rattle.domain_standing.specs.domain_layout.Owners.{IsOnTable}
+use Rattle.domain_standing.specs.domain_layout.Reached.{first_cells}
 use Rattle.domain_standing.specs.Chains.{AreQuotasOf, HasEmptyTags, HasFilesAmong, IndexesAt, StandChains, StandsInSlot}
 use Rattle.domain_standing.specs.Domain.{DomainNow, all_of, layout_of, named_by}
 use Rattle.domain_standing.specs.Holders.{AreHeldAt, AreHeldOn, Holder, Holds, HoldsOwned, IsUnheld}

@@ -2,25 +2,25 @@
 -- stand on.
 use Rattle.std.proofs.Common.{◌≡◌, ◌∙◌, ℕ, List, [], ◌∷◌, Option, Some, None, Contains, is_some, refl, sym, ap, subst, arith, ⊎_elim}
 use Rattle.std.specs.Option.{option_and_then, option_map}
-use Rattle.domain_base.specs.declared.place.CellAt.{CellAt}
-use Rattle.domain_base.specs.declared.place.Tag.{Tag}
-use Rattle.domain_base.specs.declared.version.Version.{Version}
-use Rattle.record_table.specs.declared.record.Record.TheVariants as written
-use Rattle.bmt_mcells.specs.Cell.{Cell, record_of}
-use Rattle.bmt_mcells.specs.Chain.{PlacedCell}
-use Rattle.bitfile_core.specs.Changes.{says_attributes, says_parent, with_attributes, with_first}
-use Rattle.bitfile_core.specs.Files.{Chains}
-use Rattle.bitfile_core.specs.Truncation.{says_truncated}
-use Rattle.bitfile_core.proofs.FirstCell.{find_other}
-use Rattle.bitfile_core.proofs.Room.{attributes_kind}
-use Rattle.deferred_delete.specs.Listed.{left_of, leftover_in}
-use Rattle.deferred_delete.specs.Listing.{Listing}
-use Rattle.deferred_delete.specs.Standing.{Files, with_file}
-use Rattle.deferred_delete.proofs.Standings.{file_other, file_there, same_or_not}
-use Rattle.deferred_laws.specs.Calls.{Call, FilesetNow, Gives, Makes, SetsFirst, StandsWell, cut, described, dropped, given, indexed, made, moved, put_in, refused}
-use Rattle.deferred_laws.proofs.MakeWell.{no_file}
-use Rattle.deferred_laws.proofs.Said.{left_first}
-use Rattle.deferred_laws.proofs.TagFile.{file_is, started}
+use Rattle.domain_standing.specs.domain_base.declared.place.CellAt.{CellAt}
+use Rattle.domain_standing.specs.domain_base.declared.place.Tag.{Tag}
+use Rattle.domain_standing.specs.domain_base.declared.version.Version.{Version}
+use Rattle.domain_standing.specs.cell_records.declared.record.Record.TheVariants as written
+use Rattle.domain_standing.specs.metadata_cells.Cell.{Cell, record_of}
+use Rattle.domain_standing.specs.metadata_cells.Chain.{PlacedCell}
+use Rattle.domain_standing.specs.fileset_files.Changes.{says_attributes, says_parent, with_attributes, with_first}
+use Rattle.domain_standing.specs.fileset_files.Files.{Chains}
+use Rattle.domain_standing.specs.fileset_files.Truncation.{says_truncated}
+use Rattle.domain_standing.proofs.OfFilesetFiles.FirstCell.{find_other}
+use Rattle.domain_standing.proofs.OfFilesetFiles.Room.{attributes_kind}
+use Rattle.domain_standing.specs.release_list.Listed.{left_of, leftover_in}
+use Rattle.domain_standing.specs.release_list.Listing.{Listing}
+use Rattle.domain_standing.specs.release_list.Standing.{Files, with_file}
+use Rattle.domain_standing.proofs.OfReleaseList.Standings.{file_other, file_there, same_or_not}
+use Rattle.domain_standing.specs.release_steps.Calls.{Call, FilesetNow, Gives, Makes, SetsFirst, StandsWell, cut, described, dropped, given, indexed, made, moved, put_in, refused}
+use Rattle.domain_standing.proofs.OfReleaseSteps.MakeWell.{no_file}
+use Rattle.domain_standing.proofs.OfReleaseSteps.Said.{left_first}
+use Rattle.domain_standing.proofs.OfReleaseSteps.TagFile.{file_is, started}
 use Rattle.domain_standing.specs.Chains.{IndexesAt, IsOnList, IsToDo, StandChains}
 use Rattle.domain_standing.specs.Domain.{DomainNow}
 use Rattle.standing_laws.specs.Leads.{LeadsOn, MayCall, StandsBelow, fileset_now}

@@ -1,34 +1,34 @@
 -- Each directory says the one in which its row stands, where no page of a fileset changes.
 use Rattle.std.proofs.Common.{◌≡◌, ◌∙◌, ⊎_elim, inl, inr, ℕ, true, false, List, [], ◌∷◌, Option, Some, None, IfSome, IsSomeAnd, slice_get, refl, sym, ap, subst}
 use Rattle.std.specs.Option.{option_and_then, option_map_or}
-use Rattle.domain_base.specs.declared.place.CellAt.{CellAt}
-use Rattle.domain_base.specs.declared.place.Home.{Home}
-use Rattle.domain_base.specs.declared.place.Tag.{Tag}
-use Rattle.page_store.specs.Pages.{Pages}
-use Rattle.bmt_mcells.specs.Chain.{LinksFrom, PlacedCell}
-use Rattle.dir_pages.specs.declared.row.Row.{Row}
-use Rattle.tag_dirs.specs.Directory.{IsDirectoryAt, cell_of}
-use Rattle.tag_dirs.specs.declared.dir.TagPlace.{TagPlace}
-use Rattle.tag_dirs.proofs.Reading.{same_directory}
-use Rattle.extent_maps.specs.declared.run.PagePlace.TheVariants.{Absent}
-use Rattle.bitfile_cells.specs.Files.{IsFile, places_of}
-use Rattle.bitfile_cells.proofs.ChainChanges.{stand_file}
-use Rattle.bitfile_core.specs.Files.{LeadsToFile}
-use Rattle.bitfile_core.proofs.OneChain.{file_by}
-use Rattle.fileset_model.specs.Filesets.{FilesetMap}
-use Rattle.fileset_table.specs.Table.{Table}
-use Rattle.fileset_table.specs.declared.slot.FilesetEntry.{FilesetEntry}
-use Rattle.fileset_table.specs.declared.slot.SlotItem.{SlotItem}
-use Rattle.fileset_table.specs.declared.slot.SlotItem.TheVariants as slot
-use Rattle.deferred_delete.specs.Standing.{Files}
-use Rattle.deferred_delete.proofs.Spread.{none_not}
-use Rattle.deferred_laws.proofs.StillAmong.{file_of_tag}
-use Rattle.domain_layout.proofs.OneShape.{links_same}
-use Rattle.domain_layout.specs.CellRules.{of_clone}
-use Rattle.domain_layout.specs.DirectoryRules.{Has, IsInItem, IsInOriginal, IsRow, RowPlace}
-use Rattle.domain_layout.specs.Filled.{Contents}
-use Rattle.domain_layout.specs.Layout.{first_tag_of}
-use Rattle.domain_layout.specs.Seen.{SeenFile}
+use Rattle.domain_standing.specs.domain_base.declared.place.CellAt.{CellAt}
+use Rattle.domain_standing.specs.domain_base.declared.place.Home.{Home}
+use Rattle.domain_standing.specs.domain_base.declared.place.Tag.{Tag}
+use Rattle.domain_standing.specs.page_store.Pages.{Pages}
+use Rattle.domain_standing.specs.metadata_cells.Chain.{LinksFrom, PlacedCell}
+use Rattle.domain_standing.specs.directory_pages.declared.row.Row.{Row}
+use Rattle.domain_standing.specs.tag_dirs.Directory.{IsDirectoryAt, cell_of}
+use Rattle.domain_standing.specs.tag_dirs.declared.dir.TagPlace.{TagPlace}
+use Rattle.domain_standing.proofs.OfTagDirs.Reading.{same_directory}
+use Rattle.domain_standing.specs.extent_maps.declared.run.PagePlace.TheVariants.{Absent}
+use Rattle.domain_standing.specs.file_chains.Files.{IsFile, places_of}
+use Rattle.domain_standing.proofs.OfFileChains.ChainChanges.{stand_file}
+use Rattle.domain_standing.specs.fileset_files.Files.{LeadsToFile}
+use Rattle.domain_standing.proofs.OfFilesetFiles.OneChain.{file_by}
+use Rattle.domain_standing.specs.fileset_model.Filesets.{FilesetMap}
+use Rattle.domain_standing.specs.fileset_table.Table.{Table}
+use Rattle.domain_standing.specs.fileset_table.declared.slot.FilesetEntry.{FilesetEntry}
+use Rattle.domain_standing.specs.fileset_table.declared.slot.SlotItem.{SlotItem}
+use Rattle.domain_standing.specs.fileset_table.declared.slot.SlotItem.TheVariants as slot
+use Rattle.domain_standing.specs.release_list.Standing.{Files}
+use Rattle.domain_standing.proofs.OfReleaseList.Spread.{none_not}
+use Rattle.domain_standing.proofs.OfReleaseSteps.StillAmong.{file_of_tag}
+use Rattle.domain_standing.proofs.OfDomainLayout.OneShape.{links_same}
+use Rattle.domain_standing.specs.domain_layout.CellRules.{of_clone}
+use Rattle.domain_standing.specs.domain_layout.DirectoryRules.{Has, IsInItem, IsInOriginal, IsRow, RowPlace}
+use Rattle.domain_standing.specs.domain_layout.Filled.{Contents}
+use Rattle.domain_standing.specs.domain_layout.Layout.{first_tag_of}
+use Rattle.domain_standing.specs.domain_layout.Seen.{SeenFile}
 use Rattle.domain_standing.specs.Chains.{HasFilesAmong, IndexesAt, IsRemoved, StandsInSlot}
 use Rattle.domain_standing.specs.Domain.{DomainNow, item_in}
 use Rattle.domain_standing.specs.Holders.{Holder, Holds}

@@ -2,12 +2,12 @@
 use Rattle.std.proofs.Common.{◌≡◌, ◌∙◌, ℕ, List, [], ◌∷◌, None, ⊎_elim, ap, arith}
 use Rattle.std.proofs.lemmas.Bool.{cases_Bool}
 use Rattle.std.specs.Option.{option_and_then}
-use Rattle.domain_base.specs.declared.place.CellAt.{CellAt}
-use Rattle.page_store.specs.Pages.{Pages}
-use Rattle.bmt_mcells.specs.Chain.{PlacedCell, is_at}
-use Rattle.bitfile_cells.proofs.ChainChanges.{at_same}
-use Rattle.deferred_delete.specs.Standing.{Files, IsQuotas, source_at, source_in, source_of}
-use Rattle.deferred_delete.proofs.Standings.{differ, quota_first}
+use Rattle.domain_standing.specs.domain_base.declared.place.CellAt.{CellAt}
+use Rattle.domain_standing.specs.page_store.Pages.{Pages}
+use Rattle.domain_standing.specs.metadata_cells.Chain.{PlacedCell, is_at}
+use Rattle.domain_standing.proofs.OfFileChains.ChainChanges.{at_same}
+use Rattle.domain_standing.specs.release_list.Standing.{Files, IsQuotas, source_at, source_in, source_of}
+use Rattle.domain_standing.proofs.OfReleaseList.Standings.{differ, quota_first}
 use Rattle.domain_standing.specs.Chains.{IndexesAt}
 use Rattle.domain_standing.specs.Domain.{DomainNow}
 use Rattle.domain_standing.specs.Sources.{StandAlone}

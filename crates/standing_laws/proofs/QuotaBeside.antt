@@ -1,16 +1,16 @@
 -- Bits and parents stay where an owner's limits are set.
 use Rattle.std.proofs.Common.{◌≡◌, ◌∙◌, ⊎_elim, ℕ, false, Some, refl, sym, ap, subst}
-use Rattle.domain_base.specs.declared.place.Home.{Home}
-use Rattle.free_space.specs.Spaces.{Spaces}
-use Rattle.tag_dirs.specs.Directory.{IsDirectoryAt}
-use Rattle.bitfile_core.specs.Files.{AreFiles}
-use Rattle.fileset_model.specs.Filesets.{FilesetMap}
-use Rattle.fileset_table.specs.declared.slot.FilesetEntry.{FilesetEntry}
-use Rattle.fileset_table.specs.declared.slot.SlotItem.{SlotItem}
-use Rattle.fileset_table.specs.declared.slot.SlotItem.TheVariants as slot
-use Rattle.deferred_delete.specs.Standing.{Files}
-use Rattle.deferred_delete.proofs.Spread.{some_same}
-use Rattle.domain_layout.specs.CellRules.{of_clone}
+use Rattle.domain_standing.specs.domain_base.declared.place.Home.{Home}
+use Rattle.domain_standing.specs.free_space.Spaces.{Spaces}
+use Rattle.domain_standing.specs.tag_dirs.Directory.{IsDirectoryAt}
+use Rattle.domain_standing.specs.fileset_files.Files.{AreFiles}
+use Rattle.domain_standing.specs.fileset_model.Filesets.{FilesetMap}
+use Rattle.domain_standing.specs.fileset_table.declared.slot.FilesetEntry.{FilesetEntry}
+use Rattle.domain_standing.specs.fileset_table.declared.slot.SlotItem.{SlotItem}
+use Rattle.domain_standing.specs.fileset_table.declared.slot.SlotItem.TheVariants as slot
+use Rattle.domain_standing.specs.release_list.Standing.{Files}
+use Rattle.domain_standing.proofs.OfReleaseList.Spread.{some_same}
+use Rattle.domain_standing.specs.domain_layout.CellRules.{of_clone}
 use Rattle.domain_standing.specs.Chains.{IndexesAt}
 use Rattle.domain_standing.specs.Domain.{DomainNow, item_in}
 use Rattle.domain_standing.specs.Holders.Holder.{of_cells, of_table, of_volume}

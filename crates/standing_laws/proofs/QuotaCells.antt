@@ -1,16 +1,16 @@
 -- The cells of a domain once an owner's limits are set in a slot's fileset.
 use Rattle.std.proofs.Common.{◌≡◌, ◌∙◌, ◌⊎◌, ℕ, List, Option, Some, None, Contains, inl, inr, sym, ap, subst, arith, ⊎_elim, true≢false}
-use Rattle.domain_base.specs.declared.place.CellAt.{CellAt}
-use Rattle.bmt_mcells.specs.declared.head.CellKind.TheVariants.{Quota, Volume}
-use Rattle.bmt_mcells.specs.Cell.{Cell}
-use Rattle.bmt_mcells.specs.Chain.{PlacedCell, StandsAt, places}
-use Rattle.bmt_mcells.proofs.Unique.{one_stands}
-use Rattle.free_cells.specs.Cells.{Cells, is_closed, table_of}
-use Rattle.quota_book.specs.QuotaCells.{touched}
-use Rattle.deferred_delete.specs.Standing.{Files, IsQuotaCell, IsQuotas}
-use Rattle.deferred_laws.specs.Calls.{FilesetNow}
-use Rattle.quota_chain.specs.QuotaChain.{IsQuotaChain, TakesIfUntouched, said_in}
-use Rattle.quota_chain.proofs.Chains.{all_quotas, quotas_stand}
+use Rattle.domain_standing.specs.domain_base.declared.place.CellAt.{CellAt}
+use Rattle.domain_standing.specs.metadata_cells.declared.head.CellKind.TheVariants.{Quota, Volume}
+use Rattle.domain_standing.specs.metadata_cells.Cell.{Cell}
+use Rattle.domain_standing.specs.metadata_cells.Chain.{PlacedCell, StandsAt, places}
+use Rattle.domain_standing.proofs.OfMetadataCells.Unique.{one_stands}
+use Rattle.domain_standing.specs.free_cells.Cells.{Cells, is_closed, table_of}
+use Rattle.domain_standing.specs.quota_book.QuotaCells.{touched}
+use Rattle.domain_standing.specs.release_list.Standing.{Files, IsQuotaCell, IsQuotas}
+use Rattle.domain_standing.specs.release_steps.Calls.{FilesetNow}
+use Rattle.domain_standing.specs.release_steps.QuotaChain.{IsQuotaChain, TakesIfUntouched, said_in}
+use Rattle.domain_standing.proofs.OfReleaseSteps.Chains.{all_quotas, quotas_stand}
 use Rattle.domain_standing.specs.Chains.{IndexesAt}
 use Rattle.domain_standing.specs.Domain.{DomainNow}
 use Rattle.standing_laws.specs.Leads.{StandsBelow, fileset_now}

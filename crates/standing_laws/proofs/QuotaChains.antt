@@ -2,43 +2,43 @@
 use Rattle.std.proofs.Common.{◌≡◌, ◌∙◌, ◌⊎◌, ℕ, suc, true, false, List, [], ◌∷◌, ◌++◌, Option, Some, None, IfSome, IsSomeAnd, Contains, inl, inr, is_some, slice_get, refl, sym, ap, subst, arith, ⊎_elim, true≢false}
 use Rattle.std.specs.List.{IsDistinct}
 use Rattle.std.specs.Option.{option_and_then}
-use Rattle.domain_base.specs.declared.place.CellAt.{CellAt}
-use Rattle.domain_base.specs.declared.place.Home.{Home}
-use Rattle.domain_base.specs.declared.place.Tag.{Tag}
-use Rattle.page_store.specs.Pages.{Pages}
-use Rattle.bmt_mcells.specs.Cell.{Cell}
-use Rattle.bmt_mcells.specs.Chain.{PlacedCell, places, records_of}
-use Rattle.tag_dirs.specs.declared.dir.TagPlace.{TagPlace}
-use Rattle.tag_dirs.specs.Directory.{cell_of, has_home}
-use Rattle.extent_maps.specs.declared.run.PagePlace.TheVariants.{At}
-use Rattle.free_cells.proofs.Belongs.{used_not_free}
-use Rattle.bitfile_cells.specs.Files.{IsFile}
-use Rattle.bitfile_cells.specs.MapChanges.{IsHandedOut}
-use Rattle.bitfile_cells.proofs.Added.{used_of}
-use Rattle.bitfile_core.specs.Files.{AreFiles, LeadsToFile, first_record}
-use Rattle.bitfile_core.specs.Shown.{index_in, index_of}
-use Rattle.bitfile_core.proofs.Tags.{directory_same, pages_same}
-use Rattle.chain_release.proofs.Given.{absent_home}
-use Rattle.stored_index.specs.Homes.{AreIndexHomes, IsIndexPage, next_at}
-use Rattle.tag_dirs.specs.TagPage.{next_of}
-use Rattle.fileset_table.specs.declared.slot.SlotItem.TheVariants as slot
-use Rattle.quota_book.specs.QuotaCells.{AreOnce, said_by, touched}
-use Rattle.deferred_delete.specs.Listed.{left_of, leftover_in}
-use Rattle.deferred_delete.specs.Listing.{Listing}
-use Rattle.deferred_delete.specs.Standing.{Files, IsFileOrQuotas, IsQuotas, IsStanding, place_in}
-use Rattle.deferred_delete.specs.Steps.{IsWell}
-use Rattle.deferred_delete.proofs.Spread.{none_not, some_same}
-use Rattle.deferred_delete.proofs.Standings.{is_file, place_by, quota_first, quota_place, same_or_not, standing}
-use Rattle.deferred_laws.specs.Links.{homes_of}
-use Rattle.deferred_laws.specs.Tags.{AreAmong, start_of}
-use Rattle.deferred_laws.proofs.Tags.{IsNamed, file_start, has_attributes, named}
-use Rattle.quota_chain.specs.QuotaChain.{filesets_in, said_in, with_fileset}
-use Rattle.quota_laws.specs.Setting.{IsChainIn}
-use Rattle.domain_layout.specs.CellRules.{IsFirstPlace}
-use Rattle.domain_layout.specs.Layout.{first_tag_of}
-use Rattle.domain_layout.specs.Owners.{IsOnTable}
-use Rattle.domain_layout.specs.Reached.{Frame}
-use Rattle.domain_layout.specs.TagRules.{quota_of}
+use Rattle.domain_standing.specs.domain_base.declared.place.CellAt.{CellAt}
+use Rattle.domain_standing.specs.domain_base.declared.place.Home.{Home}
+use Rattle.domain_standing.specs.domain_base.declared.place.Tag.{Tag}
+use Rattle.domain_standing.specs.page_store.Pages.{Pages}
+use Rattle.domain_standing.specs.metadata_cells.Cell.{Cell}
+use Rattle.domain_standing.specs.metadata_cells.Chain.{PlacedCell, places, records_of}
+use Rattle.domain_standing.specs.tag_dirs.declared.dir.TagPlace.{TagPlace}
+use Rattle.domain_standing.specs.tag_dirs.Directory.{cell_of, has_home}
+use Rattle.domain_standing.specs.extent_maps.declared.run.PagePlace.TheVariants.{At}
+use Rattle.domain_standing.proofs.OfFreeCells.Belongs.{used_not_free}
+use Rattle.domain_standing.specs.file_chains.Files.{IsFile}
+use Rattle.domain_standing.specs.file_chains.MapChanges.{IsHandedOut}
+use Rattle.domain_standing.proofs.OfFileChains.Added.{used_of}
+use Rattle.domain_standing.specs.fileset_files.Files.{AreFiles, LeadsToFile, first_record}
+use Rattle.domain_standing.specs.fileset_files.Shown.{index_in, index_of}
+use Rattle.domain_standing.proofs.OfFilesetFiles.Tags.{directory_same, pages_same}
+use Rattle.domain_standing.proofs.OfFileRelease.Given.{absent_home}
+use Rattle.domain_standing.specs.index_pages.Homes.{AreIndexHomes, IsIndexPage, next_at}
+use Rattle.domain_standing.specs.tag_dirs.TagPage.{next_of}
+use Rattle.domain_standing.specs.fileset_table.declared.slot.SlotItem.TheVariants as slot
+use Rattle.domain_standing.specs.quota_book.QuotaCells.{AreOnce, said_by, touched}
+use Rattle.domain_standing.specs.release_list.Listed.{left_of, leftover_in}
+use Rattle.domain_standing.specs.release_list.Listing.{Listing}
+use Rattle.domain_standing.specs.release_list.Standing.{Files, IsFileOrQuotas, IsQuotas, IsStanding, place_in}
+use Rattle.domain_standing.specs.release_list.Steps.{IsWell}
+use Rattle.domain_standing.proofs.OfReleaseList.Spread.{none_not, some_same}
+use Rattle.domain_standing.proofs.OfReleaseList.Standings.{is_file, place_by, quota_first, quota_place, same_or_not, standing}
+use Rattle.domain_standing.specs.release_steps.Links.{homes_of}
+use Rattle.domain_standing.specs.release_steps.Tags.{AreAmong, start_of}
+use Rattle.domain_standing.proofs.OfReleaseSteps.Tags.{IsNamed, file_start, has_attributes, named}
+use Rattle.domain_standing.specs.release_steps.QuotaChain.{filesets_in, said_in, with_fileset}
+use Rattle.domain_standing.specs.release_steps.Setting.{IsChainIn}
+use Rattle.domain_standing.specs.domain_layout.CellRules.{IsFirstPlace}
+use Rattle.domain_standing.specs.domain_layout.Layout.{first_tag_of}
+use Rattle.domain_standing.specs.domain_layout.Owners.{IsOnTable}
+use Rattle.domain_standing.specs.domain_layout.Reached.{Frame}
+use Rattle.domain_standing.specs.domain_layout.TagRules.{quota_of}
 use Rattle.domain_standing.specs.Chains.{AreQuotasOf, HasEmptyTags, HasFilesAmong, IndexesAt, IsInChain, IsOfFileset, IsOnList, IsQuotaOf, IsQuotaToGo, IsRemoved, IsSomebodys, IsToDo, StandChains, StandsInSlot}
 use Rattle.domain_standing.specs.Domain.{DomainNow, all_of, item_in, layout_of, named_by}
 use Rattle.domain_standing.specs.Holders.Holder.{of_index}

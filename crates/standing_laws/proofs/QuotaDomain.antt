@@ -1,10 +1,10 @@
 -- A domain stands on where an owner's limits are set.
 use Rattle.std.proofs.Common.{◌≡◌, ℕ, Some}
 use Rattle.std.specs.FinMap.{get, insert}
-use Rattle.fileset_model.specs.Filesets.{FilesetMap}
-use Rattle.fileset_model.specs.declared.fileset.FilesetSlot.{FilesetSlot}
-use Rattle.deferred_delete.specs.Standing.{Files}
-use Rattle.layout_laws.specs.Agreeing.{AgreeOn}
+use Rattle.domain_standing.specs.fileset_model.Filesets.{FilesetMap}
+use Rattle.domain_standing.specs.fileset_model.declared.fileset.FilesetSlot.{FilesetSlot}
+use Rattle.domain_standing.specs.release_list.Standing.{Files}
+use Rattle.domain_standing.specs.domain_layout.Agreeing.{AgreeOn}
 use Rattle.domain_standing.specs.Domain.{DomainNow}
 use Rattle.domain_standing.specs.Standing.{StandsDomain}
 use Rattle.standing_laws.specs.Leads.{StandsBelow}

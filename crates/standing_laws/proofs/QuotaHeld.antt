@@ -3,24 +3,24 @@ use Rattle.std.proofs.Common.{◌≡◌, ◌∙◌, ◌⊎◌, ⊎_elim, inl, in
 use Rattle.std.proofs.lemmas.Bool.{both_ways}
 use Rattle.std.specs.Option.{option_map_or}
 use Rattle.std.specs.FinSet.{contains}
-use Rattle.domain_base.specs.declared.place.CellAt.{CellAt}
-use Rattle.domain_base.specs.declared.place.Home.{Home}
-use Rattle.log_ring.specs.Homes.{IsLogPage, IsMember, member_of}
-use Rattle.bmt_mcells.specs.Chain.{PlacedCell}
-use Rattle.extent_maps.specs.declared.run.PagePlace.TheVariants.{Absent}
-use Rattle.tag_dirs.specs.declared.dir.TagPlace.{TagPlace}
-use Rattle.tag_dirs.specs.Directory.{has_home}
-use Rattle.free_cells.specs.Cells.{Cells, table_of}
-use Rattle.free_space.specs.VolumeSpace.{VolumeSpace, is_among, is_waiting}
-use Rattle.free_space.specs.Spaces.{IsHeld, volume_of}
-use Rattle.bitfile_cells.specs.Files.{places_of}
-use Rattle.bitfile_cells.proofs.Allocated.{there_is}
-use Rattle.quota_book.specs.QuotaCells.{touched}
-use Rattle.deferred_delete.specs.Standing.{Files, place_in}
-use Rattle.deferred_delete.proofs.Standings.{place_by, quota_place, same_or_not}
-use Rattle.quota_chain.specs.QuotaChain.{TakesIfUntouched, said_in}
-use Rattle.quota_laws.proofs.AllWell.{tables_grow}
-use Rattle.domain_layout.specs.Reached.{Frame, first_cells}
+use Rattle.domain_standing.specs.domain_base.declared.place.CellAt.{CellAt}
+use Rattle.domain_standing.specs.domain_base.declared.place.Home.{Home}
+use Rattle.domain_standing.specs.log_ring.Homes.{IsLogPage, IsMember, member_of}
+use Rattle.domain_standing.specs.metadata_cells.Chain.{PlacedCell}
+use Rattle.domain_standing.specs.extent_maps.declared.run.PagePlace.TheVariants.{Absent}
+use Rattle.domain_standing.specs.tag_dirs.declared.dir.TagPlace.{TagPlace}
+use Rattle.domain_standing.specs.tag_dirs.Directory.{has_home}
+use Rattle.domain_standing.specs.free_cells.Cells.{Cells, table_of}
+use Rattle.domain_standing.specs.free_space.VolumeSpace.{VolumeSpace, is_among, is_waiting}
+use Rattle.domain_standing.specs.free_space.Spaces.{IsHeld, volume_of}
+use Rattle.domain_standing.specs.file_chains.Files.{places_of}
+use Rattle.domain_standing.proofs.OfFileChains.Allocated.{there_is}
+use Rattle.domain_standing.specs.quota_book.QuotaCells.{touched}
+use Rattle.domain_standing.specs.release_list.Standing.{Files, place_in}
+use Rattle.domain_standing.proofs.OfReleaseList.Standings.{place_by, quota_place, same_or_not}
+use Rattle.domain_standing.specs.release_steps.QuotaChain.{TakesIfUntouched, said_in}
+use Rattle.domain_standing.proofs.OfReleaseSteps.AllWell.{tables_grow}
+use Rattle.domain_standing.specs.domain_layout.Reached.{Frame, first_cells}
 use Rattle.domain_standing.specs.Space.{IsOpen}
 use Rattle.domain_standing.specs.Chains.{IndexesAt}
 use Rattle.domain_standing.specs.Domain.{DomainNow, all_of}

@@ -3,32 +3,32 @@ use Rattle.std.proofs.Common.{◌≡◌, ◌∙◌, ℕ, Bool, true, false, cond
 use Rattle.std.proofs.lemmas.List.Elements.{filter_map-append}
 use Rattle.std.specs.FinMap as map
 use Rattle.std.specs.Option.{option_map_or}
-use Rattle.domain_base.specs.declared.place.CellAt.{CellAt}
-use Rattle.record_table.specs.declared.record.Record.{Record}
-use Rattle.bmt_mcells.specs.Chain.{PlacedCell, records_of}
-use Rattle.page_store.specs.Bitfiles.{Bitfiles}
-use Rattle.fileset_model.specs.Orders.{Name, owner_cmp-total}
-use Rattle.fileset_model.specs.Usage.{is_unlimited, limits_of, with_limits}
-use Rattle.fileset_model.specs.declared.command.Owner.{Owner}
-use Rattle.fileset_model.specs.declared.command.Owner.TheVariants as owner
-use Rattle.fileset_model.specs.Fileset.{Fileset}
-use Rattle.fileset_model.specs.declared.fileset.FilesetSlot.{FilesetSlot}
-use Rattle.fileset_model.specs.declared.fileset.Limits.{Limits}
-use Rattle.fileset_model.specs.declared.fileset.Role.{Role}
-use Rattle.fileset_model.specs.declared.fileset.Role.TheVariants as role
-use Rattle.fileset_laws.specs.Valid.{IsValidAs, IsValidSlot}
-use Rattle.fileset_laws.proofs.ValidTreeLemmas.{with_limits-valid}
-use Rattle.name_space.specs.Names.{Names}
-use Rattle.quota_book.specs.Owners.{same_owner}
-use Rattle.quota_book.specs.QuotaCells.{Said, all_said, limits_at, limits_said, said_by, touched, with_quota}
-use Rattle.quota_book.proofs.Cells.{no_limits, one_added, one_touched, unlimited_is}
-use Rattle.quota_chain.specs.QuotaChain.{IsQuotaChain, said_in, with_limits as with_said}
-use Rattle.deferred_delete.specs.Standing.{Files}
-use Rattle.domain_layout.proofs.OneShape.{links_same}
-use Rattle.domain_layout.specs.Filled.{Fills, IsRole}
-use Rattle.domain_layout.specs.Shape.{AreLimits, AreQuotas, FilesetShape, limits_in}
-use Rattle.layout_laws.specs.Agreeing.{AgreeOnShape}
-use Rattle.layout_laws.proofs.FilledAlike.{fills}
+use Rattle.domain_standing.specs.domain_base.declared.place.CellAt.{CellAt}
+use Rattle.domain_standing.specs.cell_records.declared.record.Record.{Record}
+use Rattle.domain_standing.specs.metadata_cells.Chain.{PlacedCell, records_of}
+use Rattle.domain_standing.specs.page_store.Bitfiles.{Bitfiles}
+use Rattle.domain_standing.specs.fileset_values.Orders.{Name, owner_cmp-total}
+use Rattle.domain_standing.specs.fileset_model.Usage.{is_unlimited, limits_of, with_limits}
+use Rattle.domain_standing.specs.fileset_values.declared.command.Owner.{Owner}
+use Rattle.domain_standing.specs.fileset_values.declared.command.Owner.TheVariants as owner
+use Rattle.domain_standing.specs.fileset_model.Fileset.{Fileset}
+use Rattle.domain_standing.specs.fileset_model.declared.fileset.FilesetSlot.{FilesetSlot}
+use Rattle.domain_standing.specs.fileset_model.declared.fileset.Limits.{Limits}
+use Rattle.domain_standing.specs.fileset_model.declared.fileset.Role.{Role}
+use Rattle.domain_standing.specs.fileset_model.declared.fileset.Role.TheVariants as role
+use Rattle.domain_standing.specs.legal_histories.Valid.{IsValidAs, IsValidSlot}
+use Rattle.domain_standing.proofs.OfLegalHistories.ValidTreeLemmas.{with_limits-valid}
+use Rattle.domain_standing.specs.name_space.Names.{Names}
+use Rattle.domain_standing.specs.quota_book.Owners.{same_owner}
+use Rattle.domain_standing.specs.quota_book.QuotaCells.{Said, all_said, limits_at, limits_said, said_by, touched, with_quota}
+use Rattle.domain_standing.proofs.OfQuotaBook.Cells.{no_limits, one_added, one_touched, unlimited_is}
+use Rattle.domain_standing.specs.release_steps.QuotaChain.{IsQuotaChain, said_in, with_limits as with_said}
+use Rattle.domain_standing.specs.release_list.Standing.{Files}
+use Rattle.domain_standing.proofs.OfDomainLayout.OneShape.{links_same}
+use Rattle.domain_standing.specs.domain_layout.Filled.{Fills, IsRole}
+use Rattle.domain_standing.specs.domain_layout.Shape.{AreLimits, AreQuotas, FilesetShape, limits_in}
+use Rattle.domain_standing.specs.domain_layout.Agreeing.{AgreeOnShape}
+use Rattle.domain_standing.proofs.OfDomainLayout.FilledAlike.{fills}
 use Rattle.domain_standing.specs.Chains.{IndexesAt}
 use Rattle.domain_standing.specs.Domain.{DomainNow}
 use Rattle.standing_laws.specs.Leads.{StandsBelow}

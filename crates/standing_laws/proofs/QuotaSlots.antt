@@ -3,28 +3,28 @@ use Rattle.std.proofs.Common.{◌≡◌, ◌∙◌, ◌⊎◌, ◌==◌, ℕ, ze
 use Rattle.std.proofs.lemmas.Bool.{both_ways, cases_Bool, eq-eqb}
 use Rattle.std.specs.Option.{option_and_then}
 use Rattle.std.specs.Prelude.{slice_set}
-use Rattle.domain_base.specs.declared.place.CellAt.{CellAt}
-use Rattle.domain_base.specs.declared.place.Home.{Home}
-use Rattle.domain_base.specs.declared.place.Tag.{Tag}
-use Rattle.log_ring.specs.Homes.{IsMember}
-use Rattle.bmt_mcells.specs.Chain.{PlacedCell}
-use Rattle.tag_dirs.specs.declared.dir.TagPlace.{TagPlace}
-use Rattle.tag_dirs.specs.Directory.{cell_of, has_home}
-use Rattle.free_cells.specs.Cells.{Cells, table_of}
-use Rattle.bitfile_core.proofs.Tags.{cell_same, pages_same}
-use Rattle.fileset_table.specs.Table.{Table}
-use Rattle.fileset_table.specs.declared.slot.SlotItem.{SlotItem}
-use Rattle.fileset_table.specs.declared.slot.SlotItem.TheVariants as slot
-use Rattle.quota_book.specs.QuotaCells.{touched}
-use Rattle.deferred_delete.specs.Standing.{Files, IsQuotas}
-use Rattle.deferred_delete.specs.Steps.{IsWell}
-use Rattle.deferred_delete.proofs.Spread.{some_same}
-use Rattle.deferred_delete.proofs.Standings.{file_other, file_there}
-use Rattle.quota_chain.specs.QuotaChain.{IsQuotaChain, TakesIfUntouched, said_in}
-use Rattle.quota_laws.specs.Setting.{IsChainIn}
-use Rattle.quota_laws.proofs.AllWell.{all_well, none_there}
-use Rattle.layout_laws.proofs.Reached.{member_or_none}
-use Rattle.domain_layout.specs.Layout.{AreTagPlaces, first_tag_of}
+use Rattle.domain_standing.specs.domain_base.declared.place.CellAt.{CellAt}
+use Rattle.domain_standing.specs.domain_base.declared.place.Home.{Home}
+use Rattle.domain_standing.specs.domain_base.declared.place.Tag.{Tag}
+use Rattle.domain_standing.specs.log_ring.Homes.{IsMember}
+use Rattle.domain_standing.specs.metadata_cells.Chain.{PlacedCell}
+use Rattle.domain_standing.specs.tag_dirs.declared.dir.TagPlace.{TagPlace}
+use Rattle.domain_standing.specs.tag_dirs.Directory.{cell_of, has_home}
+use Rattle.domain_standing.specs.free_cells.Cells.{Cells, table_of}
+use Rattle.domain_standing.proofs.OfFilesetFiles.Tags.{cell_same, pages_same}
+use Rattle.domain_standing.specs.fileset_table.Table.{Table}
+use Rattle.domain_standing.specs.fileset_table.declared.slot.SlotItem.{SlotItem}
+use Rattle.domain_standing.specs.fileset_table.declared.slot.SlotItem.TheVariants as slot
+use Rattle.domain_standing.specs.quota_book.QuotaCells.{touched}
+use Rattle.domain_standing.specs.release_list.Standing.{Files, IsQuotas}
+use Rattle.domain_standing.specs.release_list.Steps.{IsWell}
+use Rattle.domain_standing.proofs.OfReleaseList.Spread.{some_same}
+use Rattle.domain_standing.proofs.OfReleaseList.Standings.{file_other, file_there}
+use Rattle.domain_standing.specs.release_steps.QuotaChain.{IsQuotaChain, TakesIfUntouched, said_in}
+use Rattle.domain_standing.specs.release_steps.Setting.{IsChainIn}
+use Rattle.domain_standing.proofs.OfReleaseSteps.AllWell.{all_well, none_there}
+use Rattle.domain_standing.proofs.OfDomainLayout.Reached.{member_or_none}
+use Rattle.domain_standing.specs.domain_layout.Layout.{AreTagPlaces, first_tag_of}
 use Rattle.domain_standing.specs.Chains.{IndexesAt, StandsInSlot}
 use Rattle.domain_standing.specs.Domain.{DomainNow, all_of, item_in, named_by}
 use Rattle.domain_standing.specs.Holders.{Holder, Holds}

@@ -2,25 +2,25 @@
 use Rattle.std.proofs.Common.{◌≡◌, ◌∙◌, ◌↔◌, ℕ, ◌+◌, ◌<◌, Bool, true, List, [], ◌∷◌, ◌++◌, length, Option, Some, None, IsSomeAnd, Contains, slice_get, slice_index, refl, sym, ap, subst, arith, ⊎_elim, true≢false}
 use Rattle.std.proofs.lemmas.Bool.{cases_Bool, cases_lt}
 use Rattle.std.proofs.lemmas.List.Elements.{Contains-push_cases}
-use Rattle.domain_base.specs.declared.place.CellAt.{CellAt}
-use Rattle.domain_base.specs.declared.place.Home.{Home}
-use Rattle.log_ring.specs.Homes.{IsMember}
-use Rattle.bmt_mcells.specs.CellPage.{next_of}
-use Rattle.tag_dirs.specs.declared.dir.TagPlace.{TagPlace}
-use Rattle.free_cells.specs.Belong.{IsPageOf, home_at}
-use Rattle.free_cells.specs.Cells.{is_free, table_of}
-use Rattle.free_cells.proofs.Belongs.{free_below, used_not_free}
-use Rattle.bitfile_cells.proofs.Added.{used_of}
-use Rattle.bitfile_core.proofs.Tags.{directory_same, pages_same}
-use Rattle.fileset_table.specs.declared.slot.SlotItem.{SlotItem}
-use Rattle.fileset_table.specs.declared.slot.SlotItem.TheVariants as slot
-use Rattle.deferred_delete.specs.Standing.{Files}
-use Rattle.deferred_delete.proofs.Lists.{last_in}
-use Rattle.deferred_delete.proofs.Spread.{none_not, some_same}
-use Rattle.layout_laws.proofs.Reached.{member_or_none}
+use Rattle.domain_standing.specs.domain_base.declared.place.CellAt.{CellAt}
+use Rattle.domain_standing.specs.domain_base.declared.place.Home.{Home}
+use Rattle.domain_standing.specs.log_ring.Homes.{IsMember}
+use Rattle.domain_standing.specs.metadata_cells.CellPage.{next_of}
+use Rattle.domain_standing.specs.tag_dirs.declared.dir.TagPlace.{TagPlace}
+use Rattle.domain_standing.specs.free_cells.Belong.{IsPageOf, home_at}
+use Rattle.domain_standing.specs.free_cells.Cells.{is_free, table_of}
+use Rattle.domain_standing.proofs.OfFreeCells.Belongs.{free_below, used_not_free}
+use Rattle.domain_standing.proofs.OfFileChains.Added.{used_of}
+use Rattle.domain_standing.proofs.OfFilesetFiles.Tags.{directory_same, pages_same}
+use Rattle.domain_standing.specs.fileset_table.declared.slot.SlotItem.{SlotItem}
+use Rattle.domain_standing.specs.fileset_table.declared.slot.SlotItem.TheVariants as slot
+use Rattle.domain_standing.specs.release_list.Standing.{Files}
+use Rattle.domain_standing.proofs.OfReleaseList.Lists.{last_in}
+use Rattle.domain_standing.proofs.OfReleaseList.Spread.{none_not, some_same}
+use Rattle.domain_standing.proofs.OfDomainLayout.Reached.{member_or_none}
 use Rattle.domain_standing.specs.Space.{AreCellsOf, IsFreeAt, IsOpen}
-use Rattle.domain_layout.specs.Layout.{AreTagPlaces, IsCellTable, IsPageAt, first_tag_of}
-use Rattle.domain_layout.specs.Reached.{first_cells}
+use Rattle.domain_standing.specs.domain_layout.Layout.{AreTagPlaces, IsCellTable, IsPageAt, first_tag_of}
+use Rattle.domain_standing.specs.domain_layout.Reached.{first_cells}
 use Rattle.domain_standing.specs.Chains.{IndexesAt}
 use Rattle.domain_standing.specs.Domain.{DomainNow, item_in, layout_of}
 use Rattle.domain_standing.specs.Tables.{HasVolumeCell, StandTables, first_place}

@@ -3,29 +3,29 @@ use Rattle.std.proofs.Common.{◌≡◌, ◌∙◌, ◌<◌, ◌≤◌, ◌&&◌
 use Rattle.std.proofs.lemmas.Bool.{and_parts, eqb-true, ltb-true, or_cases}
 use Rattle.std.specs.List.{list_all}
 use Rattle.std.specs.Option.{option_and_then, option_map, option_map_or}
-use Rattle.domain_base.specs.declared.place.Kind.TheVariants.{Directory, File}
-use Rattle.domain_base.specs.declared.place.Tag.{Tag}
-use Rattle.domain_base.specs.declared.version.Version.{Version}
-use Rattle.domain_base.specs.declared.version.Version.TheVariants.{Four, Three}
-use Rattle.record_table.specs.Records.{kind_of, last_kind}
-use Rattle.record_table.specs.declared.record.Leftover.TheVariants.{Remove, Trim}
-use Rattle.record_table.specs.declared.record.Record.{Record}
-use Rattle.record_table.specs.declared.record.Record.TheVariants as written
-use Rattle.bmt_mcells.specs.Cell.{Cell, record_of}
-use Rattle.bmt_mcells.specs.Chain.{PlacedCell}
-use Rattle.extent_maps.specs.Runs.{Places}
-use Rattle.bitfile_cells.specs.Changes.{with_record}
-use Rattle.bitfile_cells.proofs.MapRecords.{kind_found}
-use Rattle.bitfile_core.specs.declared.attributes.Attributes.{Attributes}
-use Rattle.bitfile_core.specs.Changes.{says_attributes, says_parent, says_removed, with_attributes}
-use Rattle.bitfile_core.specs.Files.{attributes_in, attributes_of, is_first_kind, is_removed, keep_in, of_live, says_remove}
-use Rattle.bitfile_core.specs.Truncation.{HasPageWithin, resized, says_size, says_truncated}
-use Rattle.bitfile_core.proofs.FirstCell.{find_other, find_put}
-use Rattle.bitfile_core.proofs.Room.{attributes_kind}
-use Rattle.bitfile_core.proofs.Truncated.{resized_kind}
-use Rattle.fileset_table.specs.Table.{Table}
-use Rattle.domain_layout.specs.CellRules.{agree, has_first_records, has_its_kinds, has_kind, is_good_first, item_of, keeps_well, of_original, says_directory}
-use Rattle.domain_layout.specs.TagRules.{IsLate}
+use Rattle.domain_standing.specs.domain_base.declared.place.Kind.TheVariants.{Directory, File}
+use Rattle.domain_standing.specs.domain_base.declared.place.Tag.{Tag}
+use Rattle.domain_standing.specs.domain_base.declared.version.Version.{Version}
+use Rattle.domain_standing.specs.domain_base.declared.version.Version.TheVariants.{Four, Three}
+use Rattle.domain_standing.specs.cell_records.Records.{kind_of, last_kind}
+use Rattle.domain_standing.specs.cell_records.declared.record.Leftover.TheVariants.{Remove, Trim}
+use Rattle.domain_standing.specs.cell_records.declared.record.Record.{Record}
+use Rattle.domain_standing.specs.cell_records.declared.record.Record.TheVariants as written
+use Rattle.domain_standing.specs.metadata_cells.Cell.{Cell, record_of}
+use Rattle.domain_standing.specs.metadata_cells.Chain.{PlacedCell}
+use Rattle.domain_standing.specs.extent_maps.Runs.{Places}
+use Rattle.domain_standing.specs.file_chains.Changes.{with_record}
+use Rattle.domain_standing.proofs.OfFileChains.MapRecords.{kind_found}
+use Rattle.domain_standing.specs.fileset_files.declared.attributes.Attributes.{Attributes}
+use Rattle.domain_standing.specs.fileset_files.Changes.{says_attributes, says_parent, says_removed, with_attributes}
+use Rattle.domain_standing.specs.fileset_files.Files.{attributes_in, attributes_of, is_first_kind, is_removed, keep_in, of_live, says_remove}
+use Rattle.domain_standing.specs.fileset_files.Truncation.{HasPageWithin, resized, says_size, says_truncated}
+use Rattle.domain_standing.proofs.OfFilesetFiles.FirstCell.{find_other, find_put}
+use Rattle.domain_standing.proofs.OfFilesetFiles.Room.{attributes_kind}
+use Rattle.domain_standing.proofs.OfFilesetFiles.Truncated.{resized_kind}
+use Rattle.domain_standing.specs.fileset_table.Table.{Table}
+use Rattle.domain_standing.specs.domain_layout.CellRules.{agree, has_first_records, has_its_kinds, has_kind, is_good_first, item_of, keeps_well, of_original, says_directory}
+use Rattle.domain_standing.specs.domain_layout.TagRules.{IsLate}
 use Rattle.standing_laws.proofs.RestRecords.{AreKinds, all_first, directory_resized, directory_said, first_alike, good_kinds, good_records, good_removed, is_of_directory, keeps_lowered, keeps_resized, keeps_said, kinds_put, late_resized, late_said, says_keeps}
 
 -- the kinds up to 12 are records in each version

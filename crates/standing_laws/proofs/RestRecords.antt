@@ -3,24 +3,24 @@ use Rattle.std.proofs.Common.{◌≡◌, ◌∙◌, ◌⊎◌, ◌&&◌, ◌||�
 use Rattle.std.proofs.lemmas.Bool.{and_from, and_parts, cases_Bool, eq-eqb, eqb-true, lt-ltb, or_cases, true≢false}
 use Rattle.std.specs.List.{AllByRecursion, list_all, list_any}
 use Rattle.std.specs.Option.{option_map_or, option_to_list}
-use Rattle.domain_base.specs.declared.place.Kind.{Kind}
-use Rattle.domain_base.specs.declared.place.Kind.TheVariants.{Directory, File}
-use Rattle.record_table.specs.Records.{kind_of}
-use Rattle.record_table.specs.declared.record.Record.{Record}
-use Rattle.record_table.specs.declared.record.Record.TheVariants as written
-use Rattle.bmt_mcells.specs.Cell.{Cell, record_of}
-use Rattle.extent_records.specs.Writing.{most_rows}
-use Rattle.bitfile_cells.specs.Changes.{above, below, with_kind}
-use Rattle.bitfile_cells.specs.FileChanges.{map_kinds, other_records}
-use Rattle.bitfile_cells.specs.Files.{has_rows, map_records}
-use Rattle.bitfile_cells.proofs.Replaced.{all_append, all_filter, filter_false, filter_true}
-use Rattle.bitfile_core.specs.declared.attributes.Attributes.{Attributes}
-use Rattle.bitfile_core.specs.Changes.{kind_number, with_attributes}
-use Rattle.bitfile_core.specs.Files.{attributes_in, is_first_kind}
-use Rattle.bitfile_core.specs.Truncation.{resized}
-use Rattle.fileset_table.specs.Table.{Table}
-use Rattle.domain_layout.specs.CellRules.{agree, has_first_records, has_its_kinds, has_kind, is_good_first, item_of, keeps_well, of_clone, of_original, say_removed, says_directory}
-use Rattle.domain_layout.specs.TagRules.{IsLate}
+use Rattle.domain_standing.specs.domain_base.declared.place.Kind.{Kind}
+use Rattle.domain_standing.specs.domain_base.declared.place.Kind.TheVariants.{Directory, File}
+use Rattle.domain_standing.specs.cell_records.Records.{kind_of}
+use Rattle.domain_standing.specs.cell_records.declared.record.Record.{Record}
+use Rattle.domain_standing.specs.cell_records.declared.record.Record.TheVariants as written
+use Rattle.domain_standing.specs.metadata_cells.Cell.{Cell, record_of}
+use Rattle.domain_standing.specs.extent_records.Writing.{most_rows}
+use Rattle.domain_standing.specs.file_chains.Changes.{above, below, with_kind}
+use Rattle.domain_standing.specs.file_chains.FileChanges.{map_kinds, other_records}
+use Rattle.domain_standing.specs.file_chains.Files.{has_rows, map_records}
+use Rattle.domain_standing.proofs.OfFileChains.Replaced.{all_append, all_filter, filter_false, filter_true}
+use Rattle.domain_standing.specs.fileset_files.declared.attributes.Attributes.{Attributes}
+use Rattle.domain_standing.specs.fileset_files.Changes.{kind_number, with_attributes}
+use Rattle.domain_standing.specs.fileset_files.Files.{attributes_in, is_first_kind}
+use Rattle.domain_standing.specs.fileset_files.Truncation.{resized}
+use Rattle.domain_standing.specs.fileset_table.Table.{Table}
+use Rattle.domain_standing.specs.domain_layout.CellRules.{agree, has_first_records, has_its_kinds, has_kind, is_good_first, item_of, keeps_well, of_clone, of_original, say_removed, says_directory}
+use Rattle.domain_standing.specs.domain_layout.TagRules.{IsLate}
 
 -- ---- the kinds of records
 

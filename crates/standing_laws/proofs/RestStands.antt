@@ -3,64 +3,64 @@ use Rattle.std.proofs.Common.{◌≡◌, ◌∙◌, ◌⊎◌, ◌≤◌, ◌||�
 use Rattle.std.proofs.lemmas.Bool.{cases_Bool, eq-eqb, eqb-true, or_parts, true≢false}
 use Rattle.std.specs.List.{AllByRecursion, list_any}
 use Rattle.std.specs.Option.{option_and_then, option_map_or}
-use Rattle.domain_base.specs.declared.place.CellAt.{CellAt}
-use Rattle.domain_base.specs.declared.place.Home.{Home}
-use Rattle.domain_base.specs.declared.place.Kind.{Kind}
-use Rattle.domain_base.specs.declared.place.Kind.TheVariants.{Directory, File}
-use Rattle.domain_base.specs.declared.place.Tag.{Tag}
-use Rattle.domain_base.specs.declared.version.Version.{Version}
-use Rattle.domain_base.specs.declared.version.Version.TheVariants.{Four, Three}
-use Rattle.page_store.specs.Bitfiles.{same_tag}
-use Rattle.record_table.specs.Records.{kind_of, last_kind}
-use Rattle.record_table.specs.declared.record.Leftover.TheVariants.{Remove, Trim}
-use Rattle.record_table.specs.declared.record.Record.{Record}
-use Rattle.record_table.specs.declared.record.Record.TheVariants as written
-use Rattle.bmt_mcells.specs.Cell.{Cell, record_of}
-use Rattle.bmt_mcells.specs.Chain.{PlacedCell, StandsAt}
-use Rattle.bmt_mcells.specs.declared.head.CellHead.{CellHead}
-use Rattle.bmt_mcells.specs.declared.head.CellKind.TheVariants.{Chain, Primary}
-use Rattle.bmt_mcells.proofs.Unique.{one_stands}
-use Rattle.tag_dirs.specs.declared.dir.TagPlace.{TagPlace}
-use Rattle.tag_dirs.specs.Directory.{IsDirectory, cell_of}
-use Rattle.extent_records.specs.Writing.{chain_kind, most_rows, short_kind}
-use Rattle.free_cells.specs.Cells.{table_of}
-use Rattle.bitfile_cells.specs.FileChanges.{AreOnTables, SameFirst, map_kinds, other_records}
-use Rattle.bitfile_cells.specs.Files.{AreFile, IsFile, IsMapCell, has_rows, places_of}
-use Rattle.bitfile_cells.proofs.ChainChanges.{stand_file}
-use Rattle.bitfile_cells.proofs.MapRecords.{value_has_rows}
-use Rattle.bitfile_cells.proofs.Replaced.{all_filter, filter_false}
-use Rattle.bitfile_core.specs.declared.attributes.Attributes.{Attributes}
-use Rattle.bitfile_core.specs.declared.new_cells.NewFile.{NewFile}
-use Rattle.bitfile_core.specs.Changes.{CanSay, kind_number, says_attributes, says_parent, says_removed, with_attributes, with_first}
-use Rattle.bitfile_core.specs.Creation.{SaysNew, new_attributes, new_parent}
-use Rattle.bitfile_core.specs.Files.{AreFiles, Chains, IsOf, LeadsToFile, attributes_of, first_record, is_first_kind, is_removed, of_live, says_remove}
-use Rattle.bitfile_core.specs.Truncation.{IsLowered, resized, says_size, says_truncated}
-use Rattle.bitfile_core.proofs.FirstCell.{find_put}
-use Rattle.bitfile_core.proofs.OneFile.{tags_same}
-use Rattle.bitfile_core.proofs.Room.{attributes_kind}
-use Rattle.bitfile_core.proofs.Tags.{cell_same, pages_same}
-use Rattle.bitfile_core.proofs.Truncated.{resized_kind}
-use Rattle.fileset_table.specs.Table.{Table}
-use Rattle.fileset_table.specs.declared.slot.SlotItem.{SlotItem}
-use Rattle.fileset_table.specs.declared.slot.SlotItem.TheVariants as slot
-use Rattle.deferred_delete.specs.Standing.{Files, with_file}
-use Rattle.deferred_delete.proofs.Firsts.{first_same}
-use Rattle.deferred_delete.proofs.Spread.{none_not, some_same}
-use Rattle.deferred_delete.proofs.Standings.{file_other, file_there, same_or_not, stand_chain, standing}
-use Rattle.deferred_laws.specs.Calls.{Call, Drops, FilesetNow, Gives, Makes, Refuses, SetsFirst, StandsWell, cut, described, dropped, given, indexed, made, moved, put_in, refused}
-use Rattle.deferred_laws.specs.Tags.{start_of}
-use Rattle.deferred_laws.proofs.BesideCalls.{call_beside}
-use Rattle.deferred_laws.proofs.CallTables.{chain_put}
-use Rattle.deferred_laws.proofs.CallsWell.{stands_call}
-use Rattle.deferred_laws.proofs.FirstWell.{are_file, files_left, no_chain, tag_now as tag_set}
-use Rattle.deferred_laws.proofs.MakeWell.{tag_now as tag_made}
-use Rattle.deferred_laws.proofs.StillAmong.{file_of_tag}
-use Rattle.deferred_laws.proofs.TagCalls.{same_call}
-use Rattle.deferred_laws.proofs.TagFile.{file_is}
-use Rattle.domain_layout.specs.CellRules.{agree, has_first_records, has_its_kinds, has_kind, is_good_first, item_of, keeps_well, of_clone, of_original, says_directory}
-use Rattle.domain_layout.specs.Layout.{AreTagPlaces, first_tag_of}
-use Rattle.domain_layout.specs.Owners.{IsOnTable}
-use Rattle.domain_layout.specs.TagRules.{IsLate}
+use Rattle.domain_standing.specs.domain_base.declared.place.CellAt.{CellAt}
+use Rattle.domain_standing.specs.domain_base.declared.place.Home.{Home}
+use Rattle.domain_standing.specs.domain_base.declared.place.Kind.{Kind}
+use Rattle.domain_standing.specs.domain_base.declared.place.Kind.TheVariants.{Directory, File}
+use Rattle.domain_standing.specs.domain_base.declared.place.Tag.{Tag}
+use Rattle.domain_standing.specs.domain_base.declared.version.Version.{Version}
+use Rattle.domain_standing.specs.domain_base.declared.version.Version.TheVariants.{Four, Three}
+use Rattle.domain_standing.specs.page_store.Bitfiles.{same_tag}
+use Rattle.domain_standing.specs.cell_records.Records.{kind_of, last_kind}
+use Rattle.domain_standing.specs.cell_records.declared.record.Leftover.TheVariants.{Remove, Trim}
+use Rattle.domain_standing.specs.cell_records.declared.record.Record.{Record}
+use Rattle.domain_standing.specs.cell_records.declared.record.Record.TheVariants as written
+use Rattle.domain_standing.specs.metadata_cells.Cell.{Cell, record_of}
+use Rattle.domain_standing.specs.metadata_cells.Chain.{PlacedCell, StandsAt}
+use Rattle.domain_standing.specs.metadata_cells.declared.head.CellHead.{CellHead}
+use Rattle.domain_standing.specs.metadata_cells.declared.head.CellKind.TheVariants.{Chain, Primary}
+use Rattle.domain_standing.proofs.OfMetadataCells.Unique.{one_stands}
+use Rattle.domain_standing.specs.tag_dirs.declared.dir.TagPlace.{TagPlace}
+use Rattle.domain_standing.specs.tag_dirs.Directory.{IsDirectory, cell_of}
+use Rattle.domain_standing.specs.extent_records.Writing.{chain_kind, most_rows, short_kind}
+use Rattle.domain_standing.specs.free_cells.Cells.{table_of}
+use Rattle.domain_standing.specs.file_chains.FileChanges.{AreOnTables, SameFirst, map_kinds, other_records}
+use Rattle.domain_standing.specs.file_chains.Files.{AreFile, IsFile, IsMapCell, has_rows, places_of}
+use Rattle.domain_standing.proofs.OfFileChains.ChainChanges.{stand_file}
+use Rattle.domain_standing.proofs.OfFileChains.MapRecords.{value_has_rows}
+use Rattle.domain_standing.proofs.OfFileChains.Replaced.{all_filter, filter_false}
+use Rattle.domain_standing.specs.fileset_files.declared.attributes.Attributes.{Attributes}
+use Rattle.domain_standing.specs.fileset_files.declared.new_cells.NewFile.{NewFile}
+use Rattle.domain_standing.specs.fileset_files.Changes.{CanSay, kind_number, says_attributes, says_parent, says_removed, with_attributes, with_first}
+use Rattle.domain_standing.specs.fileset_files.Creation.{SaysNew, new_attributes, new_parent}
+use Rattle.domain_standing.specs.fileset_files.Files.{AreFiles, Chains, IsOf, LeadsToFile, attributes_of, first_record, is_first_kind, is_removed, of_live, says_remove}
+use Rattle.domain_standing.specs.fileset_files.Truncation.{IsLowered, resized, says_size, says_truncated}
+use Rattle.domain_standing.proofs.OfFilesetFiles.FirstCell.{find_put}
+use Rattle.domain_standing.proofs.OfFilesetFiles.OneFile.{tags_same}
+use Rattle.domain_standing.proofs.OfFilesetFiles.Room.{attributes_kind}
+use Rattle.domain_standing.proofs.OfFilesetFiles.Tags.{cell_same, pages_same}
+use Rattle.domain_standing.proofs.OfFilesetFiles.Truncated.{resized_kind}
+use Rattle.domain_standing.specs.fileset_table.Table.{Table}
+use Rattle.domain_standing.specs.fileset_table.declared.slot.SlotItem.{SlotItem}
+use Rattle.domain_standing.specs.fileset_table.declared.slot.SlotItem.TheVariants as slot
+use Rattle.domain_standing.specs.release_list.Standing.{Files, with_file}
+use Rattle.domain_standing.proofs.OfReleaseList.Firsts.{first_same}
+use Rattle.domain_standing.proofs.OfReleaseList.Spread.{none_not, some_same}
+use Rattle.domain_standing.proofs.OfReleaseList.Standings.{file_other, file_there, same_or_not, stand_chain, standing}
+use Rattle.domain_standing.specs.release_steps.Calls.{Call, Drops, FilesetNow, Gives, Makes, Refuses, SetsFirst, StandsWell, cut, described, dropped, given, indexed, made, moved, put_in, refused}
+use Rattle.domain_standing.specs.release_steps.Tags.{start_of}
+use Rattle.domain_standing.proofs.OfReleaseSteps.BesideCalls.{call_beside}
+use Rattle.domain_standing.proofs.OfReleaseSteps.CallTables.{chain_put}
+use Rattle.domain_standing.proofs.OfReleaseSteps.CallsWell.{stands_call}
+use Rattle.domain_standing.proofs.OfReleaseSteps.FirstWell.{are_file, files_left, no_chain, tag_now as tag_set}
+use Rattle.domain_standing.proofs.OfReleaseSteps.MakeWell.{tag_now as tag_made}
+use Rattle.domain_standing.proofs.OfReleaseSteps.StillAmong.{file_of_tag}
+use Rattle.domain_standing.proofs.OfReleaseSteps.TagCalls.{same_call}
+use Rattle.domain_standing.proofs.OfReleaseSteps.TagFile.{file_is}
+use Rattle.domain_standing.specs.domain_layout.CellRules.{agree, has_first_records, has_its_kinds, has_kind, is_good_first, item_of, keeps_well, of_clone, of_original, says_directory}
+use Rattle.domain_standing.specs.domain_layout.Layout.{AreTagPlaces, first_tag_of}
+use Rattle.domain_standing.specs.domain_layout.Owners.{IsOnTable}
+use Rattle.domain_standing.specs.domain_layout.TagRules.{IsLate}
 use Rattle.domain_standing.specs.Chains.{HasFilesAmong, IndexesAt, StandsInSlot}
 use Rattle.domain_standing.specs.Domain.{DomainNow, item_in, layout_of, named_by}
 use Rattle.domain_standing.specs.Rest.{HasNoHoles, IsOfOriginal, SaysTheRest, StaysInOriginal}

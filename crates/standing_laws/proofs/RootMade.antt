@@ -1,10 +1,10 @@
 -- A domain stands on once the root of a new original is made.
 use Rattle.std.proofs.Common.{◌≡◌, ◌≤◌, ℕ}
-use Rattle.bitfile_core.specs.Creation.{root_tag}
-use Rattle.bitfile_core.specs.Files.{Chains}
-use Rattle.fileset_table.specs.declared.slot.FilesetEntry.{FilesetEntry}
-use Rattle.deferred_delete.specs.Standing.{Files}
-use Rattle.deferred_laws.specs.Calls.{Makes, StandsWell, made}
+use Rattle.domain_standing.specs.fileset_files.Creation.{root_tag}
+use Rattle.domain_standing.specs.fileset_files.Files.{Chains}
+use Rattle.domain_standing.specs.fileset_table.declared.slot.FilesetEntry.{FilesetEntry}
+use Rattle.domain_standing.specs.release_list.Standing.{Files}
+use Rattle.domain_standing.specs.release_steps.Calls.{Makes, StandsWell, made}
 use Rattle.domain_standing.specs.Chains.{IndexesAt}
 use Rattle.domain_standing.specs.Domain.{DomainNow}
 use Rattle.standing_laws.specs.Leads.{LeadsOn, StandsBelow, fileset_now}

@@ -1,48 +1,48 @@
 -- The fileset of a slot stands on where nothing of the slot changes.
 use Rattle.std.proofs.Common.{◌≡◌, ◌∙◌, ⊎_elim, inl, inr, ℕ, ◌≤◌, List, [], ◌∷◌, length, Option, Some, None, IfSome, IsSomeAnd, Contains, slice_get, refl, sym, ap, subst, arith}
 use Rattle.std.specs.Option.{option_and_then, option_map_or}
-use Rattle.domain_base.specs.declared.place.CellAt.{CellAt}
-use Rattle.domain_base.specs.declared.place.Home.{Home}
-use Rattle.domain_base.specs.declared.place.Tag.{Tag}
-use Rattle.log_ring.specs.Homes.{IsMember}
-use Rattle.page_store.specs.Pages.{Pages}
-use Rattle.record_table.specs.declared.record.Record.{Record}
-use Rattle.bmt_mcells.specs.Chain.{PlacedCell, records_of}
-use Rattle.tag_dirs.specs.Directory.{IsDirectoryAt, cell_of, has_home}
-use Rattle.tag_dirs.specs.declared.dir.TagPlace.{TagPlace}
-use Rattle.tag_dirs.proofs.Reading.{same_directory}
-use Rattle.extent_maps.specs.declared.run.PagePlace.TheVariants.{Absent, At}
-use Rattle.free_cells.specs.Cells.{table_of}
-use Rattle.free_space.specs.Spaces.{IsHeld}
-use Rattle.bitfile_cells.specs.FileChanges.{AreOnTables}
-use Rattle.bitfile_cells.specs.Files.{IsFile, places_of}
-use Rattle.bitfile_core.specs.Files.{AreFiles, Chains, LeadsToFile, place_at}
-use Rattle.bitfile_core.specs.Shown.{index_of}
-use Rattle.bitfile_core.specs.Together.{AreTogether, IsHeldApart}
-use Rattle.bitfile_core.proofs.Created.{one_chains}
-use Rattle.bitfile_core.proofs.Tags.{cell_same, directory_same, pages_same}
-use Rattle.stored_index.specs.Homes.{AreIndexHomes}
-use Rattle.stored_index.proofs.Dropped.{low_from}
-use Rattle.stored_index.proofs.Homes.{kept_same, one_list}
-use Rattle.set_laws.specs.Standing.{StandsShown}
-use Rattle.set_laws.proofs.Beside.{shown_still}
-use Rattle.domain_standing.specs.Sets.{StandsAsSet}
-use Rattle.fileset_model.specs.declared.fileset.FilesetSlot.{FilesetSlot}
-use Rattle.fileset_table.specs.declared.slot.FilesetEntry.{FilesetEntry}
-use Rattle.fileset_table.specs.declared.slot.SlotItem.TheVariants as slot
-use Rattle.deferred_delete.specs.Standing.{Files, IsStanding, place_in}
-use Rattle.deferred_delete.proofs.Spread.{none_not}
-use Rattle.deferred_delete.proofs.Standings.{is_file, low_home, standing}
-use Rattle.deferred_laws.specs.Tags.{AreAmong}
-use Rattle.deferred_laws.proofs.Tags.{IsNamed, file_start, has_attributes, named}
-use Rattle.domain_layout.proofs.OneShape.{links_same}
-use Rattle.domain_layout.specs.Layout.{first_tag_of}
-use Rattle.domain_layout.specs.Seen.{seen_in}
-use Rattle.domain_layout.specs.Shape.{AreQuotas, FilesetShape, IsOriginal}
-use Rattle.domain_layout.specs.TagRules.{quota_of}
-use Rattle.layout_laws.specs.Agreeing.{AgreeOnShape}
-use Rattle.layout_laws.proofs.FilledAlike.{fills}
-use Rattle.layout_laws.proofs.Reached.{member_or_none}
+use Rattle.domain_standing.specs.domain_base.declared.place.CellAt.{CellAt}
+use Rattle.domain_standing.specs.domain_base.declared.place.Home.{Home}
+use Rattle.domain_standing.specs.domain_base.declared.place.Tag.{Tag}
+use Rattle.domain_standing.specs.log_ring.Homes.{IsMember}
+use Rattle.domain_standing.specs.page_store.Pages.{Pages}
+use Rattle.domain_standing.specs.cell_records.declared.record.Record.{Record}
+use Rattle.domain_standing.specs.metadata_cells.Chain.{PlacedCell, records_of}
+use Rattle.domain_standing.specs.tag_dirs.Directory.{IsDirectoryAt, cell_of, has_home}
+use Rattle.domain_standing.specs.tag_dirs.declared.dir.TagPlace.{TagPlace}
+use Rattle.domain_standing.proofs.OfTagDirs.Reading.{same_directory}
+use Rattle.domain_standing.specs.extent_maps.declared.run.PagePlace.TheVariants.{Absent, At}
+use Rattle.domain_standing.specs.free_cells.Cells.{table_of}
+use Rattle.domain_standing.specs.free_space.Spaces.{IsHeld}
+use Rattle.domain_standing.specs.file_chains.FileChanges.{AreOnTables}
+use Rattle.domain_standing.specs.file_chains.Files.{IsFile, places_of}
+use Rattle.domain_standing.specs.fileset_files.Files.{AreFiles, Chains, LeadsToFile, place_at}
+use Rattle.domain_standing.specs.fileset_files.Shown.{index_of}
+use Rattle.domain_standing.specs.fileset_files.Together.{AreTogether, IsHeldApart}
+use Rattle.domain_standing.proofs.OfFilesetFiles.Created.{one_chains}
+use Rattle.domain_standing.proofs.OfFilesetFiles.Tags.{cell_same, directory_same, pages_same}
+use Rattle.domain_standing.specs.index_pages.Homes.{AreIndexHomes}
+use Rattle.domain_standing.proofs.OfIndexPages.Dropped.{low_from}
+use Rattle.domain_standing.proofs.OfIndexPages.Homes.{kept_same, one_list}
+use Rattle.domain_standing.specs.stored_set.Standing.{StandsShown}
+use Rattle.domain_standing.proofs.OfStoredSet.Beside.{shown_still}
+use Rattle.domain_standing.specs.stored_set.Sets.{StandsAsSet}
+use Rattle.domain_standing.specs.fileset_model.declared.fileset.FilesetSlot.{FilesetSlot}
+use Rattle.domain_standing.specs.fileset_table.declared.slot.FilesetEntry.{FilesetEntry}
+use Rattle.domain_standing.specs.fileset_table.declared.slot.SlotItem.TheVariants as slot
+use Rattle.domain_standing.specs.release_list.Standing.{Files, IsStanding, place_in}
+use Rattle.domain_standing.proofs.OfReleaseList.Spread.{none_not}
+use Rattle.domain_standing.proofs.OfReleaseList.Standings.{is_file, low_home, standing}
+use Rattle.domain_standing.specs.release_steps.Tags.{AreAmong}
+use Rattle.domain_standing.proofs.OfReleaseSteps.Tags.{IsNamed, file_start, has_attributes, named}
+use Rattle.domain_standing.proofs.OfDomainLayout.OneShape.{links_same}
+use Rattle.domain_standing.specs.domain_layout.Layout.{first_tag_of}
+use Rattle.domain_standing.specs.domain_layout.Seen.{seen_in}
+use Rattle.domain_standing.specs.domain_layout.Shape.{AreQuotas, FilesetShape, IsOriginal}
+use Rattle.domain_standing.specs.domain_layout.TagRules.{quota_of}
+use Rattle.domain_standing.specs.domain_layout.Agreeing.{AgreeOnShape}
+use Rattle.domain_standing.proofs.OfDomainLayout.FilledAlike.{fills}
+use Rattle.domain_standing.proofs.OfDomainLayout.Reached.{member_or_none}
 use Rattle.domain_standing.specs.Chains.{AreQuotasOf, HasFilesAmong, IndexesAt, IsQuotaOf, IsRemoved, StandsInSlot}
 use Rattle.domain_standing.specs.Domain.{DomainNow, all_of, item_in, named_by}
 use Rattle.domain_standing.specs.Holders.{Holder, Holds}

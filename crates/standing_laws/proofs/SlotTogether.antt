@@ -3,24 +3,24 @@ use Rattle.std.proofs.Common.{◌≡◌, ◌∙◌, ◌≤◌, ◌<◌, ⊎_elim
 use Rattle.std.proofs.lemmas.Bool.{cases_Bool}
 use Rattle.std.specs.FinSet.{contains}
 use Rattle.std.specs.Option.{option_and_then, option_map_or}
-use Rattle.domain_base.specs.declared.place.Home.{Home}
-use Rattle.domain_base.specs.declared.place.Tag.{Tag}
-use Rattle.page_store.specs.Bitfiles.{same_tag}
-use Rattle.bmt_mcells.specs.Chain.{PlacedCell}
-use Rattle.extent_maps.specs.declared.run.PagePlace.TheVariants.{Absent, At}
-use Rattle.free_space.specs.Spaces.{IsHeld, volume_of}
-use Rattle.free_space.specs.VolumeSpace.{VolumeSpace, is_waiting}
-use Rattle.bitfile_cells.specs.FileChanges.{AreOnTables}
-use Rattle.bitfile_cells.specs.Files.{places_of}
-use Rattle.bitfile_core.specs.Files.{place_at}
-use Rattle.bitfile_core.proofs.OneFile.{tags_same}
-use Rattle.bitfile_core.specs.Together.{AreFilePages, AreFilesOnTables, AreTagPages, AreTogether, IsEachHomeOnce}
-use Rattle.deferred_delete.specs.Standing.{Files, StandTogether, place_in}
-use Rattle.deferred_delete.proofs.Standings.{place_by, standing}
-use Rattle.deferred_laws.specs.Tags.{start_of}
-use Rattle.deferred_laws.proofs.TagFile.{other_starts}
-use Rattle.deferred_laws.proofs.Tags.{IsNamed, named}
-use Rattle.domain_layout.specs.Reached.{IsWithin}
+use Rattle.domain_standing.specs.domain_base.declared.place.Home.{Home}
+use Rattle.domain_standing.specs.domain_base.declared.place.Tag.{Tag}
+use Rattle.domain_standing.specs.page_store.Bitfiles.{same_tag}
+use Rattle.domain_standing.specs.metadata_cells.Chain.{PlacedCell}
+use Rattle.domain_standing.specs.extent_maps.declared.run.PagePlace.TheVariants.{Absent, At}
+use Rattle.domain_standing.specs.free_space.Spaces.{IsHeld, volume_of}
+use Rattle.domain_standing.specs.free_space.VolumeSpace.{VolumeSpace, is_waiting}
+use Rattle.domain_standing.specs.file_chains.FileChanges.{AreOnTables}
+use Rattle.domain_standing.specs.file_chains.Files.{places_of}
+use Rattle.domain_standing.specs.fileset_files.Files.{place_at}
+use Rattle.domain_standing.proofs.OfFilesetFiles.OneFile.{tags_same}
+use Rattle.domain_standing.specs.fileset_files.Together.{AreFilePages, AreFilesOnTables, AreTagPages, AreTogether, IsEachHomeOnce}
+use Rattle.domain_standing.specs.release_list.Standing.{Files, StandTogether, place_in}
+use Rattle.domain_standing.proofs.OfReleaseList.Standings.{place_by, standing}
+use Rattle.domain_standing.specs.release_steps.Tags.{start_of}
+use Rattle.domain_standing.proofs.OfReleaseSteps.TagFile.{other_starts}
+use Rattle.domain_standing.proofs.OfReleaseSteps.Tags.{IsNamed, named}
+use Rattle.domain_standing.specs.domain_layout.Reached.{IsWithin}
 use Rattle.domain_standing.specs.Chains.{HasFilesAmong, IndexesAt}
 use Rattle.domain_standing.specs.Domain.{DomainNow}
 use Rattle.domain_standing.specs.Holders.{AreHeldAt, AreHeldOn, Holder, Holds}

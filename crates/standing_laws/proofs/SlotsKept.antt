@@ -2,45 +2,45 @@
 use Rattle.std.proofs.Common.{◌≡◌, ◌∙◌, ℕ, true, false, List, [], ◌∷◌, Option, Some, None, IfSome, IsSomeAnd, Contains, is_some, slice_get, refl, sym, ap, subst, arith, ⊎_elim}
 use Rattle.std.specs.List.{AllByRecursion}
 use Rattle.std.specs.Option.{option_and_then, option_map_or}
-use Rattle.domain_base.specs.declared.place.CellAt.{CellAt}
-use Rattle.domain_base.specs.declared.place.Home.{Home}
-use Rattle.domain_base.specs.declared.place.Tag.{Tag}
-use Rattle.page_store.specs.Pages.{Pages}
-use Rattle.record_table.specs.declared.record.Record.{Record}
-use Rattle.bmt_mcells.specs.CellPage.{cell_at, home_of}
-use Rattle.bmt_mcells.specs.Chain.{PlacedCell, records_of}
-use Rattle.tag_dirs.specs.Directory.{IsDirectoryAt}
-use Rattle.tag_dirs.specs.declared.dir.TagPlace.{TagPlace}
-use Rattle.tag_dirs.proofs.Reading.{same_directory}
-use Rattle.extent_maps.specs.declared.run.PagePlace.TheVariants.{Absent, At}
-use Rattle.free_cells.specs.Cells.{table_of}
-use Rattle.bitfile_cells.specs.FileChanges.{AreOnTables}
-use Rattle.bitfile_cells.specs.Files.{places_of}
-use Rattle.bitfile_core.specs.Files.{AreFiles, Chains, place_at}
-use Rattle.bitfile_core.specs.Shown.{index_of}
-use Rattle.bitfile_core.proofs.Created.{allocated_beside, one_chains}
-use Rattle.stored_index.specs.Homes.{AreIndexHomes}
-use Rattle.stored_index.proofs.Homes.{one_list}
-use Rattle.set_laws.specs.Elsewhere.{AllStay}
-use Rattle.set_laws.proofs.AnotherSet.{stands_again}
-use Rattle.domain_standing.specs.Sets.{StandsAsSet}
-use Rattle.fileset_model.specs.Filesets.{FilesetMap}
-use Rattle.fileset_table.specs.Table.{entry_of}
-use Rattle.fileset_table.specs.declared.slot.FilesetEntry.{FilesetEntry}
-use Rattle.fileset_table.specs.declared.slot.SlotItem.{SlotItem}
-use Rattle.fileset_table.specs.declared.slot.SlotItem.TheVariants as slot
-use Rattle.deferred_delete.specs.Standing.{Files, place_in}
-use Rattle.deferred_laws.specs.Tags.{AreAmong}
-use Rattle.deferred_laws.proofs.Tags.{IsNamed, named}
-use Rattle.domain_layout.proofs.OneShape.{links_same}
-use Rattle.domain_layout.specs.CellRules.{of_clone}
-use Rattle.domain_layout.specs.Filled.{Contents}
-use Rattle.domain_layout.specs.Layout.{first_tag_of}
-use Rattle.domain_layout.specs.Seen.{seen_in}
-use Rattle.domain_layout.specs.Shape.{AreQuotas, FilesetShape, HasFileset, IsOriginal, IsShapeOf}
-use Rattle.domain_layout.specs.TagRules.{quota_of}
-use Rattle.layout_laws.specs.Agreeing.{AgreeOn, AgreeOnShape}
-use Rattle.layout_laws.proofs.FilledAlike.{filled_at_homes}
+use Rattle.domain_standing.specs.domain_base.declared.place.CellAt.{CellAt}
+use Rattle.domain_standing.specs.domain_base.declared.place.Home.{Home}
+use Rattle.domain_standing.specs.domain_base.declared.place.Tag.{Tag}
+use Rattle.domain_standing.specs.page_store.Pages.{Pages}
+use Rattle.domain_standing.specs.cell_records.declared.record.Record.{Record}
+use Rattle.domain_standing.specs.metadata_cells.CellPage.{cell_at, home_of}
+use Rattle.domain_standing.specs.metadata_cells.Chain.{PlacedCell, records_of}
+use Rattle.domain_standing.specs.tag_dirs.Directory.{IsDirectoryAt}
+use Rattle.domain_standing.specs.tag_dirs.declared.dir.TagPlace.{TagPlace}
+use Rattle.domain_standing.proofs.OfTagDirs.Reading.{same_directory}
+use Rattle.domain_standing.specs.extent_maps.declared.run.PagePlace.TheVariants.{Absent, At}
+use Rattle.domain_standing.specs.free_cells.Cells.{table_of}
+use Rattle.domain_standing.specs.file_chains.FileChanges.{AreOnTables}
+use Rattle.domain_standing.specs.file_chains.Files.{places_of}
+use Rattle.domain_standing.specs.fileset_files.Files.{AreFiles, Chains, place_at}
+use Rattle.domain_standing.specs.fileset_files.Shown.{index_of}
+use Rattle.domain_standing.proofs.OfFilesetFiles.Created.{allocated_beside, one_chains}
+use Rattle.domain_standing.specs.index_pages.Homes.{AreIndexHomes}
+use Rattle.domain_standing.proofs.OfIndexPages.Homes.{one_list}
+use Rattle.domain_standing.specs.stored_set.Elsewhere.{AllStay}
+use Rattle.domain_standing.proofs.OfStoredSet.AnotherSet.{stands_again}
+use Rattle.domain_standing.specs.stored_set.Sets.{StandsAsSet}
+use Rattle.domain_standing.specs.fileset_model.Filesets.{FilesetMap}
+use Rattle.domain_standing.specs.fileset_table.Table.{entry_of}
+use Rattle.domain_standing.specs.fileset_table.declared.slot.FilesetEntry.{FilesetEntry}
+use Rattle.domain_standing.specs.fileset_table.declared.slot.SlotItem.{SlotItem}
+use Rattle.domain_standing.specs.fileset_table.declared.slot.SlotItem.TheVariants as slot
+use Rattle.domain_standing.specs.release_list.Standing.{Files, place_in}
+use Rattle.domain_standing.specs.release_steps.Tags.{AreAmong}
+use Rattle.domain_standing.proofs.OfReleaseSteps.Tags.{IsNamed, named}
+use Rattle.domain_standing.proofs.OfDomainLayout.OneShape.{links_same}
+use Rattle.domain_standing.specs.domain_layout.CellRules.{of_clone}
+use Rattle.domain_standing.specs.domain_layout.Filled.{Contents}
+use Rattle.domain_standing.specs.domain_layout.Layout.{first_tag_of}
+use Rattle.domain_standing.specs.domain_layout.Seen.{seen_in}
+use Rattle.domain_standing.specs.domain_layout.Shape.{AreQuotas, FilesetShape, HasFileset, IsOriginal, IsShapeOf}
+use Rattle.domain_standing.specs.domain_layout.TagRules.{quota_of}
+use Rattle.domain_standing.specs.domain_layout.Agreeing.{AgreeOn, AgreeOnShape}
+use Rattle.domain_standing.proofs.OfDomainLayout.FilledAlike.{filled_at_homes}
 use Rattle.domain_standing.specs.Chains.{AreQuotasOf, HasFilesAmong, IndexesAt, IsRemoved, StandsInSlot}
 use Rattle.domain_standing.specs.Domain.{DomainNow, all_of, item_in}
 use Rattle.domain_standing.specs.Holders.{Holder, Holds}

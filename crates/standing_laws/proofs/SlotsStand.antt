@@ -2,27 +2,27 @@
 use Rattle.std.proofs.Common.{◌≡◌, ◌∙◌, ◌⊎◌, ℕ, false, List, [], ◌∷◌, Option, Some, None, IfSome, IsSomeAnd, Contains, inl, inr, slice_get, refl, sym, ap, subst, arith, ⊎_elim}
 use Rattle.std.proofs.lemmas.Bool.{cases_Bool}
 use Rattle.std.specs.Option.{option_and_then}
-use Rattle.domain_base.specs.declared.place.CellAt.{CellAt}
-use Rattle.domain_base.specs.declared.place.Home.{Home}
-use Rattle.domain_base.specs.declared.place.Tag.{Tag}
-use Rattle.bmt_mcells.specs.Chain.{PlacedCell}
-use Rattle.tag_dirs.specs.declared.dir.TagPlace.{TagPlace}
-use Rattle.tag_dirs.specs.Directory.{cell_of, has_home}
-use Rattle.extent_maps.specs.declared.run.PagePlace.TheVariants.{At}
-use Rattle.bitfile_cells.specs.Files.{IsFile}
-use Rattle.bitfile_core.specs.Files.{AreFiles, Chains, IsOf, LeadsToFile, first_record}
-use Rattle.bitfile_core.proofs.Tags.{directory_same, pages_same}
-use Rattle.fileset_table.specs.Table.{Table}
-use Rattle.deferred_delete.specs.Listing.{Listing}
-use Rattle.deferred_delete.specs.Standing.{Files, IsQuotas, IsStanding, place_in}
-use Rattle.deferred_delete.specs.Steps.{IsWell}
-use Rattle.deferred_delete.proofs.Spread.{none_not, some_same}
-use Rattle.deferred_delete.proofs.Standings.{is_file, quota_first, standing}
-use Rattle.deferred_laws.specs.Calls.{FilesetNow, Refuses, StandsWell}
-use Rattle.deferred_laws.specs.Tags.{AreAmong, start_of}
-use Rattle.deferred_laws.proofs.CallsWell.{stands_call}
-use Rattle.deferred_laws.proofs.Tags.{IsNamed, file_start, has_attributes, named}
-use Rattle.domain_layout.specs.Layout.{first_tag_of}
+use Rattle.domain_standing.specs.domain_base.declared.place.CellAt.{CellAt}
+use Rattle.domain_standing.specs.domain_base.declared.place.Home.{Home}
+use Rattle.domain_standing.specs.domain_base.declared.place.Tag.{Tag}
+use Rattle.domain_standing.specs.metadata_cells.Chain.{PlacedCell}
+use Rattle.domain_standing.specs.tag_dirs.declared.dir.TagPlace.{TagPlace}
+use Rattle.domain_standing.specs.tag_dirs.Directory.{cell_of, has_home}
+use Rattle.domain_standing.specs.extent_maps.declared.run.PagePlace.TheVariants.{At}
+use Rattle.domain_standing.specs.file_chains.Files.{IsFile}
+use Rattle.domain_standing.specs.fileset_files.Files.{AreFiles, Chains, IsOf, LeadsToFile, first_record}
+use Rattle.domain_standing.proofs.OfFilesetFiles.Tags.{directory_same, pages_same}
+use Rattle.domain_standing.specs.fileset_table.Table.{Table}
+use Rattle.domain_standing.specs.release_list.Listing.{Listing}
+use Rattle.domain_standing.specs.release_list.Standing.{Files, IsQuotas, IsStanding, place_in}
+use Rattle.domain_standing.specs.release_list.Steps.{IsWell}
+use Rattle.domain_standing.proofs.OfReleaseList.Spread.{none_not, some_same}
+use Rattle.domain_standing.proofs.OfReleaseList.Standings.{is_file, quota_first, standing}
+use Rattle.domain_standing.specs.release_steps.Calls.{FilesetNow, Refuses, StandsWell}
+use Rattle.domain_standing.specs.release_steps.Tags.{AreAmong, start_of}
+use Rattle.domain_standing.proofs.OfReleaseSteps.CallsWell.{stands_call}
+use Rattle.domain_standing.proofs.OfReleaseSteps.Tags.{IsNamed, file_start, has_attributes, named}
+use Rattle.domain_standing.specs.domain_layout.Layout.{first_tag_of}
 use Rattle.domain_standing.specs.Chains.{AreQuotasOf, HasFilesAmong, IndexesAt, IsQuotaOf, StandsInSlot}
 use Rattle.domain_standing.specs.Domain.{DomainNow, all_of}
 use Rattle.domain_standing.specs.Holders.{HoldsOwned}

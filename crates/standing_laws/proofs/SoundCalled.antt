@@ -1,35 +1,35 @@
 -- A domain is as rules ask beside after a call on a tag.
 use Rattle.std.proofs.Common.{◌≡◌, ◌∙◌, ◌==◌, ◌||◌, ◌⊎◌, inl, ℕ, zero, suc, Bool, true, List, [], ◌∷◌, map, Some, IfSome, IsSomeAnd, Contains, refl, sym, ap, subst, arith, ⊎_elim}
-use Rattle.domain_base.specs.declared.place.CellAt.{CellAt}
-use Rattle.domain_base.specs.declared.place.Home.{Home}
-use Rattle.domain_base.specs.declared.place.Tag.{Tag}
-use Rattle.domain_base.specs.declared.version.Version.{Version}
-use Rattle.domain_base.specs.declared.version.Version.TheVariants.{Four, Three}
-use Rattle.record_table.specs.Records.{kind_of}
-use Rattle.log_ring.specs.Homes.{IsMember}
-use Rattle.bmt_mcells.specs.Cell.{Cell}
-use Rattle.bmt_mcells.specs.Chain.{PlacedCell, StandsAt, places}
-use Rattle.bmt_mcells.specs.declared.head.CellKind.TheVariants.{Chain, Primary}
-use Rattle.tag_dirs.specs.Directory.{has_home}
-use Rattle.tag_dirs.specs.declared.dir.TagPlace.{TagPlace}
-use Rattle.dir_index.specs.Index.{IsIndexPage}
-use Rattle.extent_records.specs.Writing.{chain_kind}
-use Rattle.free_cells.specs.Cells.{table_of}
-use Rattle.bitfile_cells.specs.FileChanges.{AreOnTables, SameFirst, map_kinds}
-use Rattle.bitfile_cells.specs.Files.{AreFile, IsFile, IsMapCell, has_rows}
-use Rattle.bitfile_cells.proofs.ChainChanges.{inside_places, stand_file}
-use Rattle.bitfile_cells.proofs.MapRecords.{value_has_rows}
-use Rattle.bitfile_cells.proofs.Replaced.{filter_true}
-use Rattle.bitfile_core.specs.Changes.{says_removed, with_first}
-use Rattle.bitfile_core.specs.Files.{Chains}
-use Rattle.deferred_delete.specs.Standing.{Files}
-use Rattle.deferred_laws.specs.Calls.{Call, Drops, FilesetNow, Gives, Makes, SetsFirst, cut, described, dropped, given, indexed, made, moved, put_in, refused}
-use Rattle.deferred_laws.proofs.FirstWell.{are_file, tag_now as tag_set}
-use Rattle.deferred_laws.proofs.MakeWell.{tag_now as tag_made}
-use Rattle.domain_layout.specs.CellRules.{is_chain_records}
-use Rattle.domain_layout.specs.Owners.{IsOnTable}
-use Rattle.domain_layout.specs.Reached.{Frame, IsWithin}
-use Rattle.layout_laws.proofs.Reached.{same_number}
+use Rattle.domain_standing.specs.domain_base.declared.place.CellAt.{CellAt}
+use Rattle.domain_standing.specs.domain_base.declared.place.Home.{Home}
+use Rattle.domain_standing.specs.domain_base.declared.place.Tag.{Tag}
+use Rattle.domain_standing.specs.domain_base.declared.version.Version.{Version}
+use Rattle.domain_standing.specs.domain_base.declared.version.Version.TheVariants.{Four, Three}
+use Rattle.domain_standing.specs.cell_records.Records.{kind_of}
+use Rattle.domain_standing.specs.log_ring.Homes.{IsMember}
+use Rattle.domain_standing.specs.metadata_cells.Cell.{Cell}
+use Rattle.domain_standing.specs.metadata_cells.Chain.{PlacedCell, StandsAt, places}
+use Rattle.domain_standing.specs.metadata_cells.declared.head.CellKind.TheVariants.{Chain, Primary}
+use Rattle.domain_standing.specs.tag_dirs.Directory.{has_home}
+use Rattle.domain_standing.specs.tag_dirs.declared.dir.TagPlace.{TagPlace}
+use Rattle.domain_standing.specs.directory_pages.Index.{IsIndexPage}
+use Rattle.domain_standing.specs.extent_records.Writing.{chain_kind}
+use Rattle.domain_standing.specs.free_cells.Cells.{table_of}
+use Rattle.domain_standing.specs.file_chains.FileChanges.{AreOnTables, SameFirst, map_kinds}
+use Rattle.domain_standing.specs.file_chains.Files.{AreFile, IsFile, IsMapCell, has_rows}
+use Rattle.domain_standing.proofs.OfFileChains.ChainChanges.{inside_places, stand_file}
+use Rattle.domain_standing.proofs.OfFileChains.MapRecords.{value_has_rows}
+use Rattle.domain_standing.proofs.OfFileChains.Replaced.{filter_true}
+use Rattle.domain_standing.specs.fileset_files.Changes.{says_removed, with_first}
+use Rattle.domain_standing.specs.fileset_files.Files.{Chains}
+use Rattle.domain_standing.specs.release_list.Standing.{Files}
+use Rattle.domain_standing.specs.release_steps.Calls.{Call, Drops, FilesetNow, Gives, Makes, SetsFirst, cut, described, dropped, given, indexed, made, moved, put_in, refused}
+use Rattle.domain_standing.proofs.OfReleaseSteps.FirstWell.{are_file, tag_now as tag_set}
+use Rattle.domain_standing.proofs.OfReleaseSteps.MakeWell.{tag_now as tag_made}
+use Rattle.domain_standing.specs.domain_layout.CellRules.{is_chain_records}
+use Rattle.domain_standing.specs.domain_layout.Owners.{IsOnTable}
+use Rattle.domain_standing.specs.domain_layout.Reached.{Frame, IsWithin}
+use Rattle.domain_standing.proofs.OfDomainLayout.Reached.{same_number}
 use Rattle.domain_standing.specs.Chains.{IndexesAt}
 use Rattle.domain_standing.specs.Domain.{DomainNow, layout_of}
 use Rattle.domain_standing.specs.Holders.{Holder, Holds}

@@ -2,40 +2,40 @@
 use Rattle.std.proofs.Common.{◌≡◌, ◌∙◌, ◌⊎◌, ⊎_elim, ℕ, Bool, true, false, cond, List, [], ◌∷◌, Option, Some, None, IsSomeAnd, Contains, slice_get, refl, sym, ap, subst, arith}
 use Rattle.std.proofs.lemmas.Bool.{cases_Bool, true≢false}
 use Rattle.std.specs.Option.{option_and_then, option_map, option_map_or}
-use Rattle.domain_base.specs.declared.place.CellAt.{CellAt}
-use Rattle.domain_base.specs.declared.place.Home.{Home}
-use Rattle.domain_base.specs.declared.place.Tag.{Tag}
-use Rattle.page_store.specs.Pages.{Pages}
-use Rattle.bmt_mcells.specs.Cell.{Cell}
-use Rattle.bmt_mcells.specs.CellPage.{cell_at, home_of}
-use Rattle.bmt_mcells.specs.Chain.{PlacedCell, StandsAt, is_at}
-use Rattle.bmt_mcells.specs.declared.head.CellKind.TheVariants.{Chain, Primary}
-use Rattle.bmt_mcells.proofs.Unique.{one_stands}
-use Rattle.tag_dirs.specs.Directory.{has_home}
-use Rattle.tag_dirs.proofs.Slots.{off_slot}
-use Rattle.extent_maps.specs.Runs.{place_of}
-use Rattle.extent_maps.specs.declared.run.PagePlace.TheVariants.{Absent}
-use Rattle.dir_index.specs.Index.{IsIndexPage}
-use Rattle.free_cells.specs.Cells.{table_of}
-use Rattle.free_space.specs.Spaces.{Spaces}
-use Rattle.bitfile_cells.specs.Files.{AreFile, IsFile, map_records, places_of}
-use Rattle.bitfile_core.specs.Changes.{ChangesBeside, Removes, says_removed, with_chain, with_first}
-use Rattle.bitfile_core.specs.Files.{Chains}
-use Rattle.bitfile_core.specs.Index.{says_index}
-use Rattle.bitfile_core.specs.Shown.{index_of}
-use Rattle.bitfile_core.proofs.FirstTogether.{runs_kept}
-use Rattle.bitfile_core.proofs.OneChain.{chain_same, same_tag_itself}
-use Rattle.domain_standing.specs.Sets.{GivesIndexBack, without_index, without_index_from}
-use Rattle.deferred_delete.specs.Listing.{Listing}
-use Rattle.deferred_delete.specs.Standing.{Files, place_in, with_file}
-use Rattle.deferred_delete.proofs.Standings.{at_itself, file_other, file_there, place_by, same_or_not}
-use Rattle.deferred_laws.specs.Calls.{StandsWell}
-use Rattle.deferred_laws.specs.Tags.{start_of}
-use Rattle.deferred_laws.proofs.FirstWell.{removed_beside}
-use Rattle.domain_layout.specs.CellRules.{is_chain_records}
-use Rattle.domain_layout.specs.Filled.{Contents}
-use Rattle.domain_layout.specs.Owners.{IsOnTable}
-use Rattle.domain_layout.specs.Reached.{IsWithin}
+use Rattle.domain_standing.specs.domain_base.declared.place.CellAt.{CellAt}
+use Rattle.domain_standing.specs.domain_base.declared.place.Home.{Home}
+use Rattle.domain_standing.specs.domain_base.declared.place.Tag.{Tag}
+use Rattle.domain_standing.specs.page_store.Pages.{Pages}
+use Rattle.domain_standing.specs.metadata_cells.Cell.{Cell}
+use Rattle.domain_standing.specs.metadata_cells.CellPage.{cell_at, home_of}
+use Rattle.domain_standing.specs.metadata_cells.Chain.{PlacedCell, StandsAt, is_at}
+use Rattle.domain_standing.specs.metadata_cells.declared.head.CellKind.TheVariants.{Chain, Primary}
+use Rattle.domain_standing.proofs.OfMetadataCells.Unique.{one_stands}
+use Rattle.domain_standing.specs.tag_dirs.Directory.{has_home}
+use Rattle.domain_standing.proofs.OfTagDirs.Slots.{off_slot}
+use Rattle.domain_standing.specs.extent_maps.Runs.{place_of}
+use Rattle.domain_standing.specs.extent_maps.declared.run.PagePlace.TheVariants.{Absent}
+use Rattle.domain_standing.specs.directory_pages.Index.{IsIndexPage}
+use Rattle.domain_standing.specs.free_cells.Cells.{table_of}
+use Rattle.domain_standing.specs.free_space.Spaces.{Spaces}
+use Rattle.domain_standing.specs.file_chains.Files.{AreFile, IsFile, map_records, places_of}
+use Rattle.domain_standing.specs.fileset_files.Changes.{ChangesBeside, Removes, says_removed, with_chain, with_first}
+use Rattle.domain_standing.specs.fileset_files.Files.{Chains}
+use Rattle.domain_standing.specs.fileset_files.Index.{says_index}
+use Rattle.domain_standing.specs.fileset_files.Shown.{index_of}
+use Rattle.domain_standing.proofs.OfFilesetFiles.FirstTogether.{runs_kept}
+use Rattle.domain_standing.proofs.OfFilesetFiles.OneChain.{chain_same, same_tag_itself}
+use Rattle.domain_standing.specs.stored_set.Sets.{GivesIndexBack, without_index, without_index_from}
+use Rattle.domain_standing.specs.release_list.Listing.{Listing}
+use Rattle.domain_standing.specs.release_list.Standing.{Files, place_in, with_file}
+use Rattle.domain_standing.proofs.OfReleaseList.Standings.{at_itself, file_other, file_there, place_by, same_or_not}
+use Rattle.domain_standing.specs.release_steps.Calls.{StandsWell}
+use Rattle.domain_standing.specs.release_steps.Tags.{start_of}
+use Rattle.domain_standing.proofs.OfReleaseSteps.FirstWell.{removed_beside}
+use Rattle.domain_standing.specs.domain_layout.CellRules.{is_chain_records}
+use Rattle.domain_standing.specs.domain_layout.Filled.{Contents}
+use Rattle.domain_standing.specs.domain_layout.Owners.{IsOnTable}
+use Rattle.domain_standing.specs.domain_layout.Reached.{IsWithin}
 use Rattle.domain_standing.specs.Chains.{IndexesAt}
 use Rattle.domain_standing.specs.Domain.{DomainNow, layout_of}
 use Rattle.domain_standing.specs.Holders.{Holder, Holds}
@@ -49,7 +49,7 @@ use Rattle.standing_laws.specs.Sound.{StandsSound, StandsSoundBut}
 use Rattle.standing_laws.proofs.SoundIndexed.{at_apart, same_start}
 use Rattle.standing_laws.proofs.SoundParted.{NoFile, good_by, sound_but, sound_none}
 use Rattle.standing_laws.proofs.HomeLists.{in_get}
-use Rattle.deferred_delete.proofs.Spread.{none_not}
+use Rattle.domain_standing.proofs.OfReleaseList.Spread.{none_not}
 
 module _ (d : DomainNow) (files : Files) (indexes : IndexesAt) (apart : CellAt → Type 0) (below : StandsBelow d files indexes) (sound : StandsSoundBut apart d files indexes) (number : ℕ) (tag : Tag) (chains : Chains)
     (well : StandsWell number (fileset_now d number chains files)) (first : PlacedCell) (rest : List PlacedCell) (is : chains tag ≡ Some (first ∷ rest)) (group : ℕ) (space : Spaces) (pages : Pages) (contents : Contents) (listed : Listing)

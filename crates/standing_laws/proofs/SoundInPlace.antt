@@ -1,21 +1,21 @@
 -- A domain is as rules ask beside where no cell changes and no page of an index.
 use Rattle.std.proofs.Common.{◌≡◌, ◌∙◌, ◌⊎◌, ◌||◌, inl, inr, ℕ, Bool, true, false, List, [], ◌∷◌, Some, refl, sym, ap, subst, ⊎_elim}
 use Rattle.std.proofs.lemmas.Bool.{true≢false}
-use Rattle.domain_base.specs.declared.place.CellAt.{CellAt}
-use Rattle.domain_base.specs.declared.place.Home.{Home}
-use Rattle.page_store.specs.Pages.{same_home}
-use Rattle.bmt_mcells.proofs.Changed.{homes_same}
-use Rattle.tag_dirs.specs.Directory.{has_home}
-use Rattle.tag_dirs.specs.declared.dir.TagPlace.{TagPlace}
-use Rattle.free_cells.specs.Cells.{Cells, is_closed, is_free, kept_of, table_of}
-use Rattle.free_cells.specs.Cells as tables
-use Rattle.free_space.specs.Spaces.{Spaces}
-use Rattle.fileset_model.specs.declared.fileset.Limits.{Limits}
-use Rattle.fileset_table.specs.declared.slot.FilesetEntry.{FilesetEntry}
-use Rattle.deferred_delete.specs.Listing.{Listing}
-use Rattle.deferred_delete.specs.Standing.{Files}
-use Rattle.domain_layout.specs.Reached.{IsWithin}
-use Rattle.layout_laws.proofs.Reached.{same_number}
+use Rattle.domain_standing.specs.domain_base.declared.place.CellAt.{CellAt}
+use Rattle.domain_standing.specs.domain_base.declared.place.Home.{Home}
+use Rattle.domain_standing.specs.page_store.Pages.{same_home}
+use Rattle.domain_standing.proofs.OfMetadataCells.Changed.{homes_same}
+use Rattle.domain_standing.specs.tag_dirs.Directory.{has_home}
+use Rattle.domain_standing.specs.tag_dirs.declared.dir.TagPlace.{TagPlace}
+use Rattle.domain_standing.specs.free_cells.Cells.{Cells, is_closed, is_free, kept_of, table_of}
+use Rattle.domain_standing.specs.free_cells.Cells as tables
+use Rattle.domain_standing.specs.free_space.Spaces.{Spaces}
+use Rattle.domain_standing.specs.fileset_model.declared.fileset.Limits.{Limits}
+use Rattle.domain_standing.specs.fileset_table.declared.slot.FilesetEntry.{FilesetEntry}
+use Rattle.domain_standing.specs.release_list.Listing.{Listing}
+use Rattle.domain_standing.specs.release_list.Standing.{Files}
+use Rattle.domain_standing.specs.domain_layout.Reached.{IsWithin}
+use Rattle.domain_standing.proofs.OfDomainLayout.Reached.{same_number}
 use Rattle.domain_standing.specs.Chains.{IndexesAt}
 use Rattle.domain_standing.specs.Domain.{DomainNow}
 use Rattle.domain_standing.specs.Holders.{Holder, Holds}

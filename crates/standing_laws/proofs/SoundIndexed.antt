@@ -3,44 +3,44 @@ use Rattle.std.proofs.Common.{◌≡◌, ◌∙◌, ◌⊎◌, inl, inr, ⊎_eli
 use Rattle.std.proofs.lemmas.Bool.{false_from_ne_true, true≢false}
 use Rattle.std.specs.List.{AllByRecursion, insert}
 use Rattle.std.specs.Option.{option_and_then, option_map, option_map_or}
-use Rattle.domain_base.specs.declared.place.CellAt.{CellAt}
-use Rattle.domain_base.specs.declared.place.Home.{Home}
-use Rattle.domain_base.specs.declared.place.Tag.{Tag}
-use Rattle.page_store.specs.Bitfiles.{shown_index}
-use Rattle.page_store.specs.Pages.{Pages, same_home}
-use Rattle.bmt_mcells.specs.Cell.{Cell}
-use Rattle.bmt_mcells.specs.CellPage.{cell_at, home_of}
-use Rattle.bmt_mcells.specs.Chain.{PlacedCell, StandsAt, is_at}
-use Rattle.bmt_mcells.specs.declared.head.CellKind.TheVariants.{Chain, Primary}
-use Rattle.bmt_mcells.proofs.Changed.{homes_same}
-use Rattle.bmt_mcells.proofs.Unique.{one_stands}
-use Rattle.extent_maps.specs.Runs.{place_of}
-use Rattle.extent_maps.specs.declared.run.PagePlace.TheVariants.{Absent}
-use Rattle.dir_index.specs.Index.{IsIndexPage}
-use Rattle.free_cells.specs.Cells.{table_of}
-use Rattle.free_space.specs.Spaces.{Spaces}
-use Rattle.bitfile_cells.specs.Files.{AreFile, places_of}
-use Rattle.bitfile_cells.proofs.ChainChanges.{at_same}
-use Rattle.bitfile_core.specs.Changes.{ChangesFirst, with_chain, with_first}
-use Rattle.bitfile_core.specs.Files.{Chains}
-use Rattle.bitfile_core.specs.Index.{index_record, says_index}
-use Rattle.bitfile_core.specs.Shown.{index_in, index_of}
-use Rattle.bitfile_core.proofs.Created.{stands_by_page}
-use Rattle.bitfile_core.proofs.FirstCell.{find_put}
-use Rattle.bitfile_core.proofs.FirstTogether.{runs_kept}
-use Rattle.bitfile_core.proofs.OneChain.{chain_same, same_tag_itself}
-use Rattle.stored_index.specs.Homes.{shown_at}
-use Rattle.stored_index.proofs.Dropped.{low_from}
-use Rattle.stored_index.proofs.Held.{in_inserted}
-use Rattle.domain_standing.specs.Sets.{AddsIndexPage, SaysIndex, WritesIndexPage}
-use Rattle.deferred_delete.specs.Standing.{Files, place_in, with_file}
-use Rattle.deferred_delete.proofs.Standings.{at_itself, file_other, file_there, place_by, same_or_not}
-use Rattle.deferred_laws.specs.Calls.{StandsWell}
-use Rattle.deferred_laws.proofs.FirstWell.{are_file, index_beside}
-use Rattle.domain_layout.specs.CellRules.{is_chain_records}
-use Rattle.domain_layout.specs.Filled.{Contents}
-use Rattle.domain_layout.specs.Owners.{IsOnTable}
-use Rattle.domain_layout.specs.Reached.{IsWithin}
+use Rattle.domain_standing.specs.domain_base.declared.place.CellAt.{CellAt}
+use Rattle.domain_standing.specs.domain_base.declared.place.Home.{Home}
+use Rattle.domain_standing.specs.domain_base.declared.place.Tag.{Tag}
+use Rattle.domain_standing.specs.page_store.Bitfiles.{shown_index}
+use Rattle.domain_standing.specs.page_store.Pages.{Pages, same_home}
+use Rattle.domain_standing.specs.metadata_cells.Cell.{Cell}
+use Rattle.domain_standing.specs.metadata_cells.CellPage.{cell_at, home_of}
+use Rattle.domain_standing.specs.metadata_cells.Chain.{PlacedCell, StandsAt, is_at}
+use Rattle.domain_standing.specs.metadata_cells.declared.head.CellKind.TheVariants.{Chain, Primary}
+use Rattle.domain_standing.proofs.OfMetadataCells.Changed.{homes_same}
+use Rattle.domain_standing.proofs.OfMetadataCells.Unique.{one_stands}
+use Rattle.domain_standing.specs.extent_maps.Runs.{place_of}
+use Rattle.domain_standing.specs.extent_maps.declared.run.PagePlace.TheVariants.{Absent}
+use Rattle.domain_standing.specs.directory_pages.Index.{IsIndexPage}
+use Rattle.domain_standing.specs.free_cells.Cells.{table_of}
+use Rattle.domain_standing.specs.free_space.Spaces.{Spaces}
+use Rattle.domain_standing.specs.file_chains.Files.{AreFile, places_of}
+use Rattle.domain_standing.proofs.OfFileChains.ChainChanges.{at_same}
+use Rattle.domain_standing.specs.fileset_files.Changes.{ChangesFirst, with_chain, with_first}
+use Rattle.domain_standing.specs.fileset_files.Files.{Chains}
+use Rattle.domain_standing.specs.fileset_files.Index.{index_record, says_index}
+use Rattle.domain_standing.specs.fileset_files.Shown.{index_in, index_of}
+use Rattle.domain_standing.proofs.OfFilesetFiles.Created.{stands_by_page}
+use Rattle.domain_standing.proofs.OfFilesetFiles.FirstCell.{find_put}
+use Rattle.domain_standing.proofs.OfFilesetFiles.FirstTogether.{runs_kept}
+use Rattle.domain_standing.proofs.OfFilesetFiles.OneChain.{chain_same, same_tag_itself}
+use Rattle.domain_standing.specs.index_pages.Homes.{shown_at}
+use Rattle.domain_standing.proofs.OfIndexPages.Dropped.{low_from}
+use Rattle.domain_standing.proofs.OfIndexPages.Held.{in_inserted}
+use Rattle.domain_standing.specs.stored_set.Sets.{AddsIndexPage, SaysIndex, WritesIndexPage}
+use Rattle.domain_standing.specs.release_list.Standing.{Files, place_in, with_file}
+use Rattle.domain_standing.proofs.OfReleaseList.Standings.{at_itself, file_other, file_there, place_by, same_or_not}
+use Rattle.domain_standing.specs.release_steps.Calls.{StandsWell}
+use Rattle.domain_standing.proofs.OfReleaseSteps.FirstWell.{are_file, index_beside}
+use Rattle.domain_standing.specs.domain_layout.CellRules.{is_chain_records}
+use Rattle.domain_standing.specs.domain_layout.Filled.{Contents}
+use Rattle.domain_standing.specs.domain_layout.Owners.{IsOnTable}
+use Rattle.domain_standing.specs.domain_layout.Reached.{IsWithin}
 use Rattle.domain_standing.specs.Chains.{IndexesAt}
 use Rattle.domain_standing.specs.Domain.{DomainNow, layout_of}
 use Rattle.domain_standing.specs.Holders.{Holder, Holds, IsUnheld}

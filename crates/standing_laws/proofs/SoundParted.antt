@@ -1,9 +1,9 @@
 -- What rules ask of a domain where some files' indexes are left out, and where none are.
 use Rattle.std.proofs.Common.{◌≡◌, ◌⊎◌, inl, inr, ℕ, List, Option, IsSomeAnd, Contains, sym, subst, ⊎_elim}
-use Rattle.domain_base.specs.declared.place.CellAt.{CellAt}
-use Rattle.domain_base.specs.declared.place.Home.{Home}
-use Rattle.dir_index.specs.Index.{IsIndexPage}
-use Rattle.deferred_delete.specs.Standing.{Files}
+use Rattle.domain_standing.specs.domain_base.declared.place.CellAt.{CellAt}
+use Rattle.domain_standing.specs.domain_base.declared.place.Home.{Home}
+use Rattle.domain_standing.specs.directory_pages.Index.{IsIndexPage}
+use Rattle.domain_standing.specs.release_list.Standing.{Files}
 use Rattle.domain_standing.specs.Chains.{IndexesAt}
 use Rattle.domain_standing.specs.Domain.{DomainNow}
 use Rattle.standing_laws.specs.Sound.{StandsSound, StandsSoundBut}

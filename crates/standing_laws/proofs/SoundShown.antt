@@ -3,16 +3,16 @@ use Rattle.std.proofs.Common.{◌≡◌, ◌∙◌, ℕ, zero, suc, ◌+◌, ◌
 use Rattle.std.proofs.lemmas.List.{drop-append-le, take-append-drop, take-append-le}
 use Rattle.std.specs.List.{AllByRecursion, insert}
 use Rattle.std.specs.Prelude.{unwrap_or}
-use Rattle.domain_base.specs.Page.{zero_bytes, length-zero_bytes}
-use Rattle.domain_base.specs.declared.place.Home.{Home}
-use Rattle.page_store.specs.Bitfiles.{shown_index}
-use Rattle.page_store.specs.Pages.{Pages}
-use Rattle.record_table.specs.Fields.{number_at}
-use Rattle.record_table.proofs.Bytes.{little_number-take}
-use Rattle.dir_index.specs.Index.{IsIndexPage}
-use Rattle.stored_index.specs.Homes.{AreIndexHomes, shown_at}
-use Rattle.stored_index.specs.Homes.{IsIndexPage as IsStoredPage}
-use Rattle.stored_index.proofs.Changed.{good_numbered}
+use Rattle.domain_standing.specs.domain_base.Page.{zero_bytes, length-zero_bytes}
+use Rattle.domain_standing.specs.domain_base.declared.place.Home.{Home}
+use Rattle.domain_standing.specs.page_store.Bitfiles.{shown_index}
+use Rattle.domain_standing.specs.page_store.Pages.{Pages}
+use Rattle.domain_standing.specs.cell_records.Fields.{number_at}
+use Rattle.domain_standing.proofs.OfCellRecords.Bytes.{little_number-take}
+use Rattle.domain_standing.specs.directory_pages.Index.{IsIndexPage}
+use Rattle.domain_standing.specs.index_pages.Homes.{AreIndexHomes, shown_at}
+use Rattle.domain_standing.specs.index_pages.Homes.{IsIndexPage as IsStoredPage}
+use Rattle.domain_standing.proofs.OfIndexPages.Changed.{good_numbered}
 use Rattle.standing_laws.proofs.HomeLists.{in_get}
 
 -- ---- one page

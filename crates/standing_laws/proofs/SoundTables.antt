@@ -1,20 +1,20 @@
 -- Where no rule of pages is broken, pages of cells are those of members, and chain cells are well formed.
 use Rattle.std.proofs.Common.{◌≡◌, inl, inr, true, Contains, ⊎_elim}
 use Rattle.std.proofs.lemmas.Bool.{cases_Bool}
-use Rattle.domain_base.specs.declared.place.CellAt.{CellAt}
-use Rattle.domain_base.specs.declared.place.Home.{Home}
-use Rattle.log_ring.specs.Homes.{IsMember}
-use Rattle.bmt_mcells.specs.Cell.{Cell}
-use Rattle.bmt_mcells.specs.declared.head.CellKind.TheVariants.{Chain}
-use Rattle.free_cells.specs.Cells.{table_of}
-use Rattle.domain_layout.proofs.NoTables.{none_of_tables}
-use Rattle.domain_layout.specs.CellRules.{is_chain_records}
-use Rattle.domain_layout.specs.Faults.{HasNoFault, HasNoTablesFault}
-use Rattle.domain_layout.specs.Layout.{IsLayout}
-use Rattle.domain_layout.specs.Owners.{IsOnTable}
-use Rattle.domain_layout.specs.Reached.{IsWithin}
-use Rattle.layout_laws.proofs.Named.{no_cell}
-use Rattle.layout_laws.proofs.OwnedOnce.{cell_place, used_on}
+use Rattle.domain_standing.specs.domain_base.declared.place.CellAt.{CellAt}
+use Rattle.domain_standing.specs.domain_base.declared.place.Home.{Home}
+use Rattle.domain_standing.specs.log_ring.Homes.{IsMember}
+use Rattle.domain_standing.specs.metadata_cells.Cell.{Cell}
+use Rattle.domain_standing.specs.metadata_cells.declared.head.CellKind.TheVariants.{Chain}
+use Rattle.domain_standing.specs.free_cells.Cells.{table_of}
+use Rattle.domain_standing.proofs.OfDomainLayout.NoTables.{none_of_tables}
+use Rattle.domain_standing.specs.domain_layout.CellRules.{is_chain_records}
+use Rattle.domain_standing.specs.domain_layout.Faults.{HasNoFault, HasNoTablesFault}
+use Rattle.domain_standing.specs.domain_layout.Layout.{IsLayout}
+use Rattle.domain_standing.specs.domain_layout.Owners.{IsOnTable}
+use Rattle.domain_standing.specs.domain_layout.Reached.{IsWithin}
+use Rattle.domain_standing.proofs.OfDomainLayout.Named.{no_cell}
+use Rattle.domain_standing.proofs.OfDomainLayout.OwnedOnce.{cell_place, used_on}
 use Rattle.domain_standing.specs.Domain.{DomainNow, layout_of}
 
 module _ (d : DomainNow) (laid : IsLayout d.pages (layout_of d)) (no_fault : HasNoFault d.pages d.frame) where

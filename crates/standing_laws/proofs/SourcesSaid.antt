@@ -2,18 +2,18 @@
 use Rattle.std.proofs.Common.{◌≡◌, ◌∙◌, ℕ, zero, suc, List, [], ◌∷◌, Option, Some, None, IfSome, IsSome, IsSomeAnd, Contains, length, inl, refl, sym, ap, subst, arith, ⊎_elim, true≢false}
 use Rattle.std.specs.List.{AllByRecursion}
 use Rattle.std.specs.Option.{option_and_then}
-use Rattle.domain_base.specs.declared.place.CellAt.{CellAt}
-use Rattle.bmt_mcells.specs.Cell.{Cell, record_of}
-use Rattle.bmt_mcells.specs.Chain.{PlacedCell, StandsAt, places}
-use Rattle.bmt_mcells.specs.declared.head.CellKind.TheVariants.{Chain, Primary, Quota, Volume}
-use Rattle.bmt_mcells.proofs.Unique.{one_stands}
-use Rattle.free_cells.specs.Cells.{table_of}
-use Rattle.bitfile_cells.specs.Files.{IsFile}
-use Rattle.log_ring.specs.Homes.{IsMember}
-use Rattle.deferred_delete.specs.Standing.{Files, IsFileOrQuotas, IsQuotaCell, IsStanding, Source, source_at, source_in, source_of}
-use Rattle.deferred_delete.proofs.Standings.{quota_first, stand_chain}
-use Rattle.layout_laws.proofs.Reached.{member_or_none}
-use Rattle.domain_layout.specs.CellRules.{IsFirstPlace}
+use Rattle.domain_standing.specs.domain_base.declared.place.CellAt.{CellAt}
+use Rattle.domain_standing.specs.metadata_cells.Cell.{Cell, record_of}
+use Rattle.domain_standing.specs.metadata_cells.Chain.{PlacedCell, StandsAt, places}
+use Rattle.domain_standing.specs.metadata_cells.declared.head.CellKind.TheVariants.{Chain, Primary, Quota, Volume}
+use Rattle.domain_standing.proofs.OfMetadataCells.Unique.{one_stands}
+use Rattle.domain_standing.specs.free_cells.Cells.{table_of}
+use Rattle.domain_standing.specs.file_chains.Files.{IsFile}
+use Rattle.domain_standing.specs.log_ring.Homes.{IsMember}
+use Rattle.domain_standing.specs.release_list.Standing.{Files, IsFileOrQuotas, IsQuotaCell, IsStanding, Source, source_at, source_in, source_of}
+use Rattle.domain_standing.proofs.OfReleaseList.Standings.{quota_first, stand_chain}
+use Rattle.domain_standing.proofs.OfDomainLayout.Reached.{member_or_none}
+use Rattle.domain_standing.specs.domain_layout.CellRules.{IsFirstPlace}
 use Rattle.domain_standing.specs.Chains.{IndexesAt}
 use Rattle.domain_standing.specs.Domain.{DomainNow, layout_of}
 use Rattle.domain_standing.specs.Sources.{HasSource, StandAlone}

@@ -3,33 +3,33 @@ use Rattle.std.proofs.Common.{◌≡◌, ◌∙◌, ◌↔◌, ℕ, zero, suc, �
 use Rattle.std.proofs.lemmas.Bool.{cases_Bool, cases_lt, eq-eqb, eqb-true}
 use Rattle.std.proofs.lemmas.List.Elements.{Contains-push_cases}
 use Rattle.std.specs.Prelude.{slice_index_or}
-use Rattle.domain_base.specs.declared.place.CellAt.{CellAt}
-use Rattle.domain_base.specs.declared.place.Home.{Home}
-use Rattle.domain_base.specs.declared.place.Tag.{Tag}
-use Rattle.domain_base.specs.declared.version.Version.{Version}
-use Rattle.log_ring.specs.Homes.{IsMember}
-use Rattle.bmt_mcells.specs.CellPage.{next_of}
-use Rattle.bmt_mcells.specs.Chain.{PlacedCell}
-use Rattle.tag_dirs.specs.declared.dir.TagPlace.{TagPlace}
-use Rattle.tag_dirs.specs.Directory.{has_home}
-use Rattle.free_cells.specs.Belong.{IsPageOf, home_at}
-use Rattle.free_cells.specs.Cells.{is_free, table_of}
-use Rattle.free_cells.proofs.Belongs.{free_below, used_not_free}
-use Rattle.bitfile_cells.proofs.Added.{used_of}
-use Rattle.bitfile_core.specs.Files.{Chains}
-use Rattle.bitfile_core.proofs.Tags.{directory_same, pages_same}
-use Rattle.fileset_table.specs.Page.{IsTablePage}
-use Rattle.fileset_table.specs.declared.slot.SlotItem.{SlotItem}
-use Rattle.fileset_table.specs.declared.slot.SlotItem.TheVariants as slot
-use Rattle.deferred_delete.specs.Standing.{Files}
-use Rattle.deferred_delete.proofs.Lists.{last_in}
-use Rattle.deferred_delete.proofs.Spread.{none_not, some_same}
-use Rattle.deferred_laws.specs.Calls.{Call, FilesetNow, StandsWell, cut, described, dropped, given, indexed, made, moved, put_in, refused}
-use Rattle.deferred_laws.proofs.TagCalls.{StandsTogether, together_call}
-use Rattle.layout_laws.proofs.Reached.{member_or_none}
+use Rattle.domain_standing.specs.domain_base.declared.place.CellAt.{CellAt}
+use Rattle.domain_standing.specs.domain_base.declared.place.Home.{Home}
+use Rattle.domain_standing.specs.domain_base.declared.place.Tag.{Tag}
+use Rattle.domain_standing.specs.domain_base.declared.version.Version.{Version}
+use Rattle.domain_standing.specs.log_ring.Homes.{IsMember}
+use Rattle.domain_standing.specs.metadata_cells.CellPage.{next_of}
+use Rattle.domain_standing.specs.metadata_cells.Chain.{PlacedCell}
+use Rattle.domain_standing.specs.tag_dirs.declared.dir.TagPlace.{TagPlace}
+use Rattle.domain_standing.specs.tag_dirs.Directory.{has_home}
+use Rattle.domain_standing.specs.free_cells.Belong.{IsPageOf, home_at}
+use Rattle.domain_standing.specs.free_cells.Cells.{is_free, table_of}
+use Rattle.domain_standing.proofs.OfFreeCells.Belongs.{free_below, used_not_free}
+use Rattle.domain_standing.proofs.OfFileChains.Added.{used_of}
+use Rattle.domain_standing.specs.fileset_files.Files.{Chains}
+use Rattle.domain_standing.proofs.OfFilesetFiles.Tags.{directory_same, pages_same}
+use Rattle.domain_standing.specs.fileset_table.Page.{IsTablePage}
+use Rattle.domain_standing.specs.fileset_table.declared.slot.SlotItem.{SlotItem}
+use Rattle.domain_standing.specs.fileset_table.declared.slot.SlotItem.TheVariants as slot
+use Rattle.domain_standing.specs.release_list.Standing.{Files}
+use Rattle.domain_standing.proofs.OfReleaseList.Lists.{last_in}
+use Rattle.domain_standing.proofs.OfReleaseList.Spread.{none_not, some_same}
+use Rattle.domain_standing.specs.release_steps.Calls.{Call, FilesetNow, StandsWell, cut, described, dropped, given, indexed, made, moved, put_in, refused}
+use Rattle.domain_standing.proofs.OfReleaseSteps.TagCalls.{StandsTogether, together_call}
+use Rattle.domain_standing.proofs.OfDomainLayout.Reached.{member_or_none}
 use Rattle.domain_standing.specs.Space.{AreCellsOf, IsFreeAt, IsOpen}
-use Rattle.domain_layout.specs.Layout.{AreTagPlaces, IsCellTable, IsPageAt, first_tag_of}
-use Rattle.domain_layout.specs.Reached.{first_cells}
+use Rattle.domain_standing.specs.domain_layout.Layout.{AreTagPlaces, IsCellTable, IsPageAt, first_tag_of}
+use Rattle.domain_standing.specs.domain_layout.Reached.{first_cells}
 use Rattle.domain_standing.specs.Chains.{IndexesAt}
 use Rattle.domain_standing.specs.Domain.{DomainNow, layout_of}
 use Rattle.domain_standing.specs.Holders.{Holder}

@@ -2,24 +2,24 @@
 use Rattle.std.proofs.Common.{◌≡◌, ◌∙◌, ◌⊎◌, inl, inr, ℕ, zero, suc, ◌≤◌, Bool, true, false, cond, nat_eq, List, [], ◌∷◌, ◌++◌, length, Option, Some, None, IsSomeAnd, Contains, refl, sym, ap, subst, arith, ⊎_elim}
 use Rattle.std.proofs.lemmas.Bool.{cases_Bool, eqb-true}
 use Rattle.std.proofs.lemmas.List.Elements.{Contains-push_cases}
-use Rattle.domain_base.specs.declared.place.Home.{Home}
-use Rattle.domain_base.specs.declared.place.Tag.{Tag}
-use Rattle.domain_base.specs.declared.version.Version.{Version}
-use Rattle.page_store.specs.Pages.{Pages}
-use Rattle.log_ring.specs.Homes.{IsMember}
-use Rattle.tag_dirs.specs.declared.dir.TagPlace.{TagPlace}
-use Rattle.tag_dirs.specs.Directory.{has_home}
-use Rattle.free_cells.specs.Cells.{Cells, is_closed, table_of}
-use Rattle.free_space.specs.Spaces.{CanTake, Spaces, change_volume, volume_of}
-use Rattle.free_space.specs.VolumeSpace.{IsFreePage, VolumeSpace, with_page}
-use Rattle.bitfile_cells.specs.MapChanges.{TakesOne}
-use Rattle.bitfile_cells.proofs.Spaces.{can_before}
-use Rattle.bitfile_core.specs.Files.{Chains}
-use Rattle.deferred_delete.specs.Standing.{Files}
-use Rattle.deferred_laws.specs.Calls.{Call, FilesetNow, Gives, Makes, cut, described, dropped, given, indexed, made, moved, put_in, refused}
-use Rattle.deferred_laws.proofs.MakeWell.{one_home_more}
-use Rattle.deferred_laws.proofs.OtherPages.{call_pages}
-use Rattle.layout_laws.proofs.Reached.{member_or_none}
+use Rattle.domain_standing.specs.domain_base.declared.place.Home.{Home}
+use Rattle.domain_standing.specs.domain_base.declared.place.Tag.{Tag}
+use Rattle.domain_standing.specs.domain_base.declared.version.Version.{Version}
+use Rattle.domain_standing.specs.page_store.Pages.{Pages}
+use Rattle.domain_standing.specs.log_ring.Homes.{IsMember}
+use Rattle.domain_standing.specs.tag_dirs.declared.dir.TagPlace.{TagPlace}
+use Rattle.domain_standing.specs.tag_dirs.Directory.{has_home}
+use Rattle.domain_standing.specs.free_cells.Cells.{Cells, is_closed, table_of}
+use Rattle.domain_standing.specs.free_space.Spaces.{CanTake, Spaces, change_volume, volume_of}
+use Rattle.domain_standing.specs.free_space.VolumeSpace.{IsFreePage, VolumeSpace, with_page}
+use Rattle.domain_standing.specs.file_chains.MapChanges.{TakesOne}
+use Rattle.domain_standing.proofs.OfFileChains.Spaces.{can_before}
+use Rattle.domain_standing.specs.fileset_files.Files.{Chains}
+use Rattle.domain_standing.specs.release_list.Standing.{Files}
+use Rattle.domain_standing.specs.release_steps.Calls.{Call, FilesetNow, Gives, Makes, cut, described, dropped, given, indexed, made, moved, put_in, refused}
+use Rattle.domain_standing.proofs.OfReleaseSteps.MakeWell.{one_home_more}
+use Rattle.domain_standing.proofs.OfReleaseSteps.OtherPages.{call_pages}
+use Rattle.domain_standing.proofs.OfDomainLayout.Reached.{member_or_none}
 use Rattle.domain_standing.specs.Chains.{IndexesAt}
 use Rattle.domain_standing.specs.Domain.{DomainNow}
 use Rattle.domain_standing.specs.Holders.{AreHeldAt, Holder, Holds, HoldsOwned, IsUnheld}

@@ -1,11 +1,11 @@
 -- The limits of a whole fileset, set in the slot of an original.
 use Rattle.std.specs.Prelude.{◌≡◌, ℕ, Some, IsSomeAnd}
-use Rattle.domain_base.specs.declared.place.Home.{Home}
-use Rattle.fileset_model.specs.declared.fileset.Limits.{Limits}
-use Rattle.fileset_table.specs.Page.{IsTablePage}
-use Rattle.fileset_table.specs.Table.{with_slot}
-use Rattle.fileset_table.specs.declared.slot.FilesetEntry.{FilesetEntry}
-use Rattle.fileset_table.specs.declared.slot.SlotItem.TheVariants as slot
+use Rattle.domain_standing.specs.domain_base.declared.place.Home.{Home}
+use Rattle.domain_standing.specs.fileset_model.declared.fileset.Limits.{Limits}
+use Rattle.domain_standing.specs.fileset_table.Page.{IsTablePage}
+use Rattle.domain_standing.specs.fileset_table.Table.{with_slot}
+use Rattle.domain_standing.specs.fileset_table.declared.slot.FilesetEntry.{FilesetEntry}
+use Rattle.domain_standing.specs.fileset_table.declared.slot.SlotItem.TheVariants as slot
 use Rattle.domain_standing.specs.Domain.{DomainNow, item_in}
 
 -- the slot's entry with these limits

@@ -1,20 +1,20 @@
 -- Calls on one tag of an original, as changes of a domain that stands.
 use Rattle.std.specs.Prelude.{◌≡◌, ◌≤◌, ℕ, Option, Some, IsSomeAnd, List}
 use Rattle.std.specs.Option.{option_and_then}
-use Rattle.domain_base.specs.declared.place.Kind.{Kind}
-use Rattle.domain_base.specs.declared.place.Kind.TheVariants.{Directory}
-use Rattle.domain_base.specs.declared.place.Tag.{Tag}
-use Rattle.domain_base.specs.declared.version.Version.{Version}
-use Rattle.bmt_mcells.specs.Chain.{PlacedCell}
-use Rattle.extent_maps.specs.declared.run.PagePlace.TheVariants.{Absent}
-use Rattle.bitfile_cells.specs.Files.{places_of}
-use Rattle.bitfile_core.specs.Changes.{CanSay}
-use Rattle.bitfile_core.specs.Files.{Chains, attributes_of, of_live}
-use Rattle.bitfile_core.specs.Truncation.{IsLowered}
-use Rattle.fileset_table.specs.declared.slot.FilesetEntry.{FilesetEntry}
-use Rattle.fileset_table.specs.declared.slot.SlotItem.TheVariants as slot
-use Rattle.deferred_delete.specs.Standing.{Files}
-use Rattle.deferred_laws.specs.Calls.{Call, FilesetNow, StandsWell, cut, described, dropped, given, indexed, made, moved, put_in, refused}
+use Rattle.domain_standing.specs.domain_base.declared.place.Kind.{Kind}
+use Rattle.domain_standing.specs.domain_base.declared.place.Kind.TheVariants.{Directory}
+use Rattle.domain_standing.specs.domain_base.declared.place.Tag.{Tag}
+use Rattle.domain_standing.specs.domain_base.declared.version.Version.{Version}
+use Rattle.domain_standing.specs.metadata_cells.Chain.{PlacedCell}
+use Rattle.domain_standing.specs.extent_maps.declared.run.PagePlace.TheVariants.{Absent}
+use Rattle.domain_standing.specs.file_chains.Files.{places_of}
+use Rattle.domain_standing.specs.fileset_files.Changes.{CanSay}
+use Rattle.domain_standing.specs.fileset_files.Files.{Chains, attributes_of, of_live}
+use Rattle.domain_standing.specs.fileset_files.Truncation.{IsLowered}
+use Rattle.domain_standing.specs.fileset_table.declared.slot.FilesetEntry.{FilesetEntry}
+use Rattle.domain_standing.specs.fileset_table.declared.slot.SlotItem.TheVariants as slot
+use Rattle.domain_standing.specs.release_list.Standing.{Files}
+use Rattle.domain_standing.specs.release_steps.Calls.{Call, FilesetNow, StandsWell, cut, described, dropped, given, indexed, made, moved, put_in, refused}
 use Rattle.domain_standing.specs.Chains.{IndexesAt, StandChains}
 use Rattle.domain_standing.specs.Domain.{DomainNow, all_of, item_in}
 use Rattle.domain_standing.specs.Holders.{HoldsOwned}

@@ -1,8 +1,8 @@
 -- Calls on a file by which nothing of it is left to be done anew.
 use Rattle.std.specs.Prelude.{◌≡◌, ℕ, None}
-use Rattle.domain_base.specs.declared.place.Tag.{Tag}
-use Rattle.domain_base.specs.declared.version.Version.{Version}
-use Rattle.deferred_laws.specs.Calls.{Call, FilesetNow, cut, dropped}
+use Rattle.domain_standing.specs.domain_base.declared.place.Tag.{Tag}
+use Rattle.domain_standing.specs.domain_base.declared.version.Version.{Version}
+use Rattle.domain_standing.specs.release_steps.Calls.{Call, FilesetNow, cut, dropped}
 
 -- the file is not dropped, and none of its pages comes to be stale
 abbrev pub LeavesNothing : (number : ℕ) (version : Version) (tag : Tag) (old new : FilesetNow)

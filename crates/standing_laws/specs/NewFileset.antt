@@ -1,21 +1,21 @@
 -- A fileset that begins: an original joins the table, with one page that was free as its tag
 -- directory.
 use Rattle.std.specs.Prelude.{◌≡◌, ◌≤◌, ◌∷◌, ℕ, [], None, Some, IsSomeAnd}
-use Rattle.domain_base.specs.declared.place.Home.{Home}
-use Rattle.domain_base.specs.declared.place.Kind.TheVariants as kind
-use Rattle.tag_dirs.specs.TagPage.{IsNewPage}
-use Rattle.free_space.specs.Spaces.{CanTake, change_volume}
-use Rattle.free_space.specs.VolumeSpace.{with_page}
-use Rattle.bitfile_core.specs.declared.new_cells.NewFile.{NewFile}
-use Rattle.bitfile_core.specs.Files.{Chains}
-use Rattle.fileset_model.specs.Apply.{empty_fileset}
-use Rattle.fileset_model.specs.declared.fileset.FilesetSlot.{FilesetSlot}
-use Rattle.fileset_model.specs.declared.fileset.Role.TheVariants as role
-use Rattle.fileset_table.specs.Page.{IsTablePage}
-use Rattle.fileset_table.specs.Table.{with_slot}
-use Rattle.fileset_table.specs.declared.slot.FilesetEntry.{FilesetEntry}
-use Rattle.fileset_table.specs.declared.slot.SlotItem.TheVariants as slot
-use Rattle.name_space.specs.Names.{number_of, root_tag}
+use Rattle.domain_standing.specs.domain_base.declared.place.Home.{Home}
+use Rattle.domain_standing.specs.domain_base.declared.place.Kind.TheVariants as kind
+use Rattle.domain_standing.specs.tag_dirs.TagPage.{IsNewPage}
+use Rattle.domain_standing.specs.free_space.Spaces.{CanTake, change_volume}
+use Rattle.domain_standing.specs.free_space.VolumeSpace.{with_page}
+use Rattle.domain_standing.specs.fileset_files.declared.new_cells.NewFile.{NewFile}
+use Rattle.domain_standing.specs.fileset_files.Files.{Chains}
+use Rattle.domain_standing.specs.fileset_model.Apply.{empty_fileset}
+use Rattle.domain_standing.specs.fileset_model.declared.fileset.FilesetSlot.{FilesetSlot}
+use Rattle.domain_standing.specs.fileset_model.declared.fileset.Role.TheVariants as role
+use Rattle.domain_standing.specs.fileset_table.Page.{IsTablePage}
+use Rattle.domain_standing.specs.fileset_table.Table.{with_slot}
+use Rattle.domain_standing.specs.fileset_table.declared.slot.FilesetEntry.{FilesetEntry}
+use Rattle.domain_standing.specs.fileset_table.declared.slot.SlotItem.TheVariants as slot
+use Rattle.domain_standing.specs.name_space.Names.{number_of, root_tag}
 use Rattle.domain_standing.specs.Domain.{DomainNow, item_in}
 
 -- no tag names a file

@@ -1,21 +1,21 @@
 -- An owner's limits, set in the fileset of a slot, as a change of a domain that stands.
 use Rattle.std.specs.Prelude.{◌≡◌, ℕ, Some, IsSomeAnd, Contains, if◌then◌else◌}
-use Rattle.domain_base.specs.declared.place.CellAt.{CellAt}
-use Rattle.domain_base.specs.declared.place.Home.{Home}
-use Rattle.free_cells.specs.Cells.{table_of}
-use Rattle.fileset_model.specs.Usage.{with_limits}
-use Rattle.fileset_model.specs.declared.command.Owner.{Owner}
-use Rattle.fileset_model.specs.declared.command.Owner.TheVariants as owner
-use Rattle.fileset_model.specs.declared.fileset.FilesetSlot.{FilesetSlot}
-use Rattle.fileset_model.specs.declared.fileset.Limits.{Limits}
-use Rattle.fileset_table.specs.Page.{IsTablePage}
-use Rattle.fileset_table.specs.Table.{with_slot}
-use Rattle.fileset_table.specs.declared.slot.FilesetEntry.{FilesetEntry}
-use Rattle.fileset_table.specs.declared.slot.SlotItem.TheVariants as slot
-use Rattle.quota_book.specs.Owners.{same_owner}
-use Rattle.deferred_delete.specs.Standing.{Files}
-use Rattle.quota_laws.specs.Setting.{SetsIn}
-use Rattle.domain_layout.specs.Shape.{FilesetShape}
+use Rattle.domain_standing.specs.domain_base.declared.place.CellAt.{CellAt}
+use Rattle.domain_standing.specs.domain_base.declared.place.Home.{Home}
+use Rattle.domain_standing.specs.free_cells.Cells.{table_of}
+use Rattle.domain_standing.specs.fileset_model.Usage.{with_limits}
+use Rattle.domain_standing.specs.fileset_values.declared.command.Owner.{Owner}
+use Rattle.domain_standing.specs.fileset_values.declared.command.Owner.TheVariants as owner
+use Rattle.domain_standing.specs.fileset_model.declared.fileset.FilesetSlot.{FilesetSlot}
+use Rattle.domain_standing.specs.fileset_model.declared.fileset.Limits.{Limits}
+use Rattle.domain_standing.specs.fileset_table.Page.{IsTablePage}
+use Rattle.domain_standing.specs.fileset_table.Table.{with_slot}
+use Rattle.domain_standing.specs.fileset_table.declared.slot.FilesetEntry.{FilesetEntry}
+use Rattle.domain_standing.specs.fileset_table.declared.slot.SlotItem.TheVariants as slot
+use Rattle.domain_standing.specs.quota_book.Owners.{same_owner}
+use Rattle.domain_standing.specs.release_list.Standing.{Files}
+use Rattle.domain_standing.specs.release_steps.Setting.{SetsIn}
+use Rattle.domain_standing.specs.domain_layout.Shape.{FilesetShape}
 use Rattle.domain_standing.specs.Domain.{DomainNow, all_of, item_in}
 
 -- limits are set in the chain that the slot of an original names, or in one that begins so, which

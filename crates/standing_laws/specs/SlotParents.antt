@@ -1,21 +1,21 @@
 -- What the directories of one slot of a domain say of the ones in which they stand.
 use Rattle.std.specs.Prelude.{◌≡◌, ℕ, false, List, None, Some}
-use Rattle.domain_base.specs.declared.place.Kind.TheVariants.{Directory}
-use Rattle.domain_base.specs.declared.place.Tag.{Tag}
-use Rattle.page_store.specs.Bitfiles.{same_tag}
-use Rattle.extent_maps.specs.declared.run.PagePlace.TheVariants.{Absent}
-use Rattle.bmt_mcells.specs.Chain.{PlacedCell}
-use Rattle.bitfile_cells.specs.Files.{places_of}
-use Rattle.bitfile_core.specs.Creation.{root_tag}
-use Rattle.bitfile_core.specs.Files.{AreFiles, Chains}
-use Rattle.bitfile_core.specs.State.{parent_of}
-use Rattle.fileset_model.specs.declared.fileset.FilesetSlot.{FilesetSlot}
-use Rattle.fileset_table.specs.declared.slot.FilesetEntry.{FilesetEntry}
-use Rattle.fileset_table.specs.declared.slot.SlotItem.TheVariants as slot
-use Rattle.domain_layout.specs.CellRules.{of_clone}
-use Rattle.domain_layout.specs.DirectoryRules.{Has, HasWrongParent}
-use Rattle.domain_layout.specs.Seen.{SeenFile}
-use Rattle.domain_layout.specs.Shape.{FilesetShape}
+use Rattle.domain_standing.specs.domain_base.declared.place.Kind.TheVariants.{Directory}
+use Rattle.domain_standing.specs.domain_base.declared.place.Tag.{Tag}
+use Rattle.domain_standing.specs.page_store.Bitfiles.{same_tag}
+use Rattle.domain_standing.specs.extent_maps.declared.run.PagePlace.TheVariants.{Absent}
+use Rattle.domain_standing.specs.metadata_cells.Chain.{PlacedCell}
+use Rattle.domain_standing.specs.file_chains.Files.{places_of}
+use Rattle.domain_standing.specs.fileset_files.Creation.{root_tag}
+use Rattle.domain_standing.specs.fileset_files.Files.{AreFiles, Chains}
+use Rattle.domain_standing.specs.fileset_files.State.{parent_of}
+use Rattle.domain_standing.specs.fileset_model.declared.fileset.FilesetSlot.{FilesetSlot}
+use Rattle.domain_standing.specs.fileset_table.declared.slot.FilesetEntry.{FilesetEntry}
+use Rattle.domain_standing.specs.fileset_table.declared.slot.SlotItem.TheVariants as slot
+use Rattle.domain_standing.specs.domain_layout.CellRules.{of_clone}
+use Rattle.domain_standing.specs.domain_layout.DirectoryRules.{Has, HasWrongParent}
+use Rattle.domain_standing.specs.domain_layout.Seen.{SeenFile}
+use Rattle.domain_standing.specs.domain_layout.Shape.{FilesetShape}
 use Rattle.domain_standing.specs.Domain.{DomainNow, item_in}
 use Rattle.standing_laws.specs.Slots.{StandsSlot}
 

@@ -1,12 +1,12 @@
 -- The fileset of one slot of a domain, and what a change elsewhere leaves of its bytes.
 use Rattle.std.specs.Prelude.{◌≡◌, ℕ, Some}
-use Rattle.fileset_model.specs.declared.fileset.FilesetSlot.{FilesetSlot}
-use Rattle.fileset_table.specs.declared.slot.FilesetEntry.{FilesetEntry}
-use Rattle.fileset_table.specs.declared.slot.SlotItem.TheVariants as slot
-use Rattle.domain_standing.specs.Sets.{StandsAsSet}
-use Rattle.domain_layout.specs.Filled.{Fills}
-use Rattle.domain_layout.specs.Shape.{FilesetShape, IsOriginal, Shapes}
-use Rattle.layout_laws.specs.Agreeing.{AgreeOnShape}
+use Rattle.domain_standing.specs.fileset_model.declared.fileset.FilesetSlot.{FilesetSlot}
+use Rattle.domain_standing.specs.fileset_table.declared.slot.FilesetEntry.{FilesetEntry}
+use Rattle.domain_standing.specs.fileset_table.declared.slot.SlotItem.TheVariants as slot
+use Rattle.domain_standing.specs.stored_set.Sets.{StandsAsSet}
+use Rattle.domain_standing.specs.domain_layout.Filled.{Fills}
+use Rattle.domain_standing.specs.domain_layout.Shape.{FilesetShape, IsOriginal, Shapes}
+use Rattle.domain_standing.specs.domain_layout.Agreeing.{AgreeOnShape}
 use Rattle.domain_standing.specs.Domain.{DomainNow, item_in}
 
 -- an original in a slot stands for this fileset: its pages have this shape, which is filled so, and

@@ -1,19 +1,19 @@
 -- The pages, chains and indexes of one slot of a domain, which a change elsewhere leaves as they
 -- were.
 use Rattle.std.specs.Prelude.{◌≡◌, ◌⊎◌, ◌≤◌, ℕ, true, IfSome, Some, slice_get}
-use Rattle.domain_base.specs.declared.place.CellAt.{CellAt}
-use Rattle.domain_base.specs.declared.place.Home.{Home}
-use Rattle.domain_base.specs.declared.place.Tag.{Tag}
-use Rattle.tag_dirs.specs.Directory.{cell_of, has_home}
-use Rattle.extent_maps.specs.declared.run.PagePlace.TheVariants.{At}
-use Rattle.free_space.specs.Spaces.{IsHeld}
-use Rattle.fileset_model.specs.declared.fileset.FilesetSlot.{FilesetSlot}
-use Rattle.fileset_table.specs.Table.{entry_of}
-use Rattle.fileset_table.specs.declared.slot.FilesetEntry.{FilesetEntry}
-use Rattle.fileset_table.specs.declared.slot.SlotItem.{SlotItem}
-use Rattle.fileset_table.specs.declared.slot.SlotItem.TheVariants as slot
-use Rattle.deferred_delete.specs.Standing.{Files, place_in}
-use Rattle.domain_layout.specs.Shape.{FilesetShape}
+use Rattle.domain_standing.specs.domain_base.declared.place.CellAt.{CellAt}
+use Rattle.domain_standing.specs.domain_base.declared.place.Home.{Home}
+use Rattle.domain_standing.specs.domain_base.declared.place.Tag.{Tag}
+use Rattle.domain_standing.specs.tag_dirs.Directory.{cell_of, has_home}
+use Rattle.domain_standing.specs.extent_maps.declared.run.PagePlace.TheVariants.{At}
+use Rattle.domain_standing.specs.free_space.Spaces.{IsHeld}
+use Rattle.domain_standing.specs.fileset_model.declared.fileset.FilesetSlot.{FilesetSlot}
+use Rattle.domain_standing.specs.fileset_table.Table.{entry_of}
+use Rattle.domain_standing.specs.fileset_table.declared.slot.FilesetEntry.{FilesetEntry}
+use Rattle.domain_standing.specs.fileset_table.declared.slot.SlotItem.{SlotItem}
+use Rattle.domain_standing.specs.fileset_table.declared.slot.SlotItem.TheVariants as slot
+use Rattle.domain_standing.specs.release_list.Standing.{Files, place_in}
+use Rattle.domain_standing.specs.domain_layout.Shape.{FilesetShape}
 use Rattle.domain_standing.specs.Chains.{IndexesAt, IsQuotaOf}
 use Rattle.domain_standing.specs.Domain.{DomainNow, item_in}
 use Rattle.standing_laws.specs.Slots.{StandsSlot}

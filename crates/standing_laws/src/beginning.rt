@@ -1,16 +1,16 @@
-//! Filesets that begin.
+//! A fileset that begins.
 ghost use Rattle.std.specs.Prelude.{◌≡◌, ◌≤◌, ℕ};
 ghost use Rattle.std.specs.FinMap.{insert};
-ghost use Rattle.domain_base.specs.declared.place.CellAt.{CellAt};
-ghost use Rattle.domain_base.specs.declared.place.Home.{Home};
-ghost use Rattle.extent_maps.specs.declared.run.PagePlace.TheVariants.{At};
-ghost use Rattle.bitfile_core.specs.Creation.{root_tag};
-ghost use Rattle.bitfile_core.specs.Files.{Chains};
-ghost use Rattle.fileset_model.specs.Filesets.{FilesetMap};
-ghost use Rattle.fileset_table.specs.declared.slot.FilesetEntry.{FilesetEntry};
-ghost use Rattle.deferred_delete.specs.Standing.{Files, place_in};
-ghost use Rattle.deferred_laws.specs.Calls.{Makes, StandsWell};
-ghost use Rattle.domain_layout.specs.Shape.{FilesetShape};
+ghost use Rattle.domain_standing.specs.domain_base.declared.place.CellAt.{CellAt};
+ghost use Rattle.domain_standing.specs.domain_base.declared.place.Home.{Home};
+ghost use Rattle.domain_standing.specs.extent_maps.declared.run.PagePlace.TheVariants.{At};
+ghost use Rattle.domain_standing.specs.fileset_files.Creation.{root_tag};
+ghost use Rattle.domain_standing.specs.fileset_files.Files.{Chains};
+ghost use Rattle.domain_standing.specs.fileset_model.Filesets.{FilesetMap};
+ghost use Rattle.domain_standing.specs.fileset_table.declared.slot.FilesetEntry.{FilesetEntry};
+ghost use Rattle.domain_standing.specs.release_list.Standing.{Files, place_in};
+ghost use Rattle.domain_standing.specs.release_steps.Calls.{Makes, StandsWell};
+ghost use Rattle.domain_standing.specs.domain_layout.Shape.{FilesetShape};
 ghost use Rattle.domain_standing.specs.Chains.{IndexesAt};
 ghost use Rattle.domain_standing.specs.Domain.{DomainNow};
 ghost use Rattle.domain_standing.specs.Slots.{StandSlots};
@@ -19,8 +19,8 @@ ghost use Rattle.standing_laws.specs.Leads.{StandsBelow, fileset_now};
 ghost use Rattle.standing_laws.specs.NewFileset.{IsPlainRoot, JoinsEmpty, SetsNoLimit, empty_slot, no_chains};
 ghost use Rattle.standing_laws.specs.Slots.{StandsSlot};
 
-/// Where an original joins the table whose tag directory is one new page, the domain stands on, and
-/// calls on the tags of the original may follow, of which none names a file yet.
+/// If an original whose tag directory is one new page joins the table, the domain stands on. Calls
+/// on the original's tags may follow; none of them names a file yet.
 pub fn an_empty_fileset_begins()
     ensures { (number : ℕ) (entry : FilesetEntry) (d now : DomainNow) (files : Files)
         (indexes : IndexesAt) → StandsBelow d files indexes → JoinsEmpty number entry d now
@@ -28,7 +28,7 @@ pub fn an_empty_fileset_begins()
         × StandsWell number (fileset_now now number no_chains files) }
 {}
 
-/// And it stands on once the original's root is made.
+/// It also stands on once the original's root is made.
 pub fn a_fileset_begins()
     ensures { (number : ℕ) (entry : FilesetEntry) (d joined now : DomainNow) (chains_now : Chains)
         (files files_now : Files) (indexes : IndexesAt) → StandsBelow d files indexes
@@ -41,8 +41,8 @@ pub fn a_fileset_begins()
         → StandsBelow now files_now indexes }
 {}
 
-/// Where that root is a directory of user 0 and group 0 and the original sets no limits, it stands
-/// then for the fileset with nothing but an empty root.
+/// If that root is a directory of user 0 and group 0 and the original sets no limits, it then
+/// stands for the fileset with nothing but an empty root.
 pub fn the_fileset_that_begins_is_empty()
     ensures { (number : ℕ) (entry : FilesetEntry) (d joined now : DomainNow) (chains_now : Chains)
         (files files_now : Files) (indexes : IndexesAt) → StandsBelow d files indexes
@@ -56,8 +56,8 @@ pub fn the_fileset_that_begins_is_empty()
         → (shape : FilesetShape) × StandsSlot now number entry shape empty_slot }
 {}
 
-/// And the domain stands for that one beside all others, where pages of files keep their bytes and,
-/// while the original joins the table, each page does that does not change.
+/// The domain then stands for that fileset beside all others, if pages of files keep their bytes
+/// and, while the original joins the table, each unchanged page does.
 pub fn filesets_stand_on_where_one_begins()
     ensures { (number : ℕ) (entry : FilesetEntry) (d joined now : DomainNow) (chains_now : Chains)
         (files files_now : Files) (indexes : IndexesAt) → StandsBelow d files indexes

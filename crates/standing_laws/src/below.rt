@@ -1,22 +1,22 @@
-//! All of a domain that stands, but for its filesets.
+//! All of a domain that stands, except its filesets.
 ghost use Rattle.std.specs.Option.{option_and_then};
 ghost use Rattle.std.specs.Prelude.{◌≡◌, ℕ, Option, Some};
-ghost use Rattle.domain_base.specs.declared.place.CellAt.{CellAt};
-ghost use Rattle.domain_base.specs.declared.place.Tag.{Tag};
-ghost use Rattle.fileset_model.specs.Filesets.{FilesetMap};
-ghost use Rattle.bitfile_core.specs.Files.{Chains};
-ghost use Rattle.deferred_delete.specs.Listed.{IsEntry};
-ghost use Rattle.deferred_delete.specs.Listing.{Adds, Listing};
-ghost use Rattle.deferred_delete.specs.Standing.{Files};
-ghost use Rattle.deferred_laws.specs.Tags.{start_of};
+ghost use Rattle.domain_standing.specs.domain_base.declared.place.CellAt.{CellAt};
+ghost use Rattle.domain_standing.specs.domain_base.declared.place.Tag.{Tag};
+ghost use Rattle.domain_standing.specs.fileset_model.Filesets.{FilesetMap};
+ghost use Rattle.domain_standing.specs.fileset_files.Files.{Chains};
+ghost use Rattle.domain_standing.specs.release_list.Listed.{IsEntry};
+ghost use Rattle.domain_standing.specs.release_list.Listing.{Adds, Listing};
+ghost use Rattle.domain_standing.specs.release_list.Standing.{Files};
+ghost use Rattle.domain_standing.specs.release_steps.Tags.{start_of};
 ghost use Rattle.domain_standing.specs.Chains.{IndexesAt, IsToDo};
 ghost use Rattle.domain_standing.specs.Domain.{DomainNow};
 ghost use Rattle.domain_standing.specs.Slots.{StandSlots};
 ghost use Rattle.standing_laws.specs.Leads.{LeadsOn, StandsBelow, fileset_now};
 ghost use Rattle.standing_laws.specs.Left.{LeavesNothing};
 
-/// All of a domain but its filesets stands on after a call by which nothing of its file is left to
-/// be let go of: so the next call may follow.
+/// All of a domain except its filesets stands on after a call that leaves nothing of its file to be
+/// let go of, so the next call may follow.
 pub fn all_below_stands_on()
     ensures { (number : ℕ) (tag : Tag) (d now : DomainNow) (chains chains_now : Chains)
         (files files_now : Files) (indexes : IndexesAt) → StandsBelow d files indexes
@@ -26,7 +26,7 @@ pub fn all_below_stands_on()
         → StandsBelow now files_now indexes }
 {}
 
-/// Where something is left, it stands on once an entry of the file is put on the list.
+/// If the call leaves something, the domain stands on once an entry of the file is put on the list.
 pub fn all_below_stands_on_where_a_file_is_listed()
     ensures { (number : ℕ) (tag : Tag) (d now : DomainNow) (chains chains_now : Chains)
         (files files_now : Files) (indexes : IndexesAt) → StandsBelow d files indexes

@@ -1,21 +1,21 @@
-//! What is asked of a domain beside what stands, between two commands: the bits of its bitmaps,
-//! what directories say of their parents, and books.
+//! What else is asked of a domain that stands, between two commands: the bits of its bitmaps, what
+//! directories say of their parents, and books.
 ghost use Rattle.std.specs.Prelude.{◌≡◌, ◌≤◌, ℕ, Some};
 ghost use Rattle.std.specs.FinMap.{get, insert};
-ghost use Rattle.domain_base.specs.declared.place.Home.{Home};
-ghost use Rattle.domain_base.specs.declared.place.Kind.TheVariants.{Directory};
-ghost use Rattle.domain_base.specs.declared.place.Tag.{Tag};
-ghost use Rattle.bitfile_core.specs.Creation.{LeavesBeside, root_tag};
-ghost use Rattle.bitfile_core.specs.Files.{Chains};
-ghost use Rattle.fileset_model.specs.Filesets.{FilesetMap};
-ghost use Rattle.fileset_model.specs.Usage.{with_limits};
-ghost use Rattle.fileset_model.specs.declared.fileset.FilesetSlot.{FilesetSlot};
-ghost use Rattle.fileset_table.specs.declared.slot.FilesetEntry.{FilesetEntry};
-ghost use Rattle.free_space.specs.Spaces.{Spaces};
-ghost use Rattle.quota_book.specs.Book.{Book, empty_book};
-ghost use Rattle.quota_book.specs.Sums.{IsBookOf};
-ghost use Rattle.deferred_delete.specs.Standing.{Files};
-ghost use Rattle.deferred_laws.specs.Calls.{Makes};
+ghost use Rattle.domain_standing.specs.domain_base.declared.place.Home.{Home};
+ghost use Rattle.domain_standing.specs.domain_base.declared.place.Kind.TheVariants.{Directory};
+ghost use Rattle.domain_standing.specs.domain_base.declared.place.Tag.{Tag};
+ghost use Rattle.domain_standing.specs.fileset_files.Creation.{LeavesBeside, root_tag};
+ghost use Rattle.domain_standing.specs.fileset_files.Files.{Chains};
+ghost use Rattle.domain_standing.specs.fileset_model.Filesets.{FilesetMap};
+ghost use Rattle.domain_standing.specs.fileset_model.Usage.{with_limits};
+ghost use Rattle.domain_standing.specs.fileset_model.declared.fileset.FilesetSlot.{FilesetSlot};
+ghost use Rattle.domain_standing.specs.fileset_table.declared.slot.FilesetEntry.{FilesetEntry};
+ghost use Rattle.domain_standing.specs.free_space.Spaces.{Spaces};
+ghost use Rattle.domain_standing.specs.quota_book.Book.{Book, empty_book};
+ghost use Rattle.domain_standing.specs.quota_book.Sums.{IsBookOf};
+ghost use Rattle.domain_standing.specs.release_list.Standing.{Files};
+ghost use Rattle.domain_standing.specs.release_steps.Calls.{Makes};
 ghost use Rattle.domain_standing.specs.Chains.{IndexesAt};
 ghost use Rattle.domain_standing.specs.Domain.{DomainNow};
 ghost use Rattle.domain_standing.specs.Slots.{StandSlots};
@@ -29,14 +29,14 @@ ghost use Rattle.standing_laws.specs.SetsQuota.{SetsQuota, fileset_limited};
 ghost use Rattle.standing_laws.specs.SlotParents.{HasOnlyRoot, HaveParentsIn, StandsForSome};
 ghost use Rattle.standing_laws.specs.SlotsStay.{PutsFileset};
 
-/// Bits say what they said, of whatever free space, where the first pages of volumes stay.
+/// Bits say what they said, of whatever free space, if the first pages of volumes stay.
 pub fn bits_stay_where_volumes_keep_their_pages()
     ensures { (d now : DomainNow) → StandTables d → now.frame ≡ d.frame → KeepsVolumes d now
         → (space : Spaces) → IsMarkedBut (record d { space = space })
         → IsMarkedBut (record now { space = space }) }
 {}
 
-/// So where a fileset begins.
+/// Bits say what they said if a fileset begins.
 pub fn bits_stay_where_a_fileset_begins()
     ensures { (number : ℕ) (entry : FilesetEntry) (d now : DomainNow) (files : Files)
         (indexes : IndexesAt) → StandsBelow d files indexes → JoinsEmpty number entry d now
@@ -44,7 +44,7 @@ pub fn bits_stay_where_a_fileset_begins()
         → IsMarkedBut (record now { space = space }) }
 {}
 
-/// So where one begins to be removed.
+/// Bits say what they said if the removal of a fileset begins.
 pub fn bits_stay_where_a_fileset_begins_to_go()
     ensures { (number : ℕ) (entry : FilesetEntry) (d now : DomainNow) (files : Files)
         (indexes : IndexesAt) → StandsBelow d files indexes → BeginsToGo number entry d now
@@ -52,7 +52,7 @@ pub fn bits_stay_where_a_fileset_begins_to_go()
         → IsMarkedBut (record now { space = space }) }
 {}
 
-/// So where an owner's limits are set.
+/// Bits say what they said if an owner's limits are set.
 pub fn bits_stay_where_limits_are_set()
     ensures { (number : ℕ) (d now : DomainNow) (files files_now : Files) (indexes : IndexesAt)
         → StandsBelow d files indexes → SetsQuota number d now files files_now
@@ -60,7 +60,8 @@ pub fn bits_stay_where_limits_are_set()
         → IsMarkedBut (record now { space = space }) }
 {}
 
-/// So where tables of cells change and the tag directory of one slot, as where a root is made.
+/// Bits say what they said if tables of cells and the tag directory of one slot change, as when a
+/// root is made.
 pub fn bits_stay_where_cells_and_tags_change()
     ensures { (number : ℕ) (d now : DomainNow) (files : Files) (indexes : IndexesAt)
         → StandTables d → StandsBelow now files indexes → now.frame ≡ d.frame
@@ -69,7 +70,7 @@ pub fn bits_stay_where_cells_and_tags_change()
         → IsMarkedBut (record now { space = space }) }
 {}
 
-/// So once the root of a fileset that begins is made.
+/// Bits say what they said once the root of a fileset that begins is made.
 pub fn bits_stay_where_a_root_is_made()
     ensures { (number : ℕ) (entry : FilesetEntry) (d joined now : DomainNow) (chains_now : Chains)
         (files files_now : Files) (indexes : IndexesAt) → StandsBelow d files indexes
@@ -83,15 +84,15 @@ pub fn bits_stay_where_a_root_is_made()
         → IsMarkedBut (record now { space = space }) }
 {}
 
-/// Each directory says still the one in which its row stands, where an original joins the table
-/// that has no file yet.
+/// Each directory still says the one in which its row stands if an original that has no file yet
+/// joins the table.
 pub fn parents_stay_where_a_fileset_begins()
     ensures { (number : ℕ) (entry : FilesetEntry) (d now : DomainNow) (files : Files)
         (indexes : IndexesAt) (all : FilesetMap) → StandsBelow d files indexes → StandSlots d all
         → JoinsEmpty number entry d now → HaveParents d → HaveParents now }
 {}
 
-/// Directories of another slot do so after a call on a tag.
+/// Directories of another slot still say those in which they stand after a call on a tag.
 pub fn parents_stay_in_other_slots()
     ensures { (number : ℕ) (tag : Tag) (d now : DomainNow) (chains chains_now : Chains)
         (files files_now : Files) (indexes : IndexesAt) → StandsBelow d files indexes
@@ -100,7 +101,7 @@ pub fn parents_stay_in_other_slots()
         → HaveParentsIn other now }
 {}
 
-/// A root alone that says itself stands where it says.
+/// A single root that says itself stands where it says.
 pub fn a_root_alone_stands_in_itself()
     ensures { (number : ℕ) (d : DomainNow) → StandTables d → HasOnlyRoot number d
         → HaveParentsIn number d }
@@ -122,22 +123,22 @@ pub fn parents_stay_where_a_root_is_made()
         → HaveParents d → HaveParents now }
 {}
 
-/// So where one begins to be removed.
+/// All directories say those in which they stand if the removal of a fileset begins.
 pub fn parents_stay_where_a_fileset_begins_to_go()
     ensures { (number : ℕ) (entry : FilesetEntry) (d now : DomainNow) (files : Files)
         (indexes : IndexesAt) (all : FilesetMap) → StandsBelow d files indexes → StandSlots d all
         → BeginsToGo number entry d now → HaveParents d → HaveParents now }
 {}
 
-/// So where an owner's limits are set.
+/// All directories say those in which they stand if an owner's limits are set.
 pub fn parents_stay_where_limits_are_set()
     ensures { (number : ℕ) (d now : DomainNow) (files files_now : Files) (indexes : IndexesAt)
         → StandsBelow d files indexes → SetsQuota number d now files files_now
         → (all : FilesetMap) → StandSlots d all → HaveParents d → HaveParents now }
 {}
 
-/// Books are those of their filesets where one slot has another fileset, or a new one, whose book
-/// is its own, and the other books stay.
+/// Books are those of their filesets if one slot has another fileset, or a new one, whose book is
+/// its own, and the other books stay.
 pub fn books_stay_where_a_slot_has_another_fileset()
     ensures { (number : ℕ) (entry : FilesetEntry) (d now : DomainNow) → StandTables now
         → PutsFileset number entry d now → (books books_now : ℕ → Book)
@@ -146,7 +147,7 @@ pub fn books_stay_where_a_slot_has_another_fileset()
         → AreBooksOf books_now now (insert all entry.name fileset) }
 {}
 
-/// So with an empty book for a fileset that begins.
+/// Books are those of their filesets with an empty book for a fileset that begins.
 pub fn books_stay_where_a_fileset_begins()
     ensures { (number : ℕ) (entry : FilesetEntry) (d now : DomainNow) → StandTables now
         → PutsFileset number entry d now → (books books_now : ℕ → Book)
@@ -155,7 +156,7 @@ pub fn books_stay_where_a_fileset_begins()
         → AreBooksOf books_now now (insert all entry.name empty_slot) }
 {}
 
-/// So where an owner's limits are set, in the book too.
+/// Books are those of their filesets if an owner's limits are set, in the book as well.
 pub fn books_stay_where_limits_are_set()
     ensures { (number : ℕ) (d now : DomainNow) (files files_now : Files) (indexes : IndexesAt)
         → StandsBelow d files indexes → StandTables now

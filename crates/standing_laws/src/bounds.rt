@@ -1,16 +1,16 @@
 //! Limits of whole filesets, which stand in the slots of the table.
 ghost use Rattle.std.specs.Prelude.{◌≡◌, ℕ, Some};
 ghost use Rattle.std.specs.FinMap.{get, insert};
-ghost use Rattle.domain_base.specs.declared.place.Home.{Home};
-ghost use Rattle.fileset_model.specs.Filesets.{FilesetMap};
-ghost use Rattle.fileset_model.specs.Usage.{with_limits};
-ghost use Rattle.fileset_model.specs.declared.command.Owner.TheVariants as owner;
-ghost use Rattle.fileset_model.specs.declared.fileset.FilesetSlot.{FilesetSlot};
-ghost use Rattle.fileset_model.specs.declared.fileset.Limits.{Limits};
-ghost use Rattle.fileset_table.specs.declared.slot.FilesetEntry.{FilesetEntry};
-ghost use Rattle.free_space.specs.Spaces.{Spaces};
-ghost use Rattle.quota_book.specs.Book.{Book};
-ghost use Rattle.deferred_delete.specs.Standing.{Files};
+ghost use Rattle.domain_standing.specs.domain_base.declared.place.Home.{Home};
+ghost use Rattle.domain_standing.specs.fileset_model.Filesets.{FilesetMap};
+ghost use Rattle.domain_standing.specs.fileset_model.Usage.{with_limits};
+ghost use Rattle.domain_standing.specs.fileset_values.declared.command.Owner.TheVariants as owner;
+ghost use Rattle.domain_standing.specs.fileset_model.declared.fileset.FilesetSlot.{FilesetSlot};
+ghost use Rattle.domain_standing.specs.fileset_model.declared.fileset.Limits.{Limits};
+ghost use Rattle.domain_standing.specs.fileset_table.declared.slot.FilesetEntry.{FilesetEntry};
+ghost use Rattle.domain_standing.specs.free_space.Spaces.{Spaces};
+ghost use Rattle.domain_standing.specs.quota_book.Book.{Book};
+ghost use Rattle.domain_standing.specs.release_list.Standing.{Files};
 ghost use Rattle.domain_standing.specs.Chains.{IndexesAt};
 ghost use Rattle.domain_standing.specs.Domain.{DomainNow};
 ghost use Rattle.domain_standing.specs.Slots.{StandSlots};
@@ -20,8 +20,8 @@ ghost use Rattle.standing_laws.specs.BoundedFileset.{BoundsFileset};
 ghost use Rattle.standing_laws.specs.Leads.{StandsBelow};
 ghost use Rattle.standing_laws.specs.SetsQuota.{fileset_limited};
 
-/// A domain stands on where the limits of a whole fileset are set, for its filesets, of which that
-/// one has them, where each page keeps its bytes that does not change.
+/// If the limits of a whole fileset are set and each unchanged page keeps its bytes, a domain
+/// stands on for its filesets, with these limits in that fileset.
 pub fn a_domain_stands_on_where_a_fileset_is_bounded()
     ensures { (number : ℕ) (entry : FilesetEntry) (limits : Limits) (d now : DomainNow)
         → BoundsFileset number entry limits d now
@@ -31,7 +31,7 @@ pub fn a_domain_stands_on_where_a_fileset_is_bounded()
         → StandsDomain now (insert all entry.name (fileset_limited owner.Fileset limits fileset)) }
 {}
 
-/// No file comes to be read through another one.
+/// No file starts to be read through another one.
 pub fn files_stand_alone_where_a_fileset_is_bounded()
     ensures { (number : ℕ) (entry : FilesetEntry) (limits : Limits) (d now : DomainNow)
         (files : Files) (indexes : IndexesAt) → StandsBelow d files indexes
@@ -46,7 +46,7 @@ pub fn bits_stay_where_a_fileset_is_bounded()
         → IsMarkedBut (record d { space = space }) → IsMarkedBut (record now { space = space }) }
 {}
 
-/// Each directory says still the one in which its row stands.
+/// Each directory still says the one in which its row stands.
 pub fn parents_stay_where_a_fileset_is_bounded()
     ensures { (number : ℕ) (entry : FilesetEntry) (limits : Limits) (d now : DomainNow)
         (files : Files) (indexes : IndexesAt) → StandsBelow d files indexes
@@ -54,7 +54,7 @@ pub fn parents_stay_where_a_fileset_is_bounded()
         → HaveParents d → HaveParents now }
 {}
 
-/// Books are those of their filesets, where that one's has the limits too.
+/// Books are those of their filesets if the book of that fileset has the limits, too.
 pub fn books_stay_where_a_fileset_is_bounded()
     ensures { (number : ℕ) (entry : FilesetEntry) (limits : Limits) (d now : DomainNow)
         (files : Files) (indexes : IndexesAt) → StandsBelow d files indexes

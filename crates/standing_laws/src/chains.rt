@@ -1,28 +1,28 @@
 //! The chains of cells of a domain.
 ghost use Rattle.std.specs.Prelude.{◌≡◌, ◌⊎◌, ℕ, List, Option, Some, IsSomeAnd, Contains};
 ghost use Rattle.std.specs.Option.{option_and_then};
-ghost use Rattle.domain_base.specs.declared.place.CellAt.{CellAt};
-ghost use Rattle.domain_base.specs.declared.place.Home.{Home};
-ghost use Rattle.domain_base.specs.declared.place.Tag.{Tag};
-ghost use Rattle.bmt_mcells.specs.Cell.{Cell};
-ghost use Rattle.bmt_mcells.specs.Chain.{PlacedCell};
-ghost use Rattle.bitfile_core.specs.Files.{Chains};
-ghost use Rattle.bitfile_core.specs.Shown.{index_of};
-ghost use Rattle.stored_index.specs.Homes.{AreIndexHomes};
-ghost use Rattle.deferred_delete.specs.Listed.{IsEntry};
-ghost use Rattle.deferred_delete.specs.Listing.{Adds, Listing};
-ghost use Rattle.deferred_delete.specs.Standing.{Files};
-ghost use Rattle.deferred_laws.specs.Tags.{start_of};
-ghost use Rattle.domain_layout.specs.CellRules.{IsFirstPlace};
-ghost use Rattle.domain_layout.specs.Layout.{first_tag_of};
-ghost use Rattle.domain_layout.specs.Owners.{IsOnTable};
+ghost use Rattle.domain_standing.specs.domain_base.declared.place.CellAt.{CellAt};
+ghost use Rattle.domain_standing.specs.domain_base.declared.place.Home.{Home};
+ghost use Rattle.domain_standing.specs.domain_base.declared.place.Tag.{Tag};
+ghost use Rattle.domain_standing.specs.metadata_cells.Cell.{Cell};
+ghost use Rattle.domain_standing.specs.metadata_cells.Chain.{PlacedCell};
+ghost use Rattle.domain_standing.specs.fileset_files.Files.{Chains};
+ghost use Rattle.domain_standing.specs.fileset_files.Shown.{index_of};
+ghost use Rattle.domain_standing.specs.index_pages.Homes.{AreIndexHomes};
+ghost use Rattle.domain_standing.specs.release_list.Listed.{IsEntry};
+ghost use Rattle.domain_standing.specs.release_list.Listing.{Adds, Listing};
+ghost use Rattle.domain_standing.specs.release_list.Standing.{Files};
+ghost use Rattle.domain_standing.specs.release_steps.Tags.{start_of};
+ghost use Rattle.domain_standing.specs.domain_layout.CellRules.{IsFirstPlace};
+ghost use Rattle.domain_standing.specs.domain_layout.Layout.{first_tag_of};
+ghost use Rattle.domain_standing.specs.domain_layout.Owners.{IsOnTable};
 ghost use Rattle.domain_standing.specs.Chains.{AreQuotasOf, HasEmptyTags, IndexesAt, IsInChain, IsOnList, IsQuotaOf, IsQuotaToGo, IsSomebodys, IsToDo, StandChains, StandsInSlot};
 ghost use Rattle.domain_standing.specs.Domain.{DomainNow, layout_of, named_by};
 ghost use Rattle.standing_laws.specs.Leads.{LeadsOn, StandsBelow, fileset_now};
 ghost use Rattle.standing_laws.specs.Left.{LeavesNothing};
 
-/// Where a domain stands, each cell in use is the first of its volume or one of a chain after a
-/// call on a file.
+/// If a domain stands, each cell in use is the first of its volume or one of a chain after a call
+/// on a file.
 pub fn cells_in_use_stay_in_chains()
     ensures { (number : ℕ) (tag : Tag) (d now : DomainNow) (chains chains_now : Chains)
         (files files_now : Files) (indexes : IndexesAt) → StandsBelow d files indexes
@@ -31,7 +31,8 @@ pub fn cells_in_use_stay_in_chains()
         → IsFirstPlace now.frame at ⊎ IsInChain files_now at }
 {}
 
-/// Each chain is of a file that a tag names, of one that is to be removed, or of quota cells.
+/// Each chain belongs to a file that a tag names, to a file that is to be removed, or is one of
+/// quota cells.
 pub fn chains_stay_somebodys()
     ensures { (number : ℕ) (tag : Tag) (d now : DomainNow) (chains chains_now : Chains)
         (files files_now : Files) (indexes : IndexesAt) → StandsBelow d files indexes
@@ -75,7 +76,7 @@ pub fn slots_stand_on()
         → (n : ℕ) → StandsInSlot now files_now n (named_by first_tag_of now n) }
 {}
 
-/// The quota cells that a slot names are a chain of its fileset, which says nothing of an owner
+/// The quota cells that a slot names are a chain of its fileset, which says nothing about an owner
 /// twice.
 pub fn quota_cells_stand_on()
     ensures { (number : ℕ) (tag : Tag) (d now : DomainNow) (chains chains_now : Chains)
@@ -85,7 +86,7 @@ pub fn quota_cells_stand_on()
         → IsSomeAnd (files_now at) (AreQuotasOf now n at) }
 {}
 
-/// Where a call leaves nothing of a file to be let go of, all chains of the domain stand on.
+/// If a call leaves nothing of a file to be let go of, all chains of the domain stand on.
 pub fn chains_stand_on()
     ensures { (number : ℕ) (tag : Tag) (d now : DomainNow) (chains chains_now : Chains)
         (files files_now : Files) (indexes : IndexesAt) → StandsBelow d files indexes
@@ -95,8 +96,8 @@ pub fn chains_stand_on()
         → StandChains now files_now indexes }
 {}
 
-/// Where the tag's file has something left to be let go of, the chains stand on once an entry of it
-/// is put on the list: so behind a call that drops the file or makes pages of it stale.
+/// If the tag's file has something left to be let go of, the chains stand on once an entry of it is
+/// put on the list. This is the case after a call that drops the file or makes pages of it stale.
 pub fn chains_stand_on_where_a_file_is_listed()
     ensures { (number : ℕ) (tag : Tag) (d now : DomainNow) (chains chains_now : Chains)
         (files files_now : Files) (indexes : IndexesAt) → StandsBelow d files indexes

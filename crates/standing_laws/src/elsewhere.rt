@@ -1,20 +1,20 @@
 //! The filesets of slots that a change does not touch.
 ghost use Rattle.std.specs.Prelude.{◌≡◌, ℕ, List, Option, Some};
 ghost use Rattle.std.specs.FinMap.{insert};
-ghost use Rattle.domain_base.specs.declared.place.CellAt.{CellAt};
-ghost use Rattle.domain_base.specs.declared.place.Tag.{Tag};
-ghost use Rattle.bitfile_core.specs.Changes.{Removes, without_chain};
-ghost use Rattle.bitfile_core.specs.Files.{Chains};
-ghost use Rattle.bitfile_core.specs.Together.{AreTogether};
-ghost use Rattle.domain_standing.specs.Sets.{AddsIndexPage, GivesIndexBack, WritesIndexPage, without_index};
-ghost use Rattle.fileset_model.specs.Filesets.{FilesetMap};
-ghost use Rattle.fileset_model.specs.declared.fileset.FilesetSlot.{FilesetSlot};
-ghost use Rattle.fileset_table.specs.declared.slot.FilesetEntry.{FilesetEntry};
-ghost use Rattle.fileset_table.specs.declared.slot.SlotItem.TheVariants as slot;
-ghost use Rattle.deferred_delete.specs.Listed.{IsEntry};
-ghost use Rattle.deferred_delete.specs.Listing.{Adds, Listing};
-ghost use Rattle.deferred_delete.specs.Standing.{Files};
-ghost use Rattle.domain_layout.specs.Shape.{FilesetShape};
+ghost use Rattle.domain_standing.specs.domain_base.declared.place.CellAt.{CellAt};
+ghost use Rattle.domain_standing.specs.domain_base.declared.place.Tag.{Tag};
+ghost use Rattle.domain_standing.specs.fileset_files.Changes.{Removes, without_chain};
+ghost use Rattle.domain_standing.specs.fileset_files.Files.{Chains};
+ghost use Rattle.domain_standing.specs.fileset_files.Together.{AreTogether};
+ghost use Rattle.domain_standing.specs.stored_set.Sets.{AddsIndexPage, GivesIndexBack, WritesIndexPage, without_index};
+ghost use Rattle.domain_standing.specs.fileset_model.Filesets.{FilesetMap};
+ghost use Rattle.domain_standing.specs.fileset_model.declared.fileset.FilesetSlot.{FilesetSlot};
+ghost use Rattle.domain_standing.specs.fileset_table.declared.slot.FilesetEntry.{FilesetEntry};
+ghost use Rattle.domain_standing.specs.fileset_table.declared.slot.SlotItem.TheVariants as slot;
+ghost use Rattle.domain_standing.specs.release_list.Listed.{IsEntry};
+ghost use Rattle.domain_standing.specs.release_list.Listing.{Adds, Listing};
+ghost use Rattle.domain_standing.specs.release_list.Standing.{Files};
+ghost use Rattle.domain_standing.specs.domain_layout.Shape.{FilesetShape};
 ghost use Rattle.domain_standing.specs.Chains.{IndexesAt};
 ghost use Rattle.domain_standing.specs.Domain.{DomainNow, item_in};
 ghost use Rattle.domain_standing.specs.Slots.{StandSlots};
@@ -24,8 +24,8 @@ ghost use Rattle.standing_laws.specs.NewFileset.{JoinsEmpty};
 ghost use Rattle.standing_laws.specs.Slots.{StandsSlot};
 ghost use Rattle.standing_laws.specs.SlotsStay.{KeepsSlot, OthersStand, PutsFileset};
 
-/// Where a domain stands before a change and after it, the original in a slot stands for the same
-/// fileset, with the same shape, where nothing of the slot has changed.
+/// If a domain stands before a change and after it, the original in a slot stands for the same
+/// fileset, with the same shape, if nothing of the slot has changed.
 pub fn a_slot_stays()
     ensures { (number : ℕ) (d now : DomainNow) (files files_now : Files)
         (indexes indexes_now : IndexesAt) → StandsBelow d files indexes
@@ -36,7 +36,8 @@ pub fn a_slot_stays()
         → StandsSlot d number entry shape fileset → StandsSlot now number entry shape fileset }
 {}
 
-/// So it is with each other slot where a page of a directory's index is written.
+/// The original in each other slot stands for the same fileset if a page of a directory's index is
+/// written.
 pub fn other_slots_stay_where_an_index_page_is_written()
     ensures { (number : ℕ) (tag : Tag) (start : CellAt) (d now : DomainNow) (chains : Chains)
         (files : Files) (indexes : IndexesAt) (page : ℕ) (bytes : List ℕ)
@@ -46,7 +47,7 @@ pub fn other_slots_stay_where_an_index_page_is_written()
         (indexes start) d.pages now.pages → OthersStand number d now }
 {}
 
-/// And where one is put into it.
+/// The original in each other slot stands for the same fileset if a page is put into an index.
 pub fn other_slots_stay_where_an_index_page_is_put_in()
     ensures { (number : ℕ) (tag : Tag) (start : CellAt) (d now : DomainNow) (chains : Chains)
         (files : Files) (indexes : IndexesAt) (place prefer : ℕ) (bytes : List ℕ)
@@ -56,7 +57,8 @@ pub fn other_slots_stay_where_an_index_page_is_put_in()
         (indexes start) d.space now.space d.pages now.pages → OthersStand number d now }
 {}
 
-/// And where a file or directory is taken away with its index.
+/// The original in each other slot stands for the same fileset if a file or directory is taken away
+/// with its index.
 pub fn other_slots_stay_where_a_file_goes_with_its_index()
     ensures { (number : ℕ) (tag : Tag) (start : CellAt) (d now : DomainNow) (chains : Chains)
         (files : Files) (indexes : IndexesAt) (group : ℕ) → StandsBelow d files indexes
@@ -70,15 +72,15 @@ pub fn other_slots_stay_where_a_file_goes_with_its_index()
         → OthersStand number d (record now { list = listed }) }
 {}
 
-/// And where an original joins the table.
+/// The original in each other slot stands for the same fileset if an original joins the table.
 pub fn other_slots_stay_where_a_fileset_begins()
     ensures { (number : ℕ) (entry : FilesetEntry) (d now : DomainNow) (files : Files)
         (indexes : IndexesAt) → StandsBelow d files indexes → JoinsEmpty number entry d now
         → OthersStand number d now }
 {}
 
-/// Where the originals of all other slots stand for the filesets for which they stood, and that of
-/// one slot for a fileset, be it new or the one that was there, the domain stands for all of them.
+/// If the originals of all other slots stand for the filesets for which they stood, and that of one
+/// slot for a fileset, be it new or the one that was there, the domain stands for all of them.
 pub fn filesets_stand_where_others_stay()
     ensures { (number : ℕ) (entry : FilesetEntry) (d now : DomainNow) (files_now : Files)
         (indexes_now : IndexesAt) (all : FilesetMap) → StandsBelow now files_now indexes_now

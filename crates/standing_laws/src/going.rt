@@ -1,11 +1,11 @@
-//! Filesets that begin to be removed.
+//! A fileset whose removal begins.
 ghost use Rattle.std.specs.Prelude.{◌≡◌, ℕ};
 ghost use Rattle.std.specs.FinMap.{remove};
-ghost use Rattle.domain_base.specs.declared.place.Home.{Home};
-ghost use Rattle.fileset_model.specs.Filesets.{FilesetMap};
-ghost use Rattle.fileset_table.specs.declared.slot.FilesetEntry.{FilesetEntry};
-ghost use Rattle.quota_book.specs.Book.{Book};
-ghost use Rattle.deferred_delete.specs.Standing.{Files};
+ghost use Rattle.domain_standing.specs.domain_base.declared.place.Home.{Home};
+ghost use Rattle.domain_standing.specs.fileset_model.Filesets.{FilesetMap};
+ghost use Rattle.domain_standing.specs.fileset_table.declared.slot.FilesetEntry.{FilesetEntry};
+ghost use Rattle.domain_standing.specs.quota_book.Book.{Book};
+ghost use Rattle.domain_standing.specs.release_list.Standing.{Files};
 ghost use Rattle.domain_standing.specs.Chains.{IndexesAt};
 ghost use Rattle.domain_standing.specs.Domain.{DomainNow};
 ghost use Rattle.domain_standing.specs.Slots.{StandSlots};
@@ -14,7 +14,7 @@ ghost use Rattle.standing_laws.specs.GoingFileset.{BeginsToGo};
 ghost use Rattle.standing_laws.specs.Leads.{StandsBelow};
 ghost use Rattle.standing_laws.specs.SlotsStay.{OthersStand};
 
-/// A domain stands on, all but its filesets, where the slot of an original says that it is being
+/// All of a domain except its filesets stands on if the slot of an original says that it is being
 /// removed: its tags and quota cells stand where they did.
 pub fn all_stands_on_where_a_fileset_begins_to_go()
     ensures { (number : ℕ) (entry : FilesetEntry) (d now : DomainNow) (files : Files)
@@ -29,8 +29,7 @@ pub fn other_slots_stay_where_a_fileset_begins_to_go()
         → OthersStand number d now }
 {}
 
-/// So the domain stands for all filesets but this one, where each page keeps its bytes that does
-/// not change.
+/// So the domain stands for all filesets except this one, if each unchanged page keeps its bytes.
 pub fn filesets_stand_on_where_one_begins_to_go()
     ensures { (number : ℕ) (entry : FilesetEntry) (d now : DomainNow) (files : Files)
         (indexes : IndexesAt) → StandsBelow d files indexes → BeginsToGo number entry d now
@@ -46,7 +45,7 @@ pub fn a_domain_stands_on_where_a_fileset_begins_to_go()
         → (all : FilesetMap) → StandsDomain d all → StandsDomain now (remove all entry.name) }
 {}
 
-/// The book of each other slot is that of its fileset still.
+/// The book of each other slot is still that of its fileset.
 pub fn books_stay_where_a_fileset_begins_to_go()
     ensures { (number : ℕ) (entry : FilesetEntry) (d now : DomainNow) (files : Files)
         (indexes : IndexesAt) → StandsBelow d files indexes → BeginsToGo number entry d now

@@ -1,22 +1,22 @@
 //! Calls on indexes of directories.
 ghost use Rattle.std.specs.Prelude.{◌≡◌, [], ℕ, List, Option, Some, insert};
-ghost use Rattle.domain_base.specs.declared.place.CellAt.{CellAt};
-ghost use Rattle.domain_base.specs.declared.place.Tag.{Tag};
-ghost use Rattle.bitfile_core.specs.Changes.{Removes, without_chain};
-ghost use Rattle.bitfile_core.specs.Files.{Chains};
-ghost use Rattle.bitfile_core.specs.Index.{says_index};
-ghost use Rattle.bitfile_core.specs.Together.{AreTogether};
-ghost use Rattle.domain_standing.specs.Sets.{AddsIndexPage, GivesIndexBack, WritesIndexPage, without_index};
-ghost use Rattle.deferred_delete.specs.Listed.{IsEntry};
-ghost use Rattle.deferred_delete.specs.Listing.{Adds, Listing};
-ghost use Rattle.deferred_delete.specs.Standing.{Files};
+ghost use Rattle.domain_standing.specs.domain_base.declared.place.CellAt.{CellAt};
+ghost use Rattle.domain_standing.specs.domain_base.declared.place.Tag.{Tag};
+ghost use Rattle.domain_standing.specs.fileset_files.Changes.{Removes, without_chain};
+ghost use Rattle.domain_standing.specs.fileset_files.Files.{Chains};
+ghost use Rattle.domain_standing.specs.fileset_files.Index.{says_index};
+ghost use Rattle.domain_standing.specs.fileset_files.Together.{AreTogether};
+ghost use Rattle.domain_standing.specs.stored_set.Sets.{AddsIndexPage, GivesIndexBack, WritesIndexPage, without_index};
+ghost use Rattle.domain_standing.specs.release_list.Listed.{IsEntry};
+ghost use Rattle.domain_standing.specs.release_list.Listing.{Adds, Listing};
+ghost use Rattle.domain_standing.specs.release_list.Standing.{Files};
 ghost use Rattle.domain_standing.specs.Chains.{IndexesAt};
 ghost use Rattle.domain_standing.specs.Domain.{DomainNow};
 ghost use Rattle.standing_laws.specs.IndexCalls.{KeepsTables, NamesFile, with_index_at, with_removed, with_said};
 ghost use Rattle.standing_laws.specs.Leads.{StandsBelow};
 
-/// Where a page of a directory's index is put in place of one, the domain stands on: the first cell
-/// says how many entries the index has then, and each page of it is held where it was.
+/// If a page of a directory's index is put in place of another, the domain stands on: the first
+/// cell says how many entries the index then has, and each of its pages is held where it was.
 pub fn all_stands_on_where_an_index_page_is_written()
     ensures { (number : ℕ) (tag : Tag) (start : CellAt) (d now : DomainNow) (chains : Chains)
         (files : Files) (indexes : IndexesAt) (page : ℕ) (bytes : List ℕ)
@@ -27,8 +27,8 @@ pub fn all_stands_on_where_an_index_page_is_written()
         → StandsBelow now (with_said start (says_index (Some writes.says.index)) files) indexes }
 {}
 
-/// So it does where a free page is put into one, in front of others, behind them or as the first of
-/// all: that page is held for it from then on.
+/// It also does if a free page is put into an index, before others, after them or as the first of
+/// all: that page is held for the index from then on.
 pub fn all_stands_on_where_an_index_page_is_put_in()
     ensures { (number : ℕ) (tag : Tag) (start : CellAt) (d now : DomainNow) (chains : Chains)
         (files : Files) (indexes : IndexesAt) (place prefer : ℕ) (bytes : List ℕ)
@@ -40,9 +40,9 @@ pub fn all_stands_on_where_an_index_page_is_put_in()
         (with_index_at start (insert (indexes start) place adds.home) indexes) }
 {}
 
-/// And where a file or directory is taken away, once an entry of it is put on the list: its tag
-/// names nothing any more, its first cell names no index, and the pages of the one that it had wait
-/// and are held for nothing.
+/// It also does if a file or directory is taken away, once an entry of it is put on the list: its
+/// tag names nothing any more, its first cell names no index, and the pages of the index that it
+/// had wait and are held for nothing.
 pub fn all_stands_on_where_a_file_goes_with_its_index()
     ensures { (number : ℕ) (tag : Tag) (start : CellAt) (d now : DomainNow) (chains : Chains)
         (files : Files) (indexes : IndexesAt) (group : ℕ) → StandsBelow d files indexes

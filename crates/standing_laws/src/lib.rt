@@ -82,3 +82,32 @@ pub use slots::{
 };
 pub use sources::files_stand_alone;
 pub use tables::tables_stand_on;
+
+// What stands below and is named above.
+pub use domain_standing::{
+    ANCHORS_PAGE, Actor, Anchor, Attributes, BitfileSet, Bitfiles, Bitmap, Bytes, CellAt, CellKind,
+    Command, Created, Deferred, DirectoryRows, DomainFrame, DomainTables, Entry, ExtentItem,
+    ExtentList, FilesetEntry, FilesetItem, FilesetList, FilesetName, FilesetNo, FilesetParts,
+    FilesetSeen, FilesetSlot, FilesetTable, Filesets, FreeCells, FreeSpace, Home, Kind, Leftover,
+    Limits, Member, MemoryBitfiles, MemoryPages, MetaPages, Name, NameFault, NameList, Node,
+    OutOfMemory, Owner, Page, PageMap, PagePlace, PageUse, Path, Place, QuotaBook, Rack, Record,
+    RecordList, Redone, Refusal, Renamed, Reply, Role, Row, RowList, RowName, Run, RunPlace,
+    SettleFault, SlotFault, SlotItem, StoreFault, Tag, TagDir, TagPlace, TaggedFile, TaggedNode,
+    Told, Unlinked, Usage, Version, VolIx, VolumeItem, VolumeList,
+};
+
+// And its functions and modules.
+pub use domain_standing::{
+    add_page, apply, count_index, count_index_of, count_pages_of, create_at, drop_index,
+    find_record, index_page_of, insert_index_page, is_fileset_name, is_row_name, kind_of,
+    lead_past, limits, link_at, links_of, list_rows, make, make_fileset, mark_changes, next_cell,
+    page_of, read_blocks, read_cell_table, read_head, read_slot, read_tables, read_tags, read_used,
+    recover, remove, rename_at, rmdir_at, row_count, set_limits, set_links, settle_log,
+    sync_volumes, take_out, target, unlink_at, used_tags, walk, write_blocks, write_index_page,
+    write_page,
+};
+
+/// Names of the crate `release_list` that are other things here.
+pub mod from_release_list {
+    pub use domain_standing::from_release_list::Entry;
+}

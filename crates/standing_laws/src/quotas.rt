@@ -1,13 +1,13 @@
 //! A domain once an owner's limits are set in one of its filesets.
 ghost use Rattle.std.specs.Prelude.{◌≡◌, ℕ, Some};
 ghost use Rattle.std.specs.FinMap.{get, insert};
-ghost use Rattle.fileset_model.specs.Filesets.{FilesetMap};
-ghost use Rattle.fileset_model.specs.declared.fileset.FilesetSlot.{FilesetSlot};
-ghost use Rattle.fileset_table.specs.declared.slot.FilesetEntry.{FilesetEntry};
-ghost use Rattle.fileset_table.specs.declared.slot.SlotItem.TheVariants as slot;
-ghost use Rattle.deferred_delete.specs.Standing.{Files};
-ghost use Rattle.domain_layout.specs.Shape.{FilesetShape};
-ghost use Rattle.layout_laws.specs.Agreeing.{AgreeOn, AgreeOnShape};
+ghost use Rattle.domain_standing.specs.fileset_model.Filesets.{FilesetMap};
+ghost use Rattle.domain_standing.specs.fileset_model.declared.fileset.FilesetSlot.{FilesetSlot};
+ghost use Rattle.domain_standing.specs.fileset_table.declared.slot.FilesetEntry.{FilesetEntry};
+ghost use Rattle.domain_standing.specs.fileset_table.declared.slot.SlotItem.TheVariants as slot;
+ghost use Rattle.domain_standing.specs.release_list.Standing.{Files};
+ghost use Rattle.domain_standing.specs.domain_layout.Shape.{FilesetShape};
+ghost use Rattle.domain_standing.specs.domain_layout.Agreeing.{AgreeOn, AgreeOnShape};
 ghost use Rattle.domain_standing.specs.Chains.{IndexesAt, StandChains};
 ghost use Rattle.domain_standing.specs.Domain.{DomainNow, item_in};
 ghost use Rattle.domain_standing.specs.Holders.{HoldsOwned};
@@ -20,7 +20,7 @@ ghost use Rattle.standing_laws.specs.Leads.{StandsBelow};
 ghost use Rattle.standing_laws.specs.SetsQuota.{SetsQuota, entry_limited, fileset_limited, shape_limited};
 ghost use Rattle.standing_laws.specs.Slots.{StandsSlot};
 
-/// Where a domain stands, its tables do once an owner's limits are set in the chain of quota cells
+/// If a domain stands, its tables do once an owner's limits are set in the chain of quota cells
 /// that a slot names, or in one that it names from then on.
 pub fn tables_stand_on_where_limits_are_set()
     ensures { (number : ℕ) (d now : DomainNow) (files files_now : Files) (indexes : IndexesAt)
@@ -43,14 +43,14 @@ pub fn rest_stands_on_where_limits_are_set()
         → SaysTheRest now files_now }
 {}
 
-/// Its chains stand on, with that of the slot as it is then.
+/// Its chains stand on, with the slot's chain as it is then.
 pub fn chains_stand_on_where_limits_are_set()
     ensures { (number : ℕ) (d now : DomainNow) (files files_now : Files) (indexes : IndexesAt)
         → StandsBelow d files indexes → SetsQuota number d now files files_now
         → StandChains now files_now indexes }
 {}
 
-/// So all of it stands on but for its filesets.
+/// So all of the domain except its filesets stands on.
 pub fn all_below_stands_on_where_limits_are_set()
     ensures { (number : ℕ) (d now : DomainNow) (files files_now : Files) (indexes : IndexesAt)
         → StandsBelow d files indexes → SetsQuota number d now files files_now
@@ -58,7 +58,7 @@ pub fn all_below_stands_on_where_limits_are_set()
 {}
 
 /// The original in another slot has the shape that it had, stands for the same fileset, and shows
-/// the same set, where the bytes at the homes of its files are the same.
+/// the same set, if the bytes at the homes of its files are the same.
 pub fn other_slots_stay_where_limits_are_set()
     ensures { (number : ℕ) (d now : DomainNow) (files files_now : Files) (indexes : IndexesAt)
         → StandsBelow d files indexes → SetsQuota number d now files files_now
@@ -68,7 +68,7 @@ pub fn other_slots_stay_where_limits_are_set()
         → StandsSlot now other entry shape fileset }
 {}
 
-/// That in the slot stands for its fileset with these limits of the owner.
+/// The original in the slot stands for its fileset with these limits of the owner.
 pub fn the_slot_has_the_limits_that_are_set()
     ensures { (number : ℕ) (d now : DomainNow) (files files_now : Files) (indexes : IndexesAt)
         → StandsBelow d files indexes → (sets : SetsQuota number d now files files_now)
@@ -80,8 +80,8 @@ pub fn the_slot_has_the_limits_that_are_set()
         (fileset_limited sets.who sets.limits fileset) }
 {}
 
-/// So a domain stands for its filesets, of which that one has these limits of the owner, where the
-/// bytes of all files are the same.
+/// So a domain stands for its filesets, with these limits of the owner in that one, if the bytes of
+/// all files are the same.
 pub fn filesets_stand_on_where_limits_are_set()
     ensures { (number : ℕ) (d now : DomainNow) (files files_now : Files) (indexes : IndexesAt)
         → StandsBelow d files indexes → (sets : SetsQuota number d now files files_now)
@@ -92,14 +92,14 @@ pub fn filesets_stand_on_where_limits_are_set()
         (insert all sets.entry.name (fileset_limited sets.who sets.limits fileset)) }
 {}
 
-/// No file comes to be read through another one.
+/// No file starts to be read through another one.
 pub fn files_stand_alone_where_limits_are_set()
     ensures { (number : ℕ) (d now : DomainNow) (files files_now : Files) (indexes : IndexesAt)
         → StandsBelow d files indexes → StandsBelow now files_now indexes
         → SetsQuota number d now files files_now → StandAlone d → StandAlone now }
 {}
 
-/// All together: a domain stands for its filesets, of which that one has these limits of the owner.
+/// All together: a domain stands for its filesets, with these limits of the owner in that one.
 pub fn a_domain_stands_on_where_limits_are_set()
     ensures { (number : ℕ) (d now : DomainNow) (files_now : Files) (all : FilesetMap)
         → (stands : StandsDomain d all) → (sets : SetsQuota number d now stands.files files_now)

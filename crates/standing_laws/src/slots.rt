@@ -2,26 +2,26 @@
 ghost use Rattle.std.specs.FinMap.{get, insert};
 ghost use Rattle.std.specs.Option.{option_and_then};
 ghost use Rattle.std.specs.Prelude.{◌≡◌, ℕ, IsSomeAnd, Some};
-ghost use Rattle.domain_base.specs.declared.place.CellAt.{CellAt};
-ghost use Rattle.domain_base.specs.declared.place.Home.{Home};
-ghost use Rattle.domain_base.specs.declared.place.Tag.{Tag};
-ghost use Rattle.extent_maps.specs.declared.run.PagePlace.TheVariants.{At};
-ghost use Rattle.fileset_model.specs.Filesets.{FilesetMap};
-ghost use Rattle.fileset_model.specs.declared.fileset.FilesetSlot.{FilesetSlot};
-ghost use Rattle.fileset_table.specs.declared.slot.FilesetEntry.{FilesetEntry};
-ghost use Rattle.fileset_table.specs.declared.slot.SlotItem.TheVariants as slot;
-ghost use Rattle.bitfile_core.specs.Files.{Chains};
-ghost use Rattle.deferred_delete.specs.Standing.{Files, place_in};
-ghost use Rattle.deferred_laws.specs.Tags.{start_of};
-ghost use Rattle.domain_layout.specs.Shape.{FilesetShape};
-ghost use Rattle.layout_laws.specs.Agreeing.{AgreeOnShape};
+ghost use Rattle.domain_standing.specs.domain_base.declared.place.CellAt.{CellAt};
+ghost use Rattle.domain_standing.specs.domain_base.declared.place.Home.{Home};
+ghost use Rattle.domain_standing.specs.domain_base.declared.place.Tag.{Tag};
+ghost use Rattle.domain_standing.specs.extent_maps.declared.run.PagePlace.TheVariants.{At};
+ghost use Rattle.domain_standing.specs.fileset_model.Filesets.{FilesetMap};
+ghost use Rattle.domain_standing.specs.fileset_model.declared.fileset.FilesetSlot.{FilesetSlot};
+ghost use Rattle.domain_standing.specs.fileset_table.declared.slot.FilesetEntry.{FilesetEntry};
+ghost use Rattle.domain_standing.specs.fileset_table.declared.slot.SlotItem.TheVariants as slot;
+ghost use Rattle.domain_standing.specs.fileset_files.Files.{Chains};
+ghost use Rattle.domain_standing.specs.release_list.Standing.{Files, place_in};
+ghost use Rattle.domain_standing.specs.release_steps.Tags.{start_of};
+ghost use Rattle.domain_standing.specs.domain_layout.Shape.{FilesetShape};
+ghost use Rattle.domain_standing.specs.domain_layout.Agreeing.{AgreeOnShape};
 ghost use Rattle.domain_standing.specs.Chains.{IndexesAt};
 ghost use Rattle.domain_standing.specs.Domain.{DomainNow, item_in};
 ghost use Rattle.domain_standing.specs.Slots.{StandSlots};
 ghost use Rattle.standing_laws.specs.Leads.{LeadsOn, StandsBelow};
 ghost use Rattle.standing_laws.specs.Slots.{AgreeOnOthers, StandsSlot};
 
-/// Where a domain stands for filesets, the original in a slot stands for that of its name.
+/// If a domain stands for filesets, the original in a slot stands for that of its name.
 pub fn each_original_stands_in_its_slot()
     ensures { (d : DomainNow) (all : FilesetMap) (slots : StandSlots d all) (number : ℕ)
         (entry : FilesetEntry) → item_in d number ≡ Some (slot.Original entry)
@@ -29,8 +29,8 @@ pub fn each_original_stands_in_its_slot()
         (λ shape. IsSomeAnd (get all entry.name) (StandsSlot d number entry shape)) }
 {}
 
-/// Where a domain stands, the original in another slot has the shape that it had after a call on a
-/// file, stands for the same fileset, and shows the same set, where the bytes at the homes of its
+/// If a domain stands, the original in another slot has the shape that it had after a call on a
+/// file, stands for the same fileset, and shows the same set, if the bytes at the homes of its
 /// files are the same.
 pub fn other_slots_stay()
     ensures { (number : ℕ) (tag : Tag) (d now : DomainNow) (chains chains_now : Chains)
@@ -42,8 +42,8 @@ pub fn other_slots_stay()
         → StandsSlot now other entry shape fileset }
 {}
 
-/// Those bytes are the same where each page of a file keeps its bytes but for the pages of the
-/// file that the call is on.
+/// Those bytes are the same if each page of a file keeps its bytes, except the pages of the file
+/// that the call is on.
 pub fn other_slots_keep_their_bytes()
     ensures { (number : ℕ) (tag : Tag) (d now : DomainNow) (chains chains_now : Chains)
         (files files_now : Files) (indexes : IndexesAt) → StandsBelow d files indexes
@@ -57,7 +57,7 @@ pub fn other_slots_keep_their_bytes()
         → AgreeOnShape d.contents now.contents shape }
 {}
 
-/// So a domain stands for the filesets for which it stood, but for that of the slot of the call,
+/// So a domain stands for the filesets for which it stood, except for that of the slot of the call,
 /// once that one is known.
 pub fn filesets_stand_on()
     ensures { (number : ℕ) (tag : Tag) (d now : DomainNow) (chains chains_now : Chains)

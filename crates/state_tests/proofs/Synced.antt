@@ -4,26 +4,26 @@ use Rattle.std.specs.FinMap.{contains_key, get}
 use Rattle.std.specs.Option.{option_map_or}
 use Rattle.std.specs.Ordering.{nat_cmp, ordering_then}
 use Rattle.std.specs.FinSet.{contains-empty, contains-retain, empty, nat_cmp-IsAntisymmetric, same_set}
-use Rattle.page_store.specs.Pages.{Pages}
-use Rattle.fileset_model.specs.Filesets.{FilesetMap}
-use Rattle.fileset_model.specs.Orders.{name_cmp, name_cmp-IsAntisymmetric}
-use Rattle.fileset_model.specs.declared.command.Command.{Command}
-use Rattle.fileset_model.specs.declared.entry.Entry.{Entry}
-use Rattle.fileset_model.specs.declared.reply.Refusal.TheVariants.{NoSpace, Panicked, ReadFault}
-use Rattle.fileset_model.specs.declared.reply.Reply.TheVariants.{Done, Refused}
-use Rattle.history_model.specs.Legal.{MayFollow}
-use Rattle.history_model.specs.Point.{Point}
-use Rattle.history_model.specs.State.{Apply, LooksLikeState, Numbered, State, numbered_cmp, numbered_cmp-total, still_striped}
-use Rattle.history_laws.specs.GoingOn.{ComesTo, LeadsOn}
-use Rattle.history_laws.proofs.GoesOn.{command_steps}
-use Rattle.history_laws.proofs.PlainLemmas.{there_itself}
-use Rattle.domain_layout.specs.Reached.{Frame}
-use Rattle.domain_memory.specs.Memory.{StandsFor}
-use Rattle.domain_memory.specs.Staged.{IsSettled}
-use Rattle.domain_memory.specs.declared.memory.DomainMemory.{DomainMemory}
-use Rattle.domain_memory.proofs.SettledKept.{settled_kept}
-use Rattle.domain_state.specs.History.{IsCalm, MayCommit}
-use Rattle.domain_state.specs.Short.{HadPages}
+use Rattle.client_commands.specs.page_store.Pages.{Pages}
+use Rattle.client_commands.specs.fileset_model.Filesets.{FilesetMap}
+use Rattle.client_commands.specs.fileset_values.Orders.{name_cmp, name_cmp-IsAntisymmetric}
+use Rattle.client_commands.specs.fileset_values.declared.command.Command.{Command}
+use Rattle.client_commands.specs.fileset_values.declared.entry.Entry.{Entry}
+use Rattle.client_commands.specs.fileset_values.declared.reply.Refusal.TheVariants.{NoSpace, Panicked, ReadFault}
+use Rattle.client_commands.specs.fileset_values.declared.reply.Reply.TheVariants.{Done, Refused}
+use Rattle.client_commands.specs.legal_histories.Legal.{MayFollow}
+use Rattle.client_commands.specs.legal_histories.Point.{Point}
+use Rattle.client_commands.specs.legal_histories.State.{Apply, LooksLikeState, Numbered, State, numbered_cmp, numbered_cmp-total, still_striped}
+use Rattle.client_commands.specs.legal_histories.GoingOn.{ComesTo, LeadsOn}
+use Rattle.client_commands.proofs.OfLegalHistories.GoesOn.{command_steps}
+use Rattle.client_commands.proofs.OfLegalHistories.PlainLemmas.{there_itself}
+use Rattle.client_commands.specs.domain_layout.Reached.{Frame}
+use Rattle.client_commands.specs.domain_memory.Memory.{StandsFor}
+use Rattle.client_commands.specs.domain_memory.Staged.{IsSettled}
+use Rattle.client_commands.specs.domain_memory.declared.memory.DomainMemory.{DomainMemory}
+use Rattle.client_commands.proofs.OfDomainMemory.SettledKept.{settled_kept}
+use Rattle.client_commands.specs.domain_state.History.{IsCalm, MayCommit}
+use Rattle.client_commands.specs.domain_state.Short.{HadPages}
 use Rattle.state_tests.specs.Sync.{sync_entry}
 
 -- ---- no file is striped where none was

@@ -1,14 +1,11 @@
 //! Commands of a client that are answered in a domain.
 ghost use Rattle.std.specs.Prelude.{◌≤◌};
-ghost use Rattle.domain_memory.specs.Staged.{IsSettled};
-ghost use Rattle.command_core.specs.Ending.{IsServed};
+ghost use Rattle.client_commands.specs.domain_memory.Staged.{IsSettled};
+ghost use Rattle.client_commands.specs.name_commands.Ending.{IsServed};
 
-use command_core::{command, is_served};
-use domain_base::VolIx;
-use domain_state::{Domain, Opening};
-use fileset_model::{Command, Told};
+use client_commands::from_fileset_values::Command;
+use client_commands::{Domain, Opening, Rack, Told, VolIx, command, is_served};
 use std::alloc::Global;
-use volume_disk::Rack;
 
 /// Answers a command for which the history has room, and ends its event.
 fn answered_with<R: Rack + Drop, O: Opening>(

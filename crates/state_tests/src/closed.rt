@@ -1,20 +1,18 @@
 //! Domains that are made, changed, closed, and attached again: what they have then.
 ghost use Rattle.std.specs.Prelude.{◌≡◌};
-ghost use Rattle.page_ways.specs.Frame.{frame_in};
-ghost use Rattle.staged_pages.specs.Store.{before_of};
+ghost use Rattle.client_commands.specs.page_ways.Frame.{frame_in};
+ghost use Rattle.client_commands.specs.staged_pages.Store.{before_of};
 
 use crate::telling::{Row, all_told, history_of, lines_of, wanted};
+use client_commands::limits::FILESET_SLOTS;
+use client_commands::{
+    Attached, Domain, FilesetNo, FilesetTable, Opening, Rack, SlotItem, Told, Version, make,
+};
 use domain_attaching::{ClosingRoom, attach, close};
-use domain_base::limits::FILESET_SLOTS;
-use domain_base::{FilesetNo, Version};
-use domain_state::{Attached, Domain, Opening, make};
-use fileset_model::Told;
-use fileset_table::{FilesetTable, SlotItem};
 use memory_disk::MemoryRack;
 use std::alloc::Global;
 use std::marker::Brand;
 use std::test::Fail;
-use volume_disk::Rack;
 
 /// The rack of a domain that is closed after these commands, each of which has its reply.
 fn closed<R: Rack + Drop, O: Opening>(

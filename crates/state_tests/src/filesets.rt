@@ -1,18 +1,19 @@
 //! Filesets that are made, bounded and removed in a domain that was just made.
 ghost use Rattle.std.specs.Prelude.{◌≡◌};
-ghost use Rattle.page_ways.specs.Frame.{frame_in};
-ghost use Rattle.staged_pages.specs.Store.{before_of};
-ghost use Rattle.domain_memory.specs.Staged.{IsSettled};
+ghost use Rattle.client_commands.specs.page_ways.Frame.{frame_in};
+ghost use Rattle.client_commands.specs.staged_pages.Store.{before_of};
+ghost use Rattle.client_commands.specs.domain_memory.Staged.{IsSettled};
 
 use crate::answering::answered;
-use domain_base::{OutOfMemory, Version};
-use domain_state::{Attached, Domain, Opening, make};
-use fileset_model::{Command, Entry, FilesetName, Owner, Refusal, Reply, Told};
+use client_commands::from_fileset_values::Command;
+use client_commands::{
+    Attached, Domain, Entry, FilesetName, Opening, OutOfMemory, Owner, Rack, Refusal, Reply, Told,
+    Version, make,
+};
 use memory_disk::MemoryRack;
 use std::alloc::Global;
 use std::marker::Brand;
 use std::test::Fail;
-use volume_disk::Rack;
 
 /// What a client asks of the fileset with a name of one letter.
 #[derive(Clone, Copy, Drop)]

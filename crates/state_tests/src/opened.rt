@@ -1,21 +1,19 @@
 //! Domains that are made, and whose history is begun.
 ghost use Rattle.std.specs.Prelude.{◌≡◌, ◌≤◌};
-ghost use Rattle.page_ways.specs.Frame.{frame_in};
-ghost use Rattle.staged_pages.specs.Store.{before_of};
+ghost use Rattle.client_commands.specs.page_ways.Frame.{frame_in};
+ghost use Rattle.client_commands.specs.staged_pages.Store.{before_of};
 ghost use Rattle.state_tests.specs.Sync.{sync_entry};
 
 use crate::telling::all_told;
-use domain_base::{Home, OutOfMemory, Page, Version, VolIx};
-use domain_making::MakeFault;
-use domain_state::{Attached, Domain, Opening, make};
-use fileset_model::{Actor, Command, Entry, Reply, Told};
-use fileset_table::FilesetTable;
-use log_recovery::recover;
+use client_commands::from_fileset_values::Command;
+use client_commands::{
+    Actor, Attached, Domain, Entry, FilesetTable, Home, MakeFault, Opening, OutOfMemory, Page,
+    Rack, Reply, Told, Version, VolIx, make, recover,
+};
 use memory_disk::MemoryRack;
 use std::alloc::Global;
 use std::marker::Brand;
 use std::test::Fail;
-use volume_disk::Rack;
 
 /// What is seen of a domain that was opened, and its rack.
 #[derive(Drop)]

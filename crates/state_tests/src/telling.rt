@@ -1,16 +1,15 @@
 //! Lines of scripts that are answered in a domain, and the lines that these have in its history.
 ghost use Rattle.std.specs.Prelude.{◌≡◌};
-ghost use Rattle.page_ways.specs.Frame.{frame_in};
-ghost use Rattle.staged_pages.specs.Store.{before_of};
-ghost use Rattle.domain_memory.specs.Staged.{IsSettled};
+ghost use Rattle.client_commands.specs.page_ways.Frame.{frame_in};
+ghost use Rattle.client_commands.specs.staged_pages.Store.{before_of};
+ghost use Rattle.client_commands.specs.domain_memory.Staged.{IsSettled};
 
 use crate::answering::answered;
-use domain_state::{Attached, Domain, Opening};
-use fileset_model::{Command, Entry, Told};
+use client_commands::from_fileset_values::Command;
+use client_commands::{Attached, Domain, Entry, Opening, Rack, Told};
 use script_text::{history_line, read_script};
 use std::alloc::Global;
 use std::test::Fail;
-use volume_disk::Rack;
 
 /// A command, and its reply.
 pub type Row = (&'static str, &'static str);

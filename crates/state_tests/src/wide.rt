@@ -1,20 +1,21 @@
 //! Writes to a file of more pages than the bytes of a script lie in.
 ghost use Rattle.std.specs.Prelude.{◌≡◌};
-ghost use Rattle.page_ways.specs.Frame.{frame_in};
-ghost use Rattle.staged_pages.specs.Store.{before_of};
-ghost use Rattle.domain_memory.specs.Staged.{IsSettled};
+ghost use Rattle.client_commands.specs.page_ways.Frame.{frame_in};
+ghost use Rattle.client_commands.specs.staged_pages.Store.{before_of};
+ghost use Rattle.client_commands.specs.domain_memory.Staged.{IsSettled};
 
 use crate::answering::answered;
 use crate::telling::{Row, all_told};
-use domain_base::limits::PAGE_BYTES;
-use domain_base::{OutOfMemory, Version};
-use domain_state::{Attached, Domain, Opening, make};
-use fileset_model::{Bytes, Command, Entry, FilesetName, Name, Path, Place, Refusal, Reply, Told};
+use client_commands::from_fileset_values::Command;
+use client_commands::limits::PAGE_BYTES;
+use client_commands::{
+    Attached, Bytes, Domain, Entry, FilesetName, Name, Opening, OutOfMemory, Path, Place, Rack,
+    Refusal, Reply, Told, Version, make,
+};
 use memory_disk::MemoryRack;
 use std::alloc::Global;
 use std::marker::Brand;
 use std::test::Fail;
-use volume_disk::Rack;
 
 /// What a write is answered.
 #[derive(Clone, Copy, Debug, PartialEq, Eq, Drop)]

@@ -3,7 +3,7 @@ use Rattle.std.proofs.Common.{◌≡◌, ℕ, zero, suc, ◌-◌, true, false, O
 use Rattle.std.proofs.lemmas.Bool.{or_right}
 use Rattle.std.specs.FinSet.{contains}
 use Rattle.std.specs.Option.{option_map}
-use Rattle.storage_bitmap.proofs.Used.{contains-inserted}
+use Rattle.free_space.proofs.Used.{contains-inserted}
 use Rattle.free_space.specs.VolumeSpace.{VolumeSpace, is_waiting, keeping, with_page}
 use Rattle.free_space.specs.Spaces.{Spaces, IsHeld, CanTake, change_volume, change_volumes}
 use Rattle.free_space.proofs.Places.{held_taken, free_can}

@@ -1,9 +1,8 @@
 //! Bitmaps of volumes.
 
-use domain_base::OutOfMemory;
+use free_space::{Bitmap, OutOfMemory};
 use std::alloc::Global;
 use std::test::Fail;
-use storage_bitmap::Bitmap;
 
 fn with_used(alloc: Global, pages: u32, used: &[u32]) -> Result<Bitmap, OutOfMemory> {
     let mut map = Bitmap::new(alloc, pages)?;

@@ -1,8 +1,7 @@
 //! What free space keeps before a change, and what is taken back, against a plain model that
 //! copies all it has.
 use crate::spaces::{one_volume, take_and_give_back, take_and_leave};
-use domain_base::{OutOfMemory, VolIx};
-use free_space::{FreeSpace, PageUse, Waiting};
+use free_space::{FreeSpace, OutOfMemory, PageUse, VolIx, Waiting};
 use std::alloc::Global;
 use std::test::Fail;
 

@@ -1,4 +1,5 @@
-//! Tests of the crates that the storage stands on: pages, records, bitmaps and free space.
+//! Tests of what the storage stands on: records, bitmaps, free space, and sets of numbers kept as
+//! spans.
 #![tactic(auto)]
 
 #[cfg(test)]
@@ -11,3 +12,5 @@ mod pages;
 mod records;
 #[cfg(test)]
 mod spaces;
+#[cfg(test)]
+mod spans;

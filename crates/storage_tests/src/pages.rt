@@ -1,6 +1,6 @@
 //! Pages of 8,192 bytes, and gates.
 
-use domain_base::{Page, Version, gate};
+use free_space::{Page, Version, gate};
 use std::alloc::Global;
 use std::test::Fail;
 

@@ -2,9 +2,9 @@
 //! zeros behind them, and what is read: the length and the record, or the kind and the place of the
 //! field that is wrong. What is read is written again, and has to be the same bytes.
 
-use domain_base::{OutOfMemory, Version};
+use cell_records::{Bad, ExtentField, HoleField, Leftover, Record, read_record, write_record};
+use free_space::{OutOfMemory, Version};
 use hex::decode;
-use record_table::{Bad, ExtentField, HoleField, Leftover, Record, read_record, write_record};
 use std::alloc::Global;
 use std::test::Fail;
 

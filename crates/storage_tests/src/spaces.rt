@@ -1,11 +1,9 @@
 //! Free space of volumes.
 ghost use Rattle.std.specs.Prelude.{◌≡◌, ◌≤◌, IfOk};
 
-use domain_base::{Home, OutOfMemory, VolIx};
-use free_space::{FreeSpace, PageUse};
+use free_space::{Bitmap, FreeSpace, Home, OutOfMemory, PageUse, VolIx};
 use std::alloc::Global;
 use std::test::Fail;
-use storage_bitmap::Bitmap;
 
 /// A bitmap of so many pages, the first of which are used.
 fn used_below(alloc: Global, pages: u32, used: u32) -> Result<Bitmap, OutOfMemory>

@@ -3,15 +3,15 @@ use Rattle.std.proofs.Common.{◌≡◌, ◌∙◌, ℕ, zero, suc, ◌+◌, ◌
 use Rattle.std.proofs.lemmas.List.{drop-append-le, take-append-drop, take-append-le}
 use Rattle.std.proofs.Math.Seq.{drop-append-add, drop-append_seam, take-append_seam}
 use Rattle.std.specs.Option.{option_and_then, option_map, option_map_or, unwrap_or}
-use Rattle.domain_base.specs.Page.{zero_bytes}
-use Rattle.domain_base.specs.declared.place.Home.{Home}
-use Rattle.page_store.specs.Bitfiles.{shown_index}
-use Rattle.page_store.specs.Pages.{Pages}
-use Rattle.record_table.specs.Fields.{number_at}
-use Rattle.record_table.proofs.Bytes.{little_number-take}
-use Rattle.stored_index.specs.Homes.{AreIndexHomes, IsIndexPage, shown_at}
-use Rattle.stored_index.proofs.Changed.{good_numbered}
-use Rattle.set_laws.specs.Whole.{entries_at, entries_on}
+use Rattle.index_pages.specs.domain_base.Page.{zero_bytes}
+use Rattle.index_pages.specs.domain_base.declared.place.Home.{Home}
+use Rattle.index_pages.specs.page_store.Bitfiles.{shown_index}
+use Rattle.index_pages.specs.page_store.Pages.{Pages}
+use Rattle.index_pages.specs.cell_records.Fields.{number_at}
+use Rattle.index_pages.proofs.OfCellRecords.Bytes.{little_number-take}
+use Rattle.index_pages.specs.Homes.{AreIndexHomes, IsIndexPage, shown_at}
+use Rattle.index_pages.proofs.Changed.{good_numbered}
+use Rattle.stored_set.specs.Whole.{entries_at, entries_on}
 
 -- a number is the same where its bytes are
 number_same : (w at : ℕ) (xs ys : List ℕ) → take w (drop at xs) ≡ take w (drop at ys) → number_at w at xs ≡ number_at w at ys

@@ -1,33 +1,33 @@
 -- An index of which a page is put in place of another, once it is said how many entries it has then.
 use Rattle.std.proofs.Common.{◌≡◌, ◌∙◌, ◌+◌, ◌-◌, ◌<◌, ◌≤◌, ℕ, Option, Some, None, List, length, refl, sym, ap, subst, arith}
 use Rattle.std.specs.Option.{option_and_then, option_map, option_map_or}
-use Rattle.domain_base.specs.declared.place.Home.{Home}
-use Rattle.domain_base.specs.declared.place.Tag.{Tag}
-use Rattle.page_store.specs.Bitfiles.{Bitfile, Bitfiles as SetOf, IsDirectory, count_index, put_index, shown_index, with_change, with_entry}
-use Rattle.page_store.specs.Pages.{Pages}
-use Rattle.bmt_mcells.specs.Chain.{PlacedCell}
-use Rattle.tag_dirs.specs.declared.dir.TagPlace.{TagPlace}
-use Rattle.free_cells.specs.Cells.{Cells}
-use Rattle.free_space.specs.Spaces.{Spaces}
-use Rattle.bitfile_core.specs.declared.indexing.IndexPlace.{IndexPlace}
-use Rattle.bitfile_core.specs.Changes.{ChangesFirst, with_chain, with_first}
-use Rattle.bitfile_core.specs.Files.{Chains, of_live}
-use Rattle.bitfile_core.specs.Index.{index_place_of, says_index}
-use Rattle.bitfile_core.specs.Shown.{index_of}
-use Rattle.bitfile_core.specs.State.{States, states_of, with_changed}
-use Rattle.bitfile_core.specs.Together.{AreTogether}
-use Rattle.bitfile_core.proofs.OneChain.{chain_same, same_tag_itself}
-use Rattle.bitfile_laws.specs.States.{indexed}
-use Rattle.bitfile_laws.proofs.FirstCells.{index_said}
-use Rattle.stored_index.specs.Changes.{PutsIndexPage}
-use Rattle.stored_index.specs.Homes.{AreIndexHomes, shown_at}
-use Rattle.set_laws.proofs.EntriesSaid.{said}
-use Rattle.set_laws.proofs.FirstTells.{tells_at}
-use Rattle.set_laws.proofs.IndexPut.{put as index_put}
-use Rattle.set_laws.proofs.Wholeness.{total_most, total_replaced, whole_put}
-use Rattle.set_laws.specs.Standing.{StandsShown}
-use Rattle.set_laws.specs.Whole.{AreWholeDirectories, entries_at, entries_on, total_on}
-use Rattle.set_laws.proofs.Bare.{bare_put}
+use Rattle.index_pages.specs.domain_base.declared.place.Home.{Home}
+use Rattle.index_pages.specs.domain_base.declared.place.Tag.{Tag}
+use Rattle.index_pages.specs.page_store.Bitfiles.{Bitfile, Bitfiles as SetOf, IsDirectory, count_index, put_index, shown_index, with_change, with_entry}
+use Rattle.index_pages.specs.page_store.Pages.{Pages}
+use Rattle.index_pages.specs.metadata_cells.Chain.{PlacedCell}
+use Rattle.index_pages.specs.tag_dirs.declared.dir.TagPlace.{TagPlace}
+use Rattle.index_pages.specs.free_cells.Cells.{Cells}
+use Rattle.index_pages.specs.free_space.Spaces.{Spaces}
+use Rattle.index_pages.specs.fileset_files.declared.indexing.IndexPlace.{IndexPlace}
+use Rattle.index_pages.specs.fileset_files.Changes.{ChangesFirst, with_chain, with_first}
+use Rattle.index_pages.specs.fileset_files.Files.{Chains, of_live}
+use Rattle.index_pages.specs.fileset_files.Index.{index_place_of, says_index}
+use Rattle.index_pages.specs.fileset_files.Shown.{index_of}
+use Rattle.index_pages.specs.fileset_files.State.{States, states_of, with_changed}
+use Rattle.index_pages.specs.fileset_files.Together.{AreTogether}
+use Rattle.index_pages.proofs.OfFilesetFiles.OneChain.{chain_same, same_tag_itself}
+use Rattle.index_pages.specs.fileset_files.States.{indexed}
+use Rattle.index_pages.proofs.OfFilesetFiles.FirstCells.{index_said}
+use Rattle.index_pages.specs.Changes.{PutsIndexPage}
+use Rattle.index_pages.specs.Homes.{AreIndexHomes, shown_at}
+use Rattle.stored_set.proofs.EntriesSaid.{said}
+use Rattle.stored_set.proofs.FirstTells.{tells_at}
+use Rattle.stored_set.proofs.IndexPut.{put as index_put}
+use Rattle.stored_set.proofs.Wholeness.{total_most, total_replaced, whole_put}
+use Rattle.stored_set.specs.Standing.{StandsShown}
+use Rattle.stored_set.specs.Whole.{AreWholeDirectories, entries_at, entries_on, total_on}
+use Rattle.stored_set.proofs.Bare.{bare_put}
 use Rattle.stored_set.proofs.Entries.{shown_entries}
 use Rattle.stored_set.proofs.Indexed.{begins, first_of}
 use Rattle.stored_set.proofs.Sized.{IsAt, index_count_here, index_here, the_file, total_here}

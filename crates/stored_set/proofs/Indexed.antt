@@ -1,23 +1,23 @@
 -- Where the index of a directory that is shown begins, and how many pages it has.
 use Rattle.std.proofs.Common.{◌≡◌, ◌∙◌, ◌<◌, ℕ, Bool, true, false, cond, Option, Some, None, IsSomeAnd, List, [], ◌∷◌, length, refl, sym, ap, subst, arith}
 use Rattle.std.specs.Option.{option_and_then, option_map, option_map_or}
-use Rattle.domain_base.specs.declared.place.Home.{Home}
-use Rattle.domain_base.specs.declared.place.Kind.TheVariants.{Directory}
-use Rattle.domain_base.specs.declared.place.Tag.{Tag}
-use Rattle.page_store.specs.Bitfiles.{Bitfile, Bitfiles as SetOf, IsDirectory, count_index}
-use Rattle.page_store.specs.Pages.{Pages}
-use Rattle.record_table.specs.declared.record.Record.{Record}
-use Rattle.record_table.specs.declared.record.Record.TheVariants as written
-use Rattle.bmt_mcells.specs.Chain.{PlacedCell}
-use Rattle.tag_dirs.specs.declared.dir.TagPlace.{TagPlace}
-use Rattle.free_cells.specs.Cells.{Cells}
-use Rattle.free_space.specs.Spaces.{Spaces}
-use Rattle.bitfile_core.specs.declared.indexing.IndexPlace.{IndexPlace}
-use Rattle.bitfile_core.specs.Files.{first_record, is_removed, of_live}
-use Rattle.bitfile_core.specs.Index.{index_place_in, index_place_of}
-use Rattle.bitfile_core.specs.Shown.{ShowsAt, ShowsFile, index_in, index_of}
-use Rattle.stored_index.specs.Homes.{AreIndexHomes, shown_at}
-use Rattle.set_laws.proofs.Told.{index_told}
+use Rattle.index_pages.specs.domain_base.declared.place.Home.{Home}
+use Rattle.index_pages.specs.domain_base.declared.place.Kind.TheVariants.{Directory}
+use Rattle.index_pages.specs.domain_base.declared.place.Tag.{Tag}
+use Rattle.index_pages.specs.page_store.Bitfiles.{Bitfile, Bitfiles as SetOf, IsDirectory, count_index}
+use Rattle.index_pages.specs.page_store.Pages.{Pages}
+use Rattle.index_pages.specs.cell_records.declared.record.Record.{Record}
+use Rattle.index_pages.specs.cell_records.declared.record.Record.TheVariants as written
+use Rattle.index_pages.specs.metadata_cells.Chain.{PlacedCell}
+use Rattle.index_pages.specs.tag_dirs.declared.dir.TagPlace.{TagPlace}
+use Rattle.index_pages.specs.free_cells.Cells.{Cells}
+use Rattle.index_pages.specs.free_space.Spaces.{Spaces}
+use Rattle.index_pages.specs.fileset_files.declared.indexing.IndexPlace.{IndexPlace}
+use Rattle.index_pages.specs.fileset_files.Files.{first_record, is_removed, of_live}
+use Rattle.index_pages.specs.fileset_files.Index.{index_place_in, index_place_of}
+use Rattle.index_pages.specs.fileset_files.Shown.{ShowsAt, ShowsFile, index_in, index_of}
+use Rattle.index_pages.specs.Homes.{AreIndexHomes, shown_at}
+use Rattle.stored_set.proofs.Told.{index_told}
 use Rattle.stored_set.specs.Sets.{StandsAsSet}
 
 -- where an index begins, by all that is told of it

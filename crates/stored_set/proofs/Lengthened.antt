@@ -3,54 +3,54 @@ use Rattle.std.proofs.Common.{◌≡◌, ◌∙◌, ◌+◌, ◌*◌, ◌<◌, �
 use Rattle.std.proofs.lemmas.Bool.{true≢false}
 use Rattle.std.specs.List.{AllByRecursion}
 use Rattle.std.specs.Option.{option_and_then, option_map, option_map_or}
-use Rattle.domain_base.specs.Limits.{file_pages, max_links, page_bytes}
-use Rattle.domain_base.specs.declared.place.CellAt.{CellAt}
-use Rattle.domain_base.specs.declared.place.Home.{Home}
-use Rattle.domain_base.specs.declared.place.Kind.TheVariants.{Directory}
-use Rattle.domain_base.specs.declared.place.Tag.{Tag}
-use Rattle.domain_base.specs.declared.version.Version.{Version}
-use Rattle.page_store.specs.Bitfiles.{Bitfile, Bitfiles as SetOf, IsDirectory, count_pages, put_page, same_tag, with_change, with_file}
-use Rattle.page_store.specs.Pages.{Pages, same_home, with_page}
-use Rattle.bmt_mcells.proofs.Changed.{homes_same}
-use Rattle.page_store.specs.declared.fault.StoreFault.{StoreFault}
-use Rattle.page_store.specs.declared.fault.StoreFault.TheVariants.{NoPage, OutOfMemory}
-use Rattle.record_table.specs.declared.record.Record.{Record}
-use Rattle.record_table.specs.declared.record.Record.TheVariants as written
-use Rattle.record_table.specs.Records.{Allowed}
-use Rattle.bmt_mcells.specs.Cell.{record_of}
-use Rattle.bmt_mcells.specs.CellPage.{cell_of, home_of, is_cell_page}
-use Rattle.bmt_mcells.specs.Chain.{PlacedCell}
-use Rattle.tag_dirs.specs.declared.dir.TagPlace.{TagPlace}
-use Rattle.extent_maps.specs.declared.run.PagePlace.TheVariants.{Absent, At}
-use Rattle.free_cells.specs.Cells.{Cells}
-use Rattle.free_space.specs.Spaces.{Spaces, missed}
-use Rattle.bitfile_cells.specs.FileChanges.{LeavesOtherCells}
-use Rattle.bitfile_cells.specs.Files.{IsFile, places_of}
-use Rattle.bitfile_cells.specs.MapChanges.{LeavesOffTables}
-use Rattle.bitfile_core.specs.declared.attributes.Attributes.{Attributes}
-use Rattle.bitfile_core.specs.Changes.{CanSay, ChangesFirst, says_attributes, with_chain, with_first}
-use Rattle.bitfile_core.specs.Files.{AreFiles, Chains, IsLiveCell, attributes_in, attributes_of, first_record, is_removed, keep_of, of_live, place_at}
-use Rattle.bitfile_core.specs.Pages.{ChangesFile, GetsNone, MayGrow, TakesHome}
-use Rattle.bitfile_core.specs.Shown.{IsWhat}
-use Rattle.bitfile_core.specs.State.{FileState, States, state_of, states_of, with_changed}
-use Rattle.bitfile_core.specs.Together.{AreTogether}
-use Rattle.bitfile_core.proofs.Again.{together_missed}
-use Rattle.bitfile_core.proofs.Created.{one_chains}
-use Rattle.bitfile_core.proofs.Live.{live_some}
-use Rattle.bitfile_core.proofs.OneChain.{chain_same, same_tag_itself}
-use Rattle.bitfile_core.proofs.OneFile.{tags_same}
-use Rattle.bitfile_core.proofs.Room.{allowed_found}
-use Rattle.bitfile_laws.specs.States.{described, if_live, is_removing, live_at, placed}
-use Rattle.bitfile_laws.proofs.FirstCells.{attributes_said}
-use Rattle.bitfile_laws.proofs.Parts.{file_at, states_changed}
-use Rattle.bitfile_laws.proofs.Placed.{page_placed}
-use Rattle.bitfile_laws.proofs.Told.{told_attributes, told_keep, told_place}
-use Rattle.set_laws.proofs.Owned.{set as owner_set}
-use Rattle.set_laws.proofs.PageAdded.{added}
-use Rattle.set_laws.proofs.Wholeness.{whole_added}
-use Rattle.set_laws.specs.Standing.{StandsShown, owned}
-use Rattle.set_laws.specs.Whole.{AreWholeDirectories, IsWholeDirectory}
-use Rattle.set_laws.proofs.Bare.{bare_written}
+use Rattle.index_pages.specs.domain_base.Limits.{file_pages, max_links, page_bytes}
+use Rattle.index_pages.specs.domain_base.declared.place.CellAt.{CellAt}
+use Rattle.index_pages.specs.domain_base.declared.place.Home.{Home}
+use Rattle.index_pages.specs.domain_base.declared.place.Kind.TheVariants.{Directory}
+use Rattle.index_pages.specs.domain_base.declared.place.Tag.{Tag}
+use Rattle.index_pages.specs.domain_base.declared.version.Version.{Version}
+use Rattle.index_pages.specs.page_store.Bitfiles.{Bitfile, Bitfiles as SetOf, IsDirectory, count_pages, put_page, same_tag, with_change, with_file}
+use Rattle.index_pages.specs.page_store.Pages.{Pages, same_home, with_page}
+use Rattle.index_pages.proofs.OfMetadataCells.Changed.{homes_same}
+use Rattle.index_pages.specs.page_store.declared.fault.StoreFault.{StoreFault}
+use Rattle.index_pages.specs.page_store.declared.fault.StoreFault.TheVariants.{NoPage, OutOfMemory}
+use Rattle.index_pages.specs.cell_records.declared.record.Record.{Record}
+use Rattle.index_pages.specs.cell_records.declared.record.Record.TheVariants as written
+use Rattle.index_pages.specs.cell_records.Records.{Allowed}
+use Rattle.index_pages.specs.metadata_cells.Cell.{record_of}
+use Rattle.index_pages.specs.metadata_cells.CellPage.{cell_of, home_of, is_cell_page}
+use Rattle.index_pages.specs.metadata_cells.Chain.{PlacedCell}
+use Rattle.index_pages.specs.tag_dirs.declared.dir.TagPlace.{TagPlace}
+use Rattle.index_pages.specs.extent_maps.declared.run.PagePlace.TheVariants.{Absent, At}
+use Rattle.index_pages.specs.free_cells.Cells.{Cells}
+use Rattle.index_pages.specs.free_space.Spaces.{Spaces, missed}
+use Rattle.index_pages.specs.file_chains.FileChanges.{LeavesOtherCells}
+use Rattle.index_pages.specs.file_chains.Files.{IsFile, places_of}
+use Rattle.index_pages.specs.file_chains.MapChanges.{LeavesOffTables}
+use Rattle.index_pages.specs.fileset_files.declared.attributes.Attributes.{Attributes}
+use Rattle.index_pages.specs.fileset_files.Changes.{CanSay, ChangesFirst, says_attributes, with_chain, with_first}
+use Rattle.index_pages.specs.fileset_files.Files.{AreFiles, Chains, IsLiveCell, attributes_in, attributes_of, first_record, is_removed, keep_of, of_live, place_at}
+use Rattle.index_pages.specs.fileset_files.Pages.{ChangesFile, GetsNone, MayGrow, TakesHome}
+use Rattle.index_pages.specs.fileset_files.Shown.{IsWhat}
+use Rattle.index_pages.specs.fileset_files.State.{FileState, States, state_of, states_of, with_changed}
+use Rattle.index_pages.specs.fileset_files.Together.{AreTogether}
+use Rattle.index_pages.proofs.OfFilesetFiles.Again.{together_missed}
+use Rattle.index_pages.proofs.OfFilesetFiles.Created.{one_chains}
+use Rattle.index_pages.proofs.OfFilesetFiles.Live.{live_some}
+use Rattle.index_pages.proofs.OfFilesetFiles.OneChain.{chain_same, same_tag_itself}
+use Rattle.index_pages.proofs.OfFilesetFiles.OneFile.{tags_same}
+use Rattle.index_pages.proofs.OfFilesetFiles.Room.{allowed_found}
+use Rattle.index_pages.specs.fileset_files.States.{described, if_live, is_removing, live_at, placed}
+use Rattle.index_pages.proofs.OfFilesetFiles.FirstCells.{attributes_said}
+use Rattle.index_pages.proofs.OfFilesetFiles.Parts.{file_at, states_changed}
+use Rattle.index_pages.proofs.OfFilesetFiles.Placed.{page_placed}
+use Rattle.index_pages.proofs.OfFilesetFiles.Told.{told_attributes, told_keep, told_place}
+use Rattle.stored_set.proofs.Owned.{set as owner_set}
+use Rattle.stored_set.proofs.PageAdded.{added}
+use Rattle.stored_set.proofs.Wholeness.{whole_added}
+use Rattle.stored_set.specs.Standing.{StandsShown, owned}
+use Rattle.stored_set.specs.Whole.{AreWholeDirectories, IsWholeDirectory}
+use Rattle.stored_set.proofs.Bare.{bare_written}
 use Rattle.stored_set.proofs.Live.{missed_still, told_any}
 use Rattle.stored_set.proofs.Sized.{IsAt, count_here, the_file, whole_here}
 use Rattle.stored_set.proofs.States.{said_states}

@@ -1,30 +1,30 @@
 -- What a set is where a file is made, or none is.
 use Rattle.std.proofs.Common.{◌≡◌, ◌≤◌, ℕ, List, [], ◌∷◌, ◌++◌, None, false, Result, Ok, Err, IfOk, IfErr, OnOk, OnErr, ⊎_elim, sym, subst}
 use Rattle.std.proofs.lemmas.Bool.{or_cases, or_left, or_right, true≢false}
-use Rattle.domain_base.specs.declared.place.Home.{Home}
-use Rattle.domain_base.specs.declared.place.Tag.{Tag}
-use Rattle.domain_base.specs.declared.version.Version.{Version}
-use Rattle.page_store.specs.Bitfiles.{Bitfiles as SetOf, new_file as shown_new, with_file}
-use Rattle.page_store.specs.Pages.{Pages, same_home}
-use Rattle.page_store.specs.declared.fault.StoreFault.{StoreFault}
-use Rattle.page_store.specs.declared.fault.StoreFault.TheVariants.{NoPage, OutOfMemory}
-use Rattle.bmt_mcells.proofs.Changed.{homes_same, same_itself}
-use Rattle.tag_dirs.specs.declared.dir.TagPlace.{TagPlace}
-use Rattle.tag_dirs.specs.Directory.{has_home}
-use Rattle.free_cells.specs.Cells.{Cells}
-use Rattle.free_space.specs.Spaces.{Spaces}
-use Rattle.bitfile_core.specs.declared.bitfiles.Bitfiles.{Bitfiles}
-use Rattle.bitfile_core.specs.declared.new_cells.NewFile.{NewFile}
-use Rattle.bitfile_core.specs.Creation.{Creates, CreatesNone, LeavesBeside, TakesForFile}
-use Rattle.bitfile_core.proofs.Again.{together_missed}
-use Rattle.set_laws.proofs.Made.{made}
-use Rattle.set_laws.proofs.Bare.{bare_made}
+use Rattle.index_pages.specs.domain_base.declared.place.Home.{Home}
+use Rattle.index_pages.specs.domain_base.declared.place.Tag.{Tag}
+use Rattle.index_pages.specs.domain_base.declared.version.Version.{Version}
+use Rattle.index_pages.specs.page_store.Bitfiles.{Bitfiles as SetOf, new_file as shown_new, with_file}
+use Rattle.index_pages.specs.page_store.Pages.{Pages, same_home}
+use Rattle.index_pages.specs.page_store.declared.fault.StoreFault.{StoreFault}
+use Rattle.index_pages.specs.page_store.declared.fault.StoreFault.TheVariants.{NoPage, OutOfMemory}
+use Rattle.index_pages.proofs.OfMetadataCells.Changed.{homes_same, same_itself}
+use Rattle.index_pages.specs.tag_dirs.declared.dir.TagPlace.{TagPlace}
+use Rattle.index_pages.specs.tag_dirs.Directory.{has_home}
+use Rattle.index_pages.specs.free_cells.Cells.{Cells}
+use Rattle.index_pages.specs.free_space.Spaces.{Spaces}
+use Rattle.index_pages.specs.fileset_files.declared.bitfiles.Bitfiles.{Bitfiles}
+use Rattle.index_pages.specs.fileset_files.declared.new_cells.NewFile.{NewFile}
+use Rattle.index_pages.specs.fileset_files.Creation.{Creates, CreatesNone, LeavesBeside, TakesForFile}
+use Rattle.index_pages.proofs.OfFilesetFiles.Again.{together_missed}
+use Rattle.stored_set.proofs.Made.{made}
+use Rattle.stored_set.proofs.Bare.{bare_made}
 use Rattle.stored_set.proofs.Live.{missed_still, none_shown}
-use Rattle.bitfile_core.specs.State.{States, states_of}
-use Rattle.bitfile_laws.proofs.Placed.{states_made}
-use Rattle.set_laws.proofs.Wholeness.{whole_made}
-use Rattle.set_laws.specs.Standing.{AreTagsOnVolumes}
-use Rattle.set_laws.specs.Whole.{AreWholeDirectories}
+use Rattle.index_pages.specs.fileset_files.State.{States, states_of}
+use Rattle.index_pages.proofs.OfFilesetFiles.Placed.{states_made}
+use Rattle.stored_set.proofs.Wholeness.{whole_made}
+use Rattle.stored_set.specs.Standing.{AreTagsOnVolumes}
+use Rattle.stored_set.specs.Whole.{AreWholeDirectories}
 use Rattle.stored_set.specs.Sets.{StandsAsSet}
 
 -- the pages of tags with one more, on a volume that there may be

@@ -2,32 +2,32 @@
 use Rattle.std.proofs.Common.{◌≡◌, ◌∙◌, ◌+◌, ◌^◌, ◌<◌, ◌≤◌, ℕ, Option, Some, None, List, [], ◌∷◌, Contains, length, refl, sym, ap, subst, arith}
 use Rattle.std.specs.List.{insert}
 use Rattle.std.specs.Option.{option_and_then, option_map_or}
-use Rattle.domain_base.specs.declared.place.Home.{Home}
-use Rattle.domain_base.specs.declared.place.Tag.{Tag}
-use Rattle.page_store.specs.Bitfiles.{Bitfile, Bitfiles as SetOf, IsDirectory, count_index, insert_index, shown_index, with_change}
-use Rattle.page_store.specs.Pages.{Pages}
-use Rattle.tag_dirs.specs.declared.dir.TagPlace.{TagPlace}
-use Rattle.free_cells.specs.Cells.{Cells}
-use Rattle.free_space.specs.VolumeSpace.{with_page}
-use Rattle.free_space.specs.Spaces.{CanTake, IsHeld, Spaces, change_volume}
-use Rattle.bitfile_cells.proofs.Spaces.{not_held}
-use Rattle.bitfile_core.specs.declared.indexing.IndexPlace.{IndexPlace}
-use Rattle.bitfile_core.specs.Changes.{ChangesFirst, with_chain, with_first}
-use Rattle.bitfile_core.specs.Files.{of_live}
-use Rattle.bitfile_core.specs.Index.{index_place_of, says_index}
-use Rattle.bitfile_core.specs.State.{States, states_of}
-use Rattle.bitfile_core.specs.Together.{AreTogether}
-use Rattle.bitfile_core.proofs.Created.{together_page}
-use Rattle.bitfile_laws.specs.States.{indexed}
-use Rattle.bitfile_laws.proofs.FirstCells.{index_said}
-use Rattle.stored_index.specs.Changes.{InsertsIndexPage}
-use Rattle.stored_index.specs.Homes.{AreIndexHomes, shown_at}
-use Rattle.stored_index.proofs.Homes.{kept_same}
-use Rattle.set_laws.proofs.FirstTells.{off_tables_still}
-use Rattle.set_laws.proofs.SaidFirst.{linked_in}
-use Rattle.set_laws.proofs.Wholeness.{total_inserted, whole_inserted}
-use Rattle.set_laws.specs.Whole.{AreWholeDirectories, entries_on, total_on}
-use Rattle.set_laws.proofs.Bare.{bare_inserted}
+use Rattle.index_pages.specs.domain_base.declared.place.Home.{Home}
+use Rattle.index_pages.specs.domain_base.declared.place.Tag.{Tag}
+use Rattle.index_pages.specs.page_store.Bitfiles.{Bitfile, Bitfiles as SetOf, IsDirectory, count_index, insert_index, shown_index, with_change}
+use Rattle.index_pages.specs.page_store.Pages.{Pages}
+use Rattle.index_pages.specs.tag_dirs.declared.dir.TagPlace.{TagPlace}
+use Rattle.index_pages.specs.free_cells.Cells.{Cells}
+use Rattle.index_pages.specs.free_space.VolumeSpace.{with_page}
+use Rattle.index_pages.specs.free_space.Spaces.{CanTake, IsHeld, Spaces, change_volume}
+use Rattle.index_pages.proofs.OfFileChains.Spaces.{not_held}
+use Rattle.index_pages.specs.fileset_files.declared.indexing.IndexPlace.{IndexPlace}
+use Rattle.index_pages.specs.fileset_files.Changes.{ChangesFirst, with_chain, with_first}
+use Rattle.index_pages.specs.fileset_files.Files.{of_live}
+use Rattle.index_pages.specs.fileset_files.Index.{index_place_of, says_index}
+use Rattle.index_pages.specs.fileset_files.State.{States, states_of}
+use Rattle.index_pages.specs.fileset_files.Together.{AreTogether}
+use Rattle.index_pages.proofs.OfFilesetFiles.Created.{together_page}
+use Rattle.index_pages.specs.fileset_files.States.{indexed}
+use Rattle.index_pages.proofs.OfFilesetFiles.FirstCells.{index_said}
+use Rattle.index_pages.specs.Changes.{InsertsIndexPage}
+use Rattle.index_pages.specs.Homes.{AreIndexHomes, shown_at}
+use Rattle.index_pages.proofs.Homes.{kept_same}
+use Rattle.stored_set.proofs.FirstTells.{off_tables_still}
+use Rattle.stored_set.proofs.SaidFirst.{linked_in}
+use Rattle.stored_set.proofs.Wholeness.{total_inserted, whole_inserted}
+use Rattle.stored_set.specs.Whole.{AreWholeDirectories, entries_on, total_on}
+use Rattle.stored_set.proofs.Bare.{bare_inserted}
 use Rattle.stored_set.proofs.Entries.{shown_entries}
 use Rattle.stored_set.proofs.Indexed.{counted, first_of, homes_at}
 use Rattle.stored_set.proofs.Sized.{IsAt, index_count_here, index_here, the_file, total_here}

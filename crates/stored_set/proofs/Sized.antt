@@ -1,27 +1,27 @@
 -- How long a directory is that a set shows.
 use Rattle.std.proofs.Common.{◌≡◌, ◌∙◌, ◌*◌, ◌^◌, ◌<◌, ◌≤◌, ℕ, Bool, true, false, cond, List, [], ◌∷◌, length, slice_get, Some, None, Option, IfSome, IsSomeAnd, refl, sym, ap, subst, arith}
 use Rattle.std.specs.Option.{option_and_then, option_map, option_map_or}
-use Rattle.domain_base.specs.Limits.{file_pages, page_bytes}
-use Rattle.domain_base.specs.declared.place.Kind.{Kind}
-use Rattle.domain_base.specs.declared.place.Kind.TheVariants.{Directory, File}
-use Rattle.domain_base.specs.declared.place.Tag.{Tag}
-use Rattle.page_store.specs.Bitfiles.{Bitfile, Bitfiles as SetOf, IsDirectory, count_index, count_pages, index_at}
-use Rattle.page_store.specs.Pages.{Pages}
-use Rattle.bmt_mcells.specs.Chain.{PlacedCell}
-use Rattle.tag_dirs.specs.declared.dir.TagPlace.{TagPlace}
-use Rattle.free_cells.specs.Cells.{Cells}
-use Rattle.free_space.specs.Spaces.{Spaces}
-use Rattle.bitfile_core.specs.declared.attributes.Attributes.{Attributes}
-use Rattle.bitfile_core.specs.declared.indexing.IndexPlace.{IndexPlace}
-use Rattle.bitfile_core.specs.Files.{attributes_of, is_removed, of_live}
-use Rattle.bitfile_core.specs.Index.{index_place_of}
-use Rattle.bitfile_core.specs.Shown.{IsWhat, ShowsAt, ShowsFile, shown_page}
-use Rattle.bitfile_core.specs.State.{FileState, states_of}
-use Rattle.bitfile_laws.specs.States.{if_live, is_removing, live_at}
-use Rattle.bitfile_laws.proofs.Told.{told_attributes, told_index}
-use Rattle.stored_index.specs.Homes.{shown_at}
-use Rattle.set_laws.proofs.Told.{index_told}
-use Rattle.set_laws.specs.Whole.{IsWholeAt, IsWholeDirectory, total_on}
+use Rattle.index_pages.specs.domain_base.Limits.{file_pages, page_bytes}
+use Rattle.index_pages.specs.domain_base.declared.place.Kind.{Kind}
+use Rattle.index_pages.specs.domain_base.declared.place.Kind.TheVariants.{Directory, File}
+use Rattle.index_pages.specs.domain_base.declared.place.Tag.{Tag}
+use Rattle.index_pages.specs.page_store.Bitfiles.{Bitfile, Bitfiles as SetOf, IsDirectory, count_index, count_pages, index_at}
+use Rattle.index_pages.specs.page_store.Pages.{Pages}
+use Rattle.index_pages.specs.metadata_cells.Chain.{PlacedCell}
+use Rattle.index_pages.specs.tag_dirs.declared.dir.TagPlace.{TagPlace}
+use Rattle.index_pages.specs.free_cells.Cells.{Cells}
+use Rattle.index_pages.specs.free_space.Spaces.{Spaces}
+use Rattle.index_pages.specs.fileset_files.declared.attributes.Attributes.{Attributes}
+use Rattle.index_pages.specs.fileset_files.declared.indexing.IndexPlace.{IndexPlace}
+use Rattle.index_pages.specs.fileset_files.Files.{attributes_of, is_removed, of_live}
+use Rattle.index_pages.specs.fileset_files.Index.{index_place_of}
+use Rattle.index_pages.specs.fileset_files.Shown.{IsWhat, ShowsAt, ShowsFile, shown_page}
+use Rattle.index_pages.specs.fileset_files.State.{FileState, states_of}
+use Rattle.index_pages.specs.fileset_files.States.{if_live, is_removing, live_at}
+use Rattle.index_pages.proofs.OfFilesetFiles.Told.{told_attributes, told_index}
+use Rattle.index_pages.specs.Homes.{shown_at}
+use Rattle.stored_set.proofs.Told.{index_told}
+use Rattle.stored_set.specs.Whole.{IsWholeAt, IsWholeDirectory, total_on}
 use Rattle.stored_set.proofs.Live.{told_any}
 use Rattle.stored_set.specs.Sets.{StandsAsSet}
 

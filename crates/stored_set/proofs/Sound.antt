@@ -3,27 +3,27 @@ use Rattle.std.proofs.Common.{◌≡◌, ◌∙◌, ◌+◌, ◌^◌, ◌<◌, �
 use Rattle.std.specs.Prelude.{All}
 use Rattle.std.proofs.lemmas.List.Elements.{All-cons, All-nil}
 use Rattle.std.specs.Option.{option_and_then, option_map, option_map_or, unwrap_or}
-use Rattle.domain_base.specs.Limits.{file_pages, max_links, page_bytes}
-use Rattle.domain_base.specs.Page.{length-zero_bytes, zero_bytes}
-use Rattle.domain_base.specs.declared.place.Home.{Home}
-use Rattle.domain_base.specs.declared.place.Kind.{Kind}
-use Rattle.domain_base.specs.declared.place.Kind.TheVariants.{Directory, File}
-use Rattle.domain_base.specs.declared.place.Tag.{Tag}
-use Rattle.page_store.specs.Bitfiles.{AreWholePages, Bitfile, Bitfiles, IsBitfile, shown_index}
-use Rattle.page_store.specs.Pages.{AreWhole, Pages}
-use Rattle.bmt_mcells.specs.Chain.{PlacedCell}
-use Rattle.tag_dirs.specs.declared.dir.TagPlace.{TagPlace}
-use Rattle.extent_maps.specs.declared.run.PagePlace.{PagePlace}
-use Rattle.extent_maps.specs.declared.run.PagePlace.TheVariants.{Absent, At, Hole}
-use Rattle.free_cells.specs.Cells.{Cells}
-use Rattle.free_space.specs.Spaces.{Spaces}
-use Rattle.bitfile_cells.specs.Files.{places_of}
-use Rattle.bitfile_core.specs.declared.attributes.Attributes.{Attributes}
-use Rattle.bitfile_core.specs.Files.{Chains, attributes_of, is_removed, of_live}
-use Rattle.bitfile_core.specs.Shown.{IsWhat, ShowsAt, ShowsFile, index_of, page_there, shown_page}
-use Rattle.stored_index.specs.Homes.{AreIndexHomes, IsIndexPage, shown_at}
-use Rattle.stored_index.proofs.Changed.{good_numbered}
-use Rattle.set_laws.proofs.IndexPut.{index_is}
+use Rattle.index_pages.specs.domain_base.Limits.{file_pages, max_links, page_bytes}
+use Rattle.index_pages.specs.domain_base.Page.{length-zero_bytes, zero_bytes}
+use Rattle.index_pages.specs.domain_base.declared.place.Home.{Home}
+use Rattle.index_pages.specs.domain_base.declared.place.Kind.{Kind}
+use Rattle.index_pages.specs.domain_base.declared.place.Kind.TheVariants.{Directory, File}
+use Rattle.index_pages.specs.domain_base.declared.place.Tag.{Tag}
+use Rattle.index_pages.specs.page_store.Bitfiles.{AreWholePages, Bitfile, Bitfiles, IsBitfile, shown_index}
+use Rattle.index_pages.specs.page_store.Pages.{AreWhole, Pages}
+use Rattle.index_pages.specs.metadata_cells.Chain.{PlacedCell}
+use Rattle.index_pages.specs.tag_dirs.declared.dir.TagPlace.{TagPlace}
+use Rattle.index_pages.specs.extent_maps.declared.run.PagePlace.{PagePlace}
+use Rattle.index_pages.specs.extent_maps.declared.run.PagePlace.TheVariants.{Absent, At, Hole}
+use Rattle.index_pages.specs.free_cells.Cells.{Cells}
+use Rattle.index_pages.specs.free_space.Spaces.{Spaces}
+use Rattle.index_pages.specs.file_chains.Files.{places_of}
+use Rattle.index_pages.specs.fileset_files.declared.attributes.Attributes.{Attributes}
+use Rattle.index_pages.specs.fileset_files.Files.{Chains, attributes_of, is_removed, of_live}
+use Rattle.index_pages.specs.fileset_files.Shown.{IsWhat, ShowsAt, ShowsFile, index_of, page_there, shown_page}
+use Rattle.index_pages.specs.Homes.{AreIndexHomes, IsIndexPage, shown_at}
+use Rattle.index_pages.proofs.Changed.{good_numbered}
+use Rattle.stored_set.proofs.IndexPut.{index_is}
 use Rattle.stored_set.proofs.Entries.{shown_there}
 use Rattle.stored_set.proofs.Lengthened.{HasLinks, links_fit}
 use Rattle.stored_set.proofs.Sized.{IsAt, fits_here, index_fits_here}

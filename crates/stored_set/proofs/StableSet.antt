@@ -2,22 +2,22 @@
 use Rattle.std.proofs.Common.{◌≡◌, ℕ, List, subst}
 use Rattle.std.proofs.Math.Logic.{∥∥₁_map}
 use Rattle.std.specs.Option.{option_and_then}
-use Rattle.page_store.specs.Bitfiles.{Bitfiles}
-use Rattle.page_store.specs.Pages.{Pages}
-use Rattle.tag_dirs.specs.declared.dir.TagPlace.{TagPlace}
-use Rattle.free_cells.specs.Cells.{Cells}
-use Rattle.free_space.specs.Spaces.{Spaces}
-use Rattle.bitfile_core.specs.Files.{Chains}
-use Rattle.bitfile_core.specs.Shown.{ShowsAt, index_of}
-use Rattle.bitfile_core.specs.State.{states_of}
-use Rattle.bitfile_core.proofs.Created.{one_chains}
-use Rattle.bitfile_core.proofs.ShownOnce.{show_once}
-use Rattle.stored_index.proofs.Homes.{one_list}
-use Rattle.set_laws.specs.Standing.{AreTagsOnVolumes, Indexes, StandsShown}
-use Rattle.set_laws.specs.Whole.{AreWholeDirectories, HaveNoIndex}
-use Rattle.set_laws.proofs.Stable.{IsStable, both, determined}
-use Rattle.set_laws.proofs.StableFiles.{chains_set}
-use Rattle.set_laws.proofs.StableSets.{files_set, indexes_set, no_index, stands_shown, tags_low, whole_directories}
+use Rattle.index_pages.specs.page_store.Bitfiles.{Bitfiles}
+use Rattle.index_pages.specs.page_store.Pages.{Pages}
+use Rattle.index_pages.specs.tag_dirs.declared.dir.TagPlace.{TagPlace}
+use Rattle.index_pages.specs.free_cells.Cells.{Cells}
+use Rattle.index_pages.specs.free_space.Spaces.{Spaces}
+use Rattle.index_pages.specs.fileset_files.Files.{Chains}
+use Rattle.index_pages.specs.fileset_files.Shown.{ShowsAt, index_of}
+use Rattle.index_pages.specs.fileset_files.State.{states_of}
+use Rattle.index_pages.proofs.OfFilesetFiles.Created.{one_chains}
+use Rattle.index_pages.proofs.OfFilesetFiles.ShownOnce.{show_once}
+use Rattle.index_pages.proofs.Homes.{one_list}
+use Rattle.stored_set.specs.Standing.{AreTagsOnVolumes, Indexes, StandsShown}
+use Rattle.stored_set.specs.Whole.{AreWholeDirectories, HaveNoIndex}
+use Rattle.stored_set.proofs.Stable.{IsStable, both, determined}
+use Rattle.stored_set.proofs.StableFiles.{chains_set}
+use Rattle.stored_set.proofs.StableSets.{files_set, indexes_set, no_index, stands_shown, tags_low, whole_directories}
 use Rattle.stored_set.specs.Sets.{HasSet}
 
 module _ (fileset : ℕ) (places : List TagPlace) (space : Spaces) (cells : Cells) (pages : Pages) where

@@ -1,19 +1,19 @@
 -- The map of files where one of them changes.
 use Rattle.std.proofs.Common.{◌≡◌, ℕ, Bool, true, false, cond, List, [], ◌∷◌, None, refl}
 use Rattle.std.specs.Option.{option_and_then, option_map}
-use Rattle.domain_base.specs.declared.place.CellAt.{CellAt}
-use Rattle.domain_base.specs.declared.place.Tag.{Tag}
-use Rattle.page_store.specs.Bitfiles.{same_tag}
-use Rattle.page_store.specs.Pages.{Pages}
-use Rattle.bmt_mcells.specs.Cell.{Cell}
-use Rattle.bmt_mcells.specs.Chain.{PlacedCell}
-use Rattle.tag_dirs.specs.declared.dir.TagPlace.{TagPlace}
-use Rattle.bitfile_cells.specs.Files.{IsFile}
-use Rattle.bitfile_core.specs.Changes.{with_chain, with_first, without_chain}
-use Rattle.bitfile_core.specs.Files.{AreFiles, Chains}
-use Rattle.bitfile_core.specs.State.{FileState, state_of, states_of, with_changed, without_state}
-use Rattle.bitfile_laws.proofs.Calls.{Says}
-use Rattle.bitfile_laws.proofs.Parts.{file_at, states_changed}
+use Rattle.index_pages.specs.domain_base.declared.place.CellAt.{CellAt}
+use Rattle.index_pages.specs.domain_base.declared.place.Tag.{Tag}
+use Rattle.index_pages.specs.page_store.Bitfiles.{same_tag}
+use Rattle.index_pages.specs.page_store.Pages.{Pages}
+use Rattle.index_pages.specs.metadata_cells.Cell.{Cell}
+use Rattle.index_pages.specs.metadata_cells.Chain.{PlacedCell}
+use Rattle.index_pages.specs.tag_dirs.declared.dir.TagPlace.{TagPlace}
+use Rattle.index_pages.specs.file_chains.Files.{IsFile}
+use Rattle.index_pages.specs.fileset_files.Changes.{with_chain, with_first, without_chain}
+use Rattle.index_pages.specs.fileset_files.Files.{AreFiles, Chains}
+use Rattle.index_pages.specs.fileset_files.State.{FileState, state_of, states_of, with_changed, without_state}
+use Rattle.index_pages.proofs.OfFilesetFiles.Calls.{Says}
+use Rattle.index_pages.proofs.OfFilesetFiles.Parts.{file_at, states_changed}
 
 says_of : (change : Cell → Cell) (how : FileState → FileState) → Says change how → (pages : Pages) (cells : List PlacedCell) (at : CellAt) → IsFile pages at cells → state_of (with_first change cells) ≡ option_map how (state_of cells)
 says_of change how says pages [] at is = absurd is

@@ -3,46 +3,46 @@ use Rattle.std.proofs.Common.{◌≡◌, ◌∙◌, ◌^◌, ◌<◌, ℕ, Bool,
 use Rattle.std.proofs.lemmas.Bool.{true≢false}
 use Rattle.std.specs.List.{AllByRecursion}
 use Rattle.std.specs.Option.{option_and_then, option_map, option_map_or}
-use Rattle.domain_base.specs.declared.place.CellAt.{CellAt}
-use Rattle.domain_base.specs.declared.place.Home.{Home}
-use Rattle.domain_base.specs.declared.place.Kind.{Kind}
-use Rattle.domain_base.specs.declared.place.Kind.TheVariants.{Directory, File}
-use Rattle.domain_base.specs.declared.place.Tag.{Tag}
-use Rattle.page_store.specs.Bitfiles.{Bitfile, Bitfiles as SetOf, IsDirectory, same_tag, without_file}
-use Rattle.page_store.specs.Pages.{Pages}
-use Rattle.record_table.specs.declared.record.Record.{Record}
-use Rattle.bmt_mcells.specs.CellPage.{cell_at}
-use Rattle.bmt_mcells.specs.Chain.{PlacedCell, StandsAt}
-use Rattle.tag_dirs.specs.Directory.{has_home, sequence_of}
-use Rattle.tag_dirs.specs.declared.dir.TagPlace.{TagPlace}
-use Rattle.tag_dirs.specs.declared.page.TagEntry.{TagEntry}
-use Rattle.free_cells.specs.Cells.{Cells, table_of}
-use Rattle.free_space.specs.Spaces.{Spaces}
-use Rattle.bitfile_cells.specs.FileChanges.{AreOnTables}
-use Rattle.bitfile_cells.specs.Files.{IsFile}
-use Rattle.bitfile_cells.proofs.ChainChanges.{stand_file}
-use Rattle.bitfile_core.specs.declared.indexing.IndexPlace.{IndexPlace}
-use Rattle.bitfile_core.specs.Changes.{ChangesBeside, ChangesFirst, IsLive, KeepsSequences, Removes, says_removed, with_chain, with_first, without_chain}
-use Rattle.bitfile_core.specs.Files.{AreFiles, Chains, attributes_in, attributes_of, is_removed, of_live, says_remove}
-use Rattle.bitfile_core.specs.Index.{index_place_of, says_index}
-use Rattle.bitfile_core.specs.Shown.{AreIndexPages, ShowsAt, ShowsFile, index_of}
-use Rattle.bitfile_core.specs.State.{States, states_of}
-use Rattle.bitfile_core.specs.Together.{AreTogether}
-use Rattle.bitfile_core.proofs.Created.{one_chains}
-use Rattle.bitfile_core.proofs.FirstCell.{find_other}
-use Rattle.bitfile_core.proofs.OneChain.{chain_same, file_by, same_tag_itself}
-use Rattle.bitfile_core.proofs.Tags.{entry_same, pages_same, sequence_stays}
-use Rattle.bitfile_laws.proofs.Parts.{file_at}
-use Rattle.stored_index.specs.Changes.{AreHeld, DropsIndex}
-use Rattle.stored_index.specs.Homes.{AreIndexHomes}
-use Rattle.stored_index.proofs.Homes.{kept_same}
-use Rattle.set_laws.proofs.Bare.{bare_taken}
-use Rattle.set_laws.proofs.GivenBack.{taken_with_index}
-use Rattle.set_laws.proofs.TakenOut.{same}
-use Rattle.set_laws.proofs.Together.{stands_still}
-use Rattle.set_laws.proofs.Wholeness.{whole_removed}
-use Rattle.set_laws.specs.Standing.{StandsShown, with_index}
-use Rattle.set_laws.specs.Whole.{AreWholeDirectories}
+use Rattle.index_pages.specs.domain_base.declared.place.CellAt.{CellAt}
+use Rattle.index_pages.specs.domain_base.declared.place.Home.{Home}
+use Rattle.index_pages.specs.domain_base.declared.place.Kind.{Kind}
+use Rattle.index_pages.specs.domain_base.declared.place.Kind.TheVariants.{Directory, File}
+use Rattle.index_pages.specs.domain_base.declared.place.Tag.{Tag}
+use Rattle.index_pages.specs.page_store.Bitfiles.{Bitfile, Bitfiles as SetOf, IsDirectory, same_tag, without_file}
+use Rattle.index_pages.specs.page_store.Pages.{Pages}
+use Rattle.index_pages.specs.cell_records.declared.record.Record.{Record}
+use Rattle.index_pages.specs.metadata_cells.CellPage.{cell_at}
+use Rattle.index_pages.specs.metadata_cells.Chain.{PlacedCell, StandsAt}
+use Rattle.index_pages.specs.tag_dirs.Directory.{has_home, sequence_of}
+use Rattle.index_pages.specs.tag_dirs.declared.dir.TagPlace.{TagPlace}
+use Rattle.index_pages.specs.tag_dirs.declared.page.TagEntry.{TagEntry}
+use Rattle.index_pages.specs.free_cells.Cells.{Cells, table_of}
+use Rattle.index_pages.specs.free_space.Spaces.{Spaces}
+use Rattle.index_pages.specs.file_chains.FileChanges.{AreOnTables}
+use Rattle.index_pages.specs.file_chains.Files.{IsFile}
+use Rattle.index_pages.proofs.OfFileChains.ChainChanges.{stand_file}
+use Rattle.index_pages.specs.fileset_files.declared.indexing.IndexPlace.{IndexPlace}
+use Rattle.index_pages.specs.fileset_files.Changes.{ChangesBeside, ChangesFirst, IsLive, KeepsSequences, Removes, says_removed, with_chain, with_first, without_chain}
+use Rattle.index_pages.specs.fileset_files.Files.{AreFiles, Chains, attributes_in, attributes_of, is_removed, of_live, says_remove}
+use Rattle.index_pages.specs.fileset_files.Index.{index_place_of, says_index}
+use Rattle.index_pages.specs.fileset_files.Shown.{AreIndexPages, ShowsAt, ShowsFile, index_of}
+use Rattle.index_pages.specs.fileset_files.State.{States, states_of}
+use Rattle.index_pages.specs.fileset_files.Together.{AreTogether}
+use Rattle.index_pages.proofs.OfFilesetFiles.Created.{one_chains}
+use Rattle.index_pages.proofs.OfFilesetFiles.FirstCell.{find_other}
+use Rattle.index_pages.proofs.OfFilesetFiles.OneChain.{chain_same, file_by, same_tag_itself}
+use Rattle.index_pages.proofs.OfFilesetFiles.Tags.{entry_same, pages_same, sequence_stays}
+use Rattle.index_pages.proofs.OfFilesetFiles.Parts.{file_at}
+use Rattle.index_pages.specs.Changes.{AreHeld, DropsIndex}
+use Rattle.index_pages.specs.Homes.{AreIndexHomes}
+use Rattle.index_pages.proofs.Homes.{kept_same}
+use Rattle.stored_set.proofs.Bare.{bare_taken}
+use Rattle.stored_set.proofs.GivenBack.{taken_with_index}
+use Rattle.stored_set.proofs.TakenOut.{same}
+use Rattle.stored_set.proofs.Together.{stands_still}
+use Rattle.stored_set.proofs.Wholeness.{whole_removed}
+use Rattle.stored_set.specs.Standing.{StandsShown, with_index}
+use Rattle.stored_set.specs.Whole.{AreWholeDirectories}
 use Rattle.stored_set.proofs.Indexed.{begins, begins_so, counted, first_of, homes_at}
 use Rattle.stored_set.proofs.Live.{live_any}
 use Rattle.stored_set.proofs.Sized.{index_count_here, index_fits_here, the_file}

@@ -1,33 +1,33 @@
 -- The files of a fileset as a set of files and directories.
 use Rattle.std.specs.Prelude.{◌≡◌, ◌+◌, ◌*◌, ℕ, List, Option, Some, None, IsSomeAnd}
 use Rattle.std.specs.Option.{option_and_then}
-use Rattle.domain_base.specs.Limits.{page_bytes}
-use Rattle.domain_base.specs.declared.place.Home.{Home}
-use Rattle.domain_base.specs.declared.place.Tag.{Tag}
-use Rattle.domain_base.specs.declared.version.Version.{Version}
-use Rattle.page_store.specs.Bitfiles.{Bitfiles}
-use Rattle.page_store.specs.Pages.{Pages, with_page}
-use Rattle.page_store.specs.declared.fault.StoreFault.{StoreFault}
-use Rattle.bmt_mcells.specs.Chain.{PlacedCell}
-use Rattle.tag_dirs.specs.declared.dir.TagPlace.{TagPlace}
-use Rattle.extent_maps.specs.declared.run.PagePlace.TheVariants.{At}
-use Rattle.free_cells.specs.Cells.{Cells}
-use Rattle.free_space.specs.VolumeSpace.{with_page as space_with}
-use Rattle.free_space.specs.Spaces.{CanTake, Spaces, change_volume}
-use Rattle.bitfile_cells.specs.FileChanges.{LeavesOtherCells}
-use Rattle.bitfile_cells.specs.MapChanges.{LeavesOffTables}
-use Rattle.bitfile_core.specs.declared.attributes.Attributes.{Attributes}
-use Rattle.bitfile_core.specs.Changes.{ChangesBeside, ChangesFirst, says_attributes, with_chain, with_first}
-use Rattle.bitfile_core.specs.Files.{Chains, attributes_of, of_live}
-use Rattle.bitfile_core.specs.Pages.{ChangesFile, GetsNone, TakesHome}
-use Rattle.bitfile_core.specs.declared.indexing.IndexPlace.{IndexPlace}
-use Rattle.bitfile_core.specs.Index.{says_index}
-use Rattle.bitfile_core.specs.Shown.{index_of}
-use Rattle.bitfile_core.specs.State.{states_of}
-use Rattle.bitfile_core.specs.Together.{AreTogether}
-use Rattle.stored_index.specs.Changes.{DropsIndex, InsertsIndexPage, PutsIndexPage}
-use Rattle.set_laws.specs.Standing.{AreTagsOnVolumes, Indexes, StandsShown}
-use Rattle.set_laws.specs.Whole.{AreWholeDirectories, HaveNoIndex}
+use Rattle.index_pages.specs.domain_base.Limits.{page_bytes}
+use Rattle.index_pages.specs.domain_base.declared.place.Home.{Home}
+use Rattle.index_pages.specs.domain_base.declared.place.Tag.{Tag}
+use Rattle.index_pages.specs.domain_base.declared.version.Version.{Version}
+use Rattle.index_pages.specs.page_store.Bitfiles.{Bitfiles}
+use Rattle.index_pages.specs.page_store.Pages.{Pages, with_page}
+use Rattle.index_pages.specs.page_store.declared.fault.StoreFault.{StoreFault}
+use Rattle.index_pages.specs.metadata_cells.Chain.{PlacedCell}
+use Rattle.index_pages.specs.tag_dirs.declared.dir.TagPlace.{TagPlace}
+use Rattle.index_pages.specs.extent_maps.declared.run.PagePlace.TheVariants.{At}
+use Rattle.index_pages.specs.free_cells.Cells.{Cells}
+use Rattle.index_pages.specs.free_space.VolumeSpace.{with_page as space_with}
+use Rattle.index_pages.specs.free_space.Spaces.{CanTake, Spaces, change_volume}
+use Rattle.index_pages.specs.file_chains.FileChanges.{LeavesOtherCells}
+use Rattle.index_pages.specs.file_chains.MapChanges.{LeavesOffTables}
+use Rattle.index_pages.specs.fileset_files.declared.attributes.Attributes.{Attributes}
+use Rattle.index_pages.specs.fileset_files.Changes.{ChangesBeside, ChangesFirst, says_attributes, with_chain, with_first}
+use Rattle.index_pages.specs.fileset_files.Files.{Chains, attributes_of, of_live}
+use Rattle.index_pages.specs.fileset_files.Pages.{ChangesFile, GetsNone, TakesHome}
+use Rattle.index_pages.specs.fileset_files.declared.indexing.IndexPlace.{IndexPlace}
+use Rattle.index_pages.specs.fileset_files.Index.{says_index}
+use Rattle.index_pages.specs.fileset_files.Shown.{index_of}
+use Rattle.index_pages.specs.fileset_files.State.{states_of}
+use Rattle.index_pages.specs.fileset_files.Together.{AreTogether}
+use Rattle.index_pages.specs.Changes.{DropsIndex, InsertsIndexPage, PutsIndexPage}
+use Rattle.stored_set.specs.Standing.{AreTagsOnVolumes, Indexes, StandsShown}
+use Rattle.stored_set.specs.Whole.{AreWholeDirectories, HaveNoIndex}
 
 -- files that belong together are shown as this set, wherever their indexes stand, each directory is
 -- whole, no file has an index, and the pages of tags stand on volumes that there may be

@@ -1,21 +1,20 @@
-//! Directories that get a page more.
+//! Directories that get one more page.
 ghost use Rattle.std.specs.Prelude.{◌≡◌, ◌+◌, ◌<◌, ◌≤◌, IfErr, IfOk, IsSome, IsSomeAnd, OnErr, OnOk, Some};
-ghost use Rattle.page_store.specs.Bitfiles.{Bitfiles as SetOf, IsDirectory, count_pages, put_page, with_change};
-ghost use Rattle.bmt_mcells.specs.CellPage.{home_of as home_there};
-ghost use Rattle.bitfile_core.specs.Changes.{ChangesFirst};
-ghost use Rattle.bitfile_core.specs.Files.{AreFiles, Chains};
-ghost use Rattle.bitfile_core.specs.Together.{AreTogether};
+ghost use Rattle.index_pages.specs.page_store.Bitfiles.{Bitfiles as SetOf, IsDirectory, count_pages, put_page, with_change};
+ghost use Rattle.index_pages.specs.metadata_cells.CellPage.{home_of as home_there};
+ghost use Rattle.index_pages.specs.fileset_files.Changes.{ChangesFirst};
+ghost use Rattle.index_pages.specs.fileset_files.Files.{AreFiles, Chains};
+ghost use Rattle.index_pages.specs.fileset_files.Together.{AreTogether};
 ghost use Rattle.stored_set.specs.Sets.{AddsNone, AddsPage, HasSet, StandsAsSet, attributes_at, long};
 
-use bitfile_core::{Attributes, Bitfiles};
-use domain_base::limits::{FILE_PAGES, PAGE_BYTES};
-use domain_base::{CellAt, Home, OutOfMemory, Page, Tag, Version, VolIx};
-use free_cells::FreeCells;
-use free_space::FreeSpace;
-use page_store::{MetaPages, StoreFault};
+use index_pages::limits::{FILE_PAGES, PAGE_BYTES};
+use index_pages::{
+    Attributes, Bitfiles, CellAt, FreeCells, FreeSpace, Home, MetaPages, OutOfMemory, Page,
+    StoreFault, Tag, Version, VolIx,
+};
 use std::alloc::Global;
 
-/// What a directory is that has so many pages.
+/// The attributes of a directory that has `count` pages.
 fn with_length(was: &Attributes, count: u32) -> Attributes
     ensures { result ≡ long count was.now }
 {
@@ -54,7 +53,7 @@ pub(crate) fn copy_at<M: MetaPages>(
     page.copy(alloc)
 }
 
-/// Says that a directory is longer by a page, and gives it that page with these bytes. At an Err
+/// Makes a directory one page longer, and gives it that page with these bytes. After an error
 /// nothing but its first cell, room and the count of misses has changed.
 fn lengthen<M: MetaPages>(
     alloc: Global,
@@ -105,10 +104,10 @@ fn lengthen<M: MetaPages>(
     Ok(())
 }
 
-/// Puts a page of a directory behind its last one, on a free page, of the preferred volume if that
-/// has one; the directory is longer by a page then. NoPage comes only where no page is free, or
-/// none beside this one and a cell more is needed, of which none is free; that is a miss. At an Err
-/// nothing but room and the count of misses has changed, and the set is as it was.
+/// Puts a page of a directory after its last one, on a free page, of the preferred volume if that
+/// has one. The directory is then one page longer. NoPage is returned only if no page is free, or
+/// if one more cell is needed, none is free, and no page is free besides this one. That is a miss.
+/// After an error nothing but room and the count of misses has changed, and the set is as it was.
 pub fn add_page<M: MetaPages>(
     alloc: Global,
     pages: &mut M,

@@ -1,28 +1,27 @@
-//! Files and directories that are made and linked.
+//! Making and linking files and directories.
 ghost use Rattle.std.specs.Prelude.{◌≡◌, ◌+◌, ◌≤◌, [], IfErr, IfOk, IsSome, IsSomeAnd, None, OnErr, OnOk};
 ghost use Rattle.std.specs.Option.{option_and_then};
-ghost use Rattle.domain_base.specs.Limits.{max_links};
-ghost use Rattle.page_store.specs.Bitfiles.{Bitfiles as SetOf, linked, new_file as shown_new, with_change, with_file};
-ghost use Rattle.bmt_mcells.specs.CellPage.{KeepsHeaders, KeepsWellFormed};
-ghost use Rattle.bitfile_cells.specs.FileChanges.{LeavesOtherCells};
-ghost use Rattle.bitfile_core.specs.Changes.{ChangesFirst, says_attributes, with_chain, with_first};
-ghost use Rattle.bitfile_core.specs.Creation.{Creates, CreatesNone, LeavesBeside, TakesForFile, TakesNext, new_file};
-ghost use Rattle.bitfile_core.specs.Files.{AreFiles, Chains, attributes_of, of_live};
-ghost use Rattle.bitfile_core.specs.Together.{AreTogether};
+ghost use Rattle.index_pages.specs.domain_base.Limits.{max_links};
+ghost use Rattle.index_pages.specs.page_store.Bitfiles.{Bitfiles as SetOf, linked, new_file as shown_new, with_change, with_file};
+ghost use Rattle.index_pages.specs.metadata_cells.CellPage.{KeepsHeaders, KeepsWellFormed};
+ghost use Rattle.index_pages.specs.file_chains.FileChanges.{LeavesOtherCells};
+ghost use Rattle.index_pages.specs.fileset_files.Changes.{ChangesFirst, says_attributes, with_chain, with_first};
+ghost use Rattle.index_pages.specs.fileset_files.Creation.{Creates, CreatesNone, LeavesBeside, TakesForFile, TakesNext, new_file};
+ghost use Rattle.index_pages.specs.fileset_files.Files.{AreFiles, Chains, attributes_of, of_live};
+ghost use Rattle.index_pages.specs.fileset_files.Together.{AreTogether};
 ghost use Rattle.stored_set.specs.Sets.{HasSet, StandsAsSet};
 
-use bitfile_core::{Attributes, Bitfiles};
-use domain_base::{Kind, OutOfMemory, Tag, Version, VolIx};
-use free_cells::FreeCells;
-use free_space::FreeSpace;
-use page_store::{MetaPages, StoreFault};
+use index_pages::{
+    Attributes, Bitfiles, FreeCells, FreeSpace, Kind, MetaPages, OutOfMemory, StoreFault, Tag,
+    Version, VolIx,
+};
 use std::alloc::Global;
 
-/// Makes a file or a directory of that owner, with one link and no page, which was born at that
-/// clone's number, and answers its tag, which named nothing before and was never answered. Its cell
-/// is taken of the preferred volume if that has one. NoPage comes only where no page is free and
-/// one is wanted, for cells or for tags, or only one and both want one; that is a miss. At an Err
-/// nothing but room and the count of misses has changed, and the set is as it was.
+/// Makes a file or a directory of that owner, with one link and no page, born at that clone's
+/// number. Returns its tag, which named nothing before and was never returned. Its cell is taken of
+/// the preferred volume if that has one. NoPage is returned only if no page is free and one is
+/// needed, for cells or for tags, or only one is free and both need one. That is a miss. After an
+/// error nothing but room and the count of misses has changed, and the set is as it was.
 pub fn make<M: MetaPages>(
     alloc: Global,
     pages: &mut M,
@@ -70,7 +69,7 @@ pub fn make<M: MetaPages>(
     )
 }
 
-/// The same attributes with another number of links.
+/// These attributes with another number of links.
 fn with_links(was: &Attributes, links: u32) -> Attributes
     ensures { result ≡ record was.now { links = links } }
 {
@@ -84,8 +83,8 @@ fn with_links(was: &Attributes, links: u32) -> Attributes
     }
 }
 
-/// Sets how many rows name a tag's file or directory, from 1 to 1,000: all else that is said of it
-/// stays. At an Err the set is as it was.
+/// Sets how many rows name a tag's file or directory, from 1 to 1,000. All its other attributes
+/// stay. After an error the set is as it was.
 pub fn set_links<M: MetaPages>(
     alloc: Global,
     pages: &mut M,

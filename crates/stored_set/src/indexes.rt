@@ -1,30 +1,27 @@
-//! The pages of the indexes of directories, looked at, and written where they stand.
+//! Looking at the pages of the indexes of directories, and writing them in place.
 ghost use Rattle.std.specs.Prelude.{◌≡◌, ◌+◌, ◌-◌, ◌<◌, ◌≤◌, IfSome, List, OnErr, OnOk, Some, length};
 ghost use Rattle.std.specs.Option.{option_and_then, option_copied, option_map};
-ghost use Rattle.domain_base.specs.Limits.{page_bytes};
-ghost use Rattle.domain_base.specs.declared.place.Home.{Home as HomeOf};
-ghost use Rattle.page_store.specs.Bitfiles.{Bitfiles as SetOf, IsDirectory, count_index, index_at, put_index, shown_index, with_change};
-ghost use Rattle.bitfile_core.specs.Files.{Chains};
-ghost use Rattle.bitfile_core.specs.Shown.{index_of};
-ghost use Rattle.bitfile_core.specs.Together.{AreTogether};
-ghost use Rattle.stored_index.specs.Homes.{AreIndexHomes, HasIndexHomes, shown_at};
-ghost use Rattle.set_laws.specs.Whole.{entries_at as told_at, entries_on as told_on};
+ghost use Rattle.index_pages.specs.domain_base.Limits.{page_bytes};
+ghost use Rattle.index_pages.specs.domain_base.declared.place.Home.{Home as HomeOf};
+ghost use Rattle.index_pages.specs.page_store.Bitfiles.{Bitfiles as SetOf, IsDirectory, count_index, index_at, put_index, shown_index, with_change};
+ghost use Rattle.index_pages.specs.fileset_files.Files.{Chains};
+ghost use Rattle.index_pages.specs.fileset_files.Shown.{index_of};
+ghost use Rattle.index_pages.specs.fileset_files.Together.{AreTogether};
+ghost use Rattle.index_pages.specs.Homes.{AreIndexHomes, HasIndexHomes, shown_at};
+ghost use Rattle.stored_set.specs.Whole.{entries_at as told_at, entries_on as told_on};
 ghost use Rattle.stored_set.specs.Sets.{HasSet, StandsAsSet, WritesIndexPage};
 
-use bitfile_core::{Bitfiles, IndexPlace};
-use domain_base::{Home, OutOfMemory, Page, Tag};
-use free_cells::FreeCells;
-use free_space::FreeSpace;
-use page_store::MetaPages;
-use record_table::u32_at;
+use index_pages::{
+    Bitfiles, FreeCells, FreeSpace, Home, IndexPlace, MetaPages, OutOfMemory, Page, Tag,
+    count_index as count_pages, index_home, put_index_page, u32_at,
+};
 use std::alloc::Global;
-use stored_index::{count_index as count_pages, index_home, put_index_page};
 
 /// How many entries one index page can have.
 const PAGE_ENTRIES: u32 = 1_022;
 
-/// How many entries an index page says that it has: none where it says more than one can have.
-/// Beside it stands that a page has all its bytes.
+/// How many entries an index page says that it has, or none if it says more than one can have. The
+/// contract also says that a page has all its bytes.
 pub(crate) fn entries_on(page: &Page) -> u32
     ensures value { result ≡ told_on page.now }
     ensures whole { length page.now ≡ page_bytes }
@@ -33,7 +30,7 @@ pub(crate) fn entries_on(page: &Page) -> u32
     if count <= PAGE_ENTRIES { count } else { 0 }
 }
 
-/// How many pages the index of a directory has; 0 where it has none. It takes no memory.
+/// How many pages the index of a directory has, or 0 if it has none. Takes no memory.
 pub fn count_index_of<M: MetaPages>(
     pages: &M,
     space: &FreeSpace,
@@ -54,9 +51,9 @@ pub fn count_index_of<M: MetaPages>(
     }
 }
 
-/// A page of a directory's index, counted from 0; None exactly where it has no such page. Where the
-/// next page stands is the index's own: it is not said what stands in the page for it. It takes no
-/// memory.
+/// A page of a directory's index, counted from 0. Returns None if and only if the index has no such
+/// page. Where the next page stands is the index's own: the contract does not say what the page
+/// holds for it. Takes no memory.
 pub fn index_page_of<'a, M: MetaPages>(
     pages: &'a M,
     space: &FreeSpace,
@@ -77,7 +74,7 @@ pub fn index_page_of<'a, M: MetaPages>(
     pages.get(index_home(pages, Some(index.first), page)?)
 }
 
-/// How many entries the page of an index with a number says that it has; 0 where it has no such
+/// How many entries the page of an index with a number says that it has, or 0 if it has no such
 /// page.
 fn entries_at<M: MetaPages>(pages: &M, first: &Home, number: u32) -> u32
     requires { HasIndexHomes (M.pages pages.now) (Some first.now) }
@@ -93,8 +90,8 @@ fn entries_at<M: MetaPages>(pages: &M, first: &Home, number: u32) -> u32
     }
 }
 
-/// How many entries an index has once a page of it that has so many gives way to one that has
-/// others; None where that is no number of 32 bits.
+/// How many entries an index has once a page of it with `gone` entries gives way to a page with
+/// `new` entries. Returns None if that number does not fit into 32 bits.
 fn changed_total(total: u32, gone: u32, new: u32) -> Option<u32>
     requires { gone ≤ total }
     ensures { IfSome result (λ now. now ≡ total - gone + new) }
@@ -102,10 +99,10 @@ fn changed_total(total: u32, gone: u32, new: u32) -> Option<u32>
     (total - gone).checked_add(new)
 }
 
-/// Puts a page of a directory's index in place of the one at that number, at its home, once the
-/// first cell says how many entries the index has then. Where the next page stands is the index's
-/// own, whatever the bytes say of it. OutOfMemory also where the index would have 2^32 entries; at
-/// an Err nothing has changed.
+/// Puts a page of a directory's index in place of the one at that number, at its home. The first
+/// cell says before that how many entries the index then has. Where the next page stands is the
+/// index's own, whatever the bytes say of it. Also fails as out of memory if the index would have
+/// 2^32 entries. After an error nothing has changed.
 pub fn write_index_page<M: MetaPages>(
     alloc: Global,
     pages: &mut M,

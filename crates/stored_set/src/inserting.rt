@@ -1,23 +1,21 @@
-//! Pages that are put into the indexes of directories.
+//! Putting pages into the indexes of directories.
 ghost use Rattle.std.specs.Prelude.{◌≡◌, ◌+◌, ◌^◌, ◌<◌, ◌≤◌, IfErr, IfSome, List, OnErr, OnOk, Some, length, true};
 ghost use Rattle.std.specs.Option.{option_and_then, option_map, option_map_or};
-ghost use Rattle.domain_base.specs.declared.place.Home.{Home as HomeOf};
-ghost use Rattle.page_store.specs.Bitfiles.{Bitfiles as SetOf, IsDirectory, count_index, insert_index as with_page_in, shown_index, with_change};
-ghost use Rattle.bitfile_core.specs.Files.{Chains};
-ghost use Rattle.bitfile_core.specs.Shown.{index_of};
-ghost use Rattle.bitfile_core.specs.Together.{AreTogether};
-ghost use Rattle.stored_index.specs.Changes.{FindsNoPage};
-ghost use Rattle.stored_index.specs.Homes.{AreIndexHomes, HasIndexHomes};
+ghost use Rattle.index_pages.specs.domain_base.declared.place.Home.{Home as HomeOf};
+ghost use Rattle.index_pages.specs.page_store.Bitfiles.{Bitfiles as SetOf, IsDirectory, count_index, insert_index as with_page_in, shown_index, with_change};
+ghost use Rattle.index_pages.specs.fileset_files.Files.{Chains};
+ghost use Rattle.index_pages.specs.fileset_files.Shown.{index_of};
+ghost use Rattle.index_pages.specs.fileset_files.Together.{AreTogether};
+ghost use Rattle.index_pages.specs.Changes.{FindsNoPage};
+ghost use Rattle.index_pages.specs.Homes.{AreIndexHomes, HasIndexHomes};
 ghost use Rattle.stored_set.specs.Sets.{AddsIndexPage, HasSet, StandsAsSet};
 
 use crate::indexes::entries_on;
-use bitfile_core::{Bitfiles, IndexPlace};
-use domain_base::{Home, Page, Tag, VolIx};
-use free_cells::FreeCells;
-use free_space::FreeSpace;
-use page_store::{MetaPages, StoreFault};
+use index_pages::{
+    Bitfiles, FreeCells, FreeSpace, Home, IndexPlace, MetaPages, Page, StoreFault, Tag, VolIx,
+    count_index as count_pages, link_index_page, new_first,
+};
 use std::alloc::Global;
-use stored_index::{count_index as count_pages, link_index_page, new_first};
 
 /// Where an index begins, if there is one.
 fn begin_of(index: &Option<IndexPlace>) -> Option<Home>
@@ -29,7 +27,7 @@ fn begin_of(index: &Option<IndexPlace>) -> Option<Home>
     }
 }
 
-/// How many entries an index has; 0 where there is none.
+/// How many entries an index has: 0 if there is none.
 fn total_of(index: &Option<IndexPlace>) -> u32
     ensures { result ≡ option_map_or (λ place. place.entries) index.now 0 }
 {
@@ -39,8 +37,8 @@ fn total_of(index: &Option<IndexPlace>) -> u32
     }
 }
 
-/// How many entries an index has with a page more; None where that is no number of 32 bits, or
-/// where its pages would be none.
+/// How many entries an index has with one more page. Returns None if that number does not fit into
+/// 32 bits, or the number of its pages would not.
 fn total_with<M: MetaPages>(pages: &M, index: &Option<IndexPlace>, more: u32) -> Option<u32>
     requires { HasIndexHomes (M.pages pages.now) (option_map (λ place. place.first) index.now) }
     ensures total { IfSome result (λ now. now
@@ -55,12 +53,12 @@ fn total_with<M: MetaPages>(pages: &M, index: &Option<IndexPlace>, more: u32) ->
     total_of(index).checked_add(more)
 }
 
-/// Puts a page into a directory's index, in front of the one at that number or behind the last one,
-/// on a free page, of the preferred volume if that has one, once the first cell says where the
-/// index begins and how many entries it has then. Where the next page stands is the index's own,
-/// whatever the bytes say of it. NoPage comes only where no page is free; that is a miss.
-/// OutOfMemory also where the index would have 2^32 pages or entries. At an Err nothing but room
-/// and the count of misses has changed, and the set is as it was.
+/// Puts a page into a directory's index, before the one at that number or after the last one, on a
+/// free page, of the preferred volume if that has one. The first cell says before that where the
+/// index then begins and how many entries it then has. Where the next page stands is the index's
+/// own, whatever the bytes say of it. NoPage is returned only if no page is free. That is a miss.
+/// OutOfMemory is also returned if the index would have 2^32 pages or entries. After an error
+/// nothing but room and the count of misses has changed, and the set is as it was.
 pub fn insert_index_page<M: MetaPages>(
     alloc: Global,
     pages: &mut M,

@@ -1,20 +1,16 @@
-//! The pages of directories, looked at, and written where they stand.
+//! Looking at the pages of directories, and writing them in place.
 ghost use Rattle.std.specs.Prelude.{◌≡◌, ◌<◌};
 ghost use Rattle.std.specs.Option.{option_copied};
-ghost use Rattle.page_store.specs.Bitfiles.{Bitfiles as SetOf, IsDirectory, count_pages, page_at, put_page, with_change};
-ghost use Rattle.domain_base.specs.declared.place.Home.{Home as HomeOf};
-ghost use Rattle.extent_maps.specs.declared.run.PagePlace.TheVariants.{At};
-ghost use Rattle.bitfile_core.specs.Files.{AreFiles, Chains, place_at};
+ghost use Rattle.index_pages.specs.page_store.Bitfiles.{Bitfiles as SetOf, IsDirectory, count_pages, page_at, put_page, with_change};
+ghost use Rattle.index_pages.specs.domain_base.declared.place.Home.{Home as HomeOf};
+ghost use Rattle.index_pages.specs.extent_maps.declared.run.PagePlace.TheVariants.{At};
+ghost use Rattle.index_pages.specs.fileset_files.Files.{AreFiles, Chains, place_at};
 ghost use Rattle.stored_set.specs.Sets.{HasSet, StandsAsSet};
 
-use bitfile_core::Bitfiles;
-use domain_base::limits::PAGE_BYTES;
-use domain_base::{Kind, Page, Tag};
-use free_cells::FreeCells;
-use free_space::FreeSpace;
-use page_store::MetaPages;
+use index_pages::limits::PAGE_BYTES;
+use index_pages::{Bitfiles, FreeCells, FreeSpace, Kind, MetaPages, Page, Tag};
 
-/// How many pages a directory has; 0 where the tag names none. It takes no memory.
+/// How many pages a directory has, or 0 if the tag names none. Takes no memory.
 pub fn count_pages_of<M: MetaPages>(
     pages: &M,
     space: &FreeSpace,
@@ -35,7 +31,8 @@ pub fn count_pages_of<M: MetaPages>(
     }
 }
 
-/// A directory's page, counted from 0; None exactly where it has no such page. It takes no memory.
+/// A directory's page, counted from 0. Returns None if and only if the directory has no such page.
+/// Takes no memory.
 pub fn page_of<'a, M: MetaPages>(
     pages: &'a M,
     space: &FreeSpace,
@@ -54,8 +51,8 @@ pub fn page_of<'a, M: MetaPages>(
     pages.get(files.page_home(pages, tag, page).home()?)
 }
 
-/// Puts a page of a directory in place of the one at that number, at its home: every other page
-/// stays. It takes no memory.
+/// Puts a page of a directory in place of the one at that number, at its home. Every other page
+/// stays. Takes no memory.
 pub fn write_page<M: MetaPages>(
     pages: &mut M,
     space: &FreeSpace,

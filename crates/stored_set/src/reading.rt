@@ -1,16 +1,12 @@
 //! What a tag names, as a set shows it.
 ghost use Rattle.std.specs.Prelude.{◌≡◌};
-ghost use Rattle.page_store.specs.Bitfiles.{Bitfiles as SetOf, kind_at, links_at};
+ghost use Rattle.index_pages.specs.page_store.Bitfiles.{Bitfiles as SetOf, kind_at, links_at};
 ghost use Rattle.stored_set.specs.Sets.{HasSet, StandsAsSet};
 
-use bitfile_core::Bitfiles;
-use domain_base::{Kind, Tag};
-use free_cells::FreeCells;
-use free_space::FreeSpace;
-use page_store::MetaPages;
+use index_pages::{Bitfiles, FreeCells, FreeSpace, Kind, MetaPages, Tag};
 
-/// Whether a tag names a file or a directory; None exactly where it names nothing. It takes no
-/// memory.
+/// Whether a tag names a file or a directory. Returns None if and only if it names nothing. Takes
+/// no memory.
 pub fn kind_of<M: MetaPages>(
     pages: &M,
     space: &FreeSpace,
@@ -28,7 +24,7 @@ pub fn kind_of<M: MetaPages>(
     }
 }
 
-/// How many rows name a tag's file or directory; 0 where it names nothing. It takes no memory.
+/// How many rows name a tag's file or directory, or 0 if it names nothing. Takes no memory.
 pub fn links_of<M: MetaPages>(
     pages: &M,
     space: &FreeSpace,

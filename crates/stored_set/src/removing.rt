@@ -1,30 +1,27 @@
-//! Files and directories that are taken away.
+//! Taking files and directories away.
 ghost use Rattle.std.specs.Prelude.{◌≡◌, ◌+◌, ◌≤◌, IfOk, IsSome, List, None, OnErr, OnOk};
 ghost use Rattle.std.specs.Option.{option_and_then};
-ghost use Rattle.domain_base.specs.declared.place.Home.{Home as HomeOf};
-ghost use Rattle.page_store.specs.Bitfiles.{Bitfiles as SetOf, without_file};
-ghost use Rattle.free_cells.specs.Cells.{Cells};
-ghost use Rattle.free_space.specs.Spaces.{Spaces};
-ghost use Rattle.bitfile_core.specs.Changes.{ChangesBeside, IsLive, KeepsSequences, Removes, with_chain, with_first, without_chain};
-ghost use Rattle.bitfile_core.specs.Files.{AreFiles, Chains, HasFiles};
-ghost use Rattle.bitfile_core.specs.Index.{says_index};
-ghost use Rattle.bitfile_core.specs.Shown.{index_of};
-ghost use Rattle.bitfile_core.specs.Together.{AreTogether};
-ghost use Rattle.stored_index.specs.Homes.{AreIndexHomes};
+ghost use Rattle.index_pages.specs.domain_base.declared.place.Home.{Home as HomeOf};
+ghost use Rattle.index_pages.specs.page_store.Bitfiles.{Bitfiles as SetOf, without_file};
+ghost use Rattle.index_pages.specs.free_cells.Cells.{Cells};
+ghost use Rattle.index_pages.specs.free_space.Spaces.{Spaces};
+ghost use Rattle.index_pages.specs.fileset_files.Changes.{ChangesBeside, IsLive, KeepsSequences, Removes, with_chain, with_first, without_chain};
+ghost use Rattle.index_pages.specs.fileset_files.Files.{AreFiles, Chains, HasFiles};
+ghost use Rattle.index_pages.specs.fileset_files.Index.{says_index};
+ghost use Rattle.index_pages.specs.fileset_files.Shown.{index_of};
+ghost use Rattle.index_pages.specs.fileset_files.Together.{AreTogether};
+ghost use Rattle.index_pages.specs.Homes.{AreIndexHomes};
 ghost use Rattle.stored_set.specs.Sets.{GivesIndexBack, HasSet, StandsAsSet, without_index};
 
 use crate::adding::{copy_at, home_of};
-use bitfile_core::Bitfiles;
-use domain_base::{CellAt, OutOfMemory, Tag};
-use free_cells::FreeCells;
-use free_space::FreeSpace;
-use page_store::MetaPages;
+use index_pages::{
+    Bitfiles, CellAt, FreeCells, FreeSpace, MetaPages, OutOfMemory, Tag, drop_index,
+};
 use std::alloc::Global;
-use stored_index::drop_index;
 
-/// Takes a live tag out of use, once its first cell names no index: the pages of that are the
-/// caller's to give up then. It answers that cell, which then says that all of the file or directory
-/// is to be let go of. At an Err nothing but room has changed.
+/// Takes a live tag out of use, once its first cell names no index. The pages of the index are then
+/// the caller's to give up. Returns that cell, which then says that all of the file or directory is
+/// to be let go. After an error nothing but room has changed.
 pub fn take_out<M: MetaPages>(
     alloc: Global,
     pages: &mut M,
@@ -70,9 +67,9 @@ pub fn take_out<M: MetaPages>(
     }
 }
 
-/// Takes a tag's file or directory away: its tag names nothing any more, and the pages of its index
-/// wait until the log has passed this group. It answers the first cell, which says that all of it
-/// is to be let go of, and names no index. At an Err nothing but room has changed.
+/// Takes a tag's file or directory away. Its tag names nothing any more, and the pages of its index
+/// wait until the log has passed this group. Returns the first cell, which says that all of it is
+/// to be let go, and names no index. After an error nothing but room has changed.
 pub fn remove<M: MetaPages>(
     alloc: Global,
     pages: &mut M,

@@ -2,8 +2,7 @@
 
 use crate::quotas::{charge, refund};
 use crate::random::Random;
-use domain_base::OutOfMemory;
-use fileset_model::{Limits, Owner, Usage};
+use fileset_table::{Limits, OutOfMemory, Owner, Usage};
 use quota_book::QuotaBook;
 use std::alloc::Global;
 use std::test::Fail;

@@ -1,4 +1,4 @@
-//! Tests of the fileset table and of quotas.
+//! Tests of the fileset table, of quotas and of tag directories.
 #![tactic(auto)]
 
 #[cfg(test)]
@@ -11,3 +11,9 @@ mod quotas;
 mod random;
 #[cfg(test)]
 mod tables;
+#[cfg(test)]
+mod tag_lines;
+#[cfg(test)]
+mod tag_random;
+#[cfg(test)]
+mod trial;

@@ -1,8 +1,9 @@
 //! Pages and tables as lines of text. A line of a page has a place and bytes in hexadecimal digits;
 //! what no line says is zeros. A line of a table has a slot that is not free, and what it has.
-use domain_base::limits::{FILESET_SLOTS, PAGE_BYTES};
-use domain_base::{CellAt, FilesetNo, Home, OutOfMemory, Page};
-use fileset_table::{FilesetEntry, FilesetTable, SlotItem, TableFault};
+use fileset_table::limits::{FILESET_SLOTS, PAGE_BYTES};
+use fileset_table::{
+    CellAt, FilesetEntry, FilesetNo, FilesetTable, Home, OutOfMemory, Page, SlotItem, TableFault,
+};
 use hex::decode;
 use std::alloc::Global;
 use std::test::Fail;

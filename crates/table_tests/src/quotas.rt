@@ -4,10 +4,8 @@
 ghost use Rattle.std.specs.Prelude.{IsTrue};
 ghost use Rattle.quota_book.specs.Book.{FitsAll, HasAll, IsBelow, IsWithin, used};
 
-use domain_base::OutOfMemory;
-use fileset_model::{Limits, Owner, Refusal, Usage};
+use fileset_table::{Limits, OutOfMemory, Owner, Record, Refusal, Usage};
 use quota_book::{QuotaBook, are_once, read_limits};
-use record_table::Record;
 use std::alloc::Global;
 use std::test::Fail;
 

@@ -1,10 +1,10 @@
 //! Random slots put into a table and into a plain list, side by side.
 ghost use Rattle.std.specs.Prelude.{◌<◌, ◌≡◌, IfOk};
 
-use domain_base::limits::FILESET_SLOTS;
-use domain_base::{FilesetNo, Home, OutOfMemory, VolIx};
-use fileset_model::FilesetName;
-use fileset_table::{FilesetEntry, FilesetTable, SlotItem};
+use fileset_table::limits::FILESET_SLOTS;
+use fileset_table::{
+    FilesetEntry, FilesetName, FilesetNo, FilesetTable, Home, OutOfMemory, SlotItem, VolIx,
+};
 use std::alloc::Global;
 use std::test::Fail;
 

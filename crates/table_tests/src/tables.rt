@@ -2,8 +2,9 @@
 ghost use Rattle.std.specs.Prelude.{◌<◌};
 
 use crate::lines::{page_of, put_line, reading, shown_cell, shown_table};
-use domain_base::{CellAt, FilesetNo, Page};
-use fileset_table::{FilesetTable, SlotItem, a_fileset_changes, written_and_read};
+use fileset_table::{
+    CellAt, FilesetNo, FilesetTable, Page, SlotItem, a_fileset_changes, written_and_read,
+};
 use std::alloc::Global;
 use std::test::Fail;
 

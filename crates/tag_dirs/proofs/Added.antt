@@ -3,9 +3,9 @@ use Rattle.std.proofs.Common.{◌≡◌, ◌∙◌, ◌⊎◌, inl, inr, ℕ, ze
 use Rattle.std.proofs.lemmas.Bool.{cases_lt, eqb-true, eq-eqb, both_ways, or_left, or_right}
 use Rattle.std.proofs.lemmas.Option.{slice_get_within}
 use Rattle.std.specs.Option.{option_and_then, option_map}
-use Rattle.domain_base.specs.declared.place.Home.{Home}
-use Rattle.page_store.specs.Pages.{Pages, same_home, with_page}
-use Rattle.bmt_mcells.proofs.Changed.{homes_same, same_itself}
+use Rattle.metadata_cells.specs.domain_base.declared.place.Home.{Home}
+use Rattle.metadata_cells.specs.page_store.Pages.{Pages, same_home, with_page}
+use Rattle.metadata_cells.proofs.Changed.{homes_same, same_itself}
 use Rattle.tag_dirs.specs.declared.dir.TagPlace.{TagPlace}
 use Rattle.tag_dirs.specs.declared.page.TagEntry.{TagEntry}
 use Rattle.tag_dirs.specs.TagPage.{IsNewPage, IsTagPage, entry_of}

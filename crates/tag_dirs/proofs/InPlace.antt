@@ -1,11 +1,11 @@
 -- Pages of which eight bytes were written in place.
 use Rattle.std.proofs.Common.{◌≡◌, ◌∙◌, ℕ, ◌+◌, ◌*◌, ◌<◌, Bool, false, cond, Option, Some, None, IsSomeAnd, List, length, refl, ap}
-use Rattle.domain_base.specs.Page.{overwritten}
-use Rattle.domain_base.specs.declared.place.Home.{Home}
-use Rattle.page_store.specs.Pages.{Pages, same_home, with_page}
-use Rattle.bmt_mcells.proofs.Changed.{same_itself}
+use Rattle.metadata_cells.specs.domain_base.Page.{overwritten}
+use Rattle.metadata_cells.specs.domain_base.declared.place.Home.{Home}
+use Rattle.metadata_cells.specs.page_store.Pages.{Pages, same_home, with_page}
+use Rattle.metadata_cells.proofs.Changed.{same_itself}
 use Rattle.tag_dirs.specs.declared.page.TagEntry.{TagEntry}
-use Rattle.record_table.specs.Fields.{number_at}
+use Rattle.metadata_cells.specs.cell_records.Fields.{number_at}
 use Rattle.tag_dirs.specs.TagPage.{IsInFront, IsTagPage, SpellsEntry, SpellsNext}
 use Rattle.tag_dirs.specs.Directory.{CanHave, ChangesAt, EndsAt, LinksAt}
 use Rattle.tag_dirs.proofs.NewPage.{ended}

@@ -3,19 +3,19 @@ use Rattle.std.proofs.Common.{◌≡◌, ◌∙◌, ℕ, ◌+◌, ◌-◌, ◌*�
 use Rattle.std.proofs.lemmas.Bool.{eqb-true}
 use Rattle.std.proofs.lemmas.List.{drop-append-le, drop-drop, drop-replicate, drop_at, take-append-le, take-replicate}
 use Rattle.byteorder.specs.Endian.{little_number}
-use Rattle.domain_base.specs.Page.{overwritten, zero_bytes, length-zero_bytes}
-use Rattle.domain_base.specs.declared.place.Home.{Home}
-use Rattle.record_table.specs.Fields.{Fit, number_at}
-use Rattle.record_table.specs.Records.{spelled}
-use Rattle.record_table.specs.Rules.{nothing_seen}
-use Rattle.record_table.proofs.Bytes.{little_number-take}
-use Rattle.record_table.proofs.Scan.{decoded, decoded_again}
-use Rattle.bmt_mcells.proofs.Changed.{number-same}
-use Rattle.bmt_mcells.proofs.Places.{long_still, part_before, rest_after}
-use Rattle.bmt_mcells.proofs.Written.{any_of, pass_any}
+use Rattle.metadata_cells.specs.domain_base.Page.{overwritten, zero_bytes, length-zero_bytes}
+use Rattle.metadata_cells.specs.domain_base.declared.place.Home.{Home}
+use Rattle.metadata_cells.specs.cell_records.Fields.{Fit, number_at}
+use Rattle.metadata_cells.specs.cell_records.Records.{spelled}
+use Rattle.metadata_cells.specs.cell_records.Rules.{nothing_seen}
+use Rattle.metadata_cells.proofs.OfCellRecords.Bytes.{little_number-take}
+use Rattle.metadata_cells.proofs.OfCellRecords.Scan.{decoded, decoded_again}
+use Rattle.metadata_cells.proofs.Changed.{number-same}
+use Rattle.metadata_cells.proofs.Places.{long_still, part_before, rest_after}
+use Rattle.metadata_cells.proofs.Written.{any_of, pass_any}
 use Rattle.tag_dirs.specs.declared.page.TagEntry.{TagEntry}
 use Rattle.tag_dirs.specs.TagPage.{EndsPage, IsAllowed, IsNewPage, IsTagPage, LinksPage, cell_in, entry_of, index_of, next_of, slot_of}
-use Rattle.bmt_mcells.specs.Cell.{IsAddress}
+use Rattle.metadata_cells.specs.Cell.{IsAddress}
 use Rattle.tag_dirs.proofs.WrittenEntry.{address_same}
 
 -- ---- a new page

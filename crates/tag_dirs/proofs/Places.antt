@@ -3,7 +3,7 @@ use Rattle.std.proofs.Common.{◌≡◌, ◌∙◌, ℕ, zero, suc, ◌+◌, Boo
 use Rattle.std.proofs.lemmas.Bool.{eqb-true, eq-eqb, both_ways, true≢false}
 use Rattle.std.proofs.lemmas.Option.{slice_get_read, slice_get_within}
 use Rattle.std.specs.Option.{option_map}
-use Rattle.domain_base.specs.declared.place.Home.{Home}
+use Rattle.metadata_cells.specs.domain_base.declared.place.Home.{Home}
 use Rattle.tag_dirs.specs.declared.dir.TagPlace.{TagPlace}
 use Rattle.tag_dirs.specs.Directory.{home_with, number_with}
 use Rattle.tag_dirs.proofs.Slots.{none_is_some, same_some}

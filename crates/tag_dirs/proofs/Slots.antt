@@ -2,12 +2,12 @@
 use Rattle.std.proofs.Common.{◌≡◌, ◌∙◌, ◌⊎◌, inl, inr, ℕ, suc, ◌/◌, ◌%◌, ◌<◌, ◌≤◌, Bool, true, false, cond, ◌&&◌, nat_eq, Option, Some, None, IfSome, IsSome, IsSomeAnd, List, [], ◌∷◌, slice_get, refl, sym, ap, subst, arith}
 use Rattle.std.proofs.lemmas.Bool.{eqb-true, eq-eqb, both_ways, false_from_ne_true, or_left, or_right, true≢false}
 use Rattle.std.specs.Option.{option_and_then, option_map, option_map_or, unwrap_or}
-use Rattle.domain_base.specs.declared.place.CellAt.{CellAt}
-use Rattle.domain_base.specs.declared.place.Home.{Home}
-use Rattle.domain_base.specs.declared.place.Tag.{Tag}
-use Rattle.page_store.specs.Pages.{Pages, same_home}
-use Rattle.page_store.specs.Bitfiles.{same_tag}
-use Rattle.bmt_mcells.proofs.Changed.{homes_same, same_itself}
+use Rattle.metadata_cells.specs.domain_base.declared.place.CellAt.{CellAt}
+use Rattle.metadata_cells.specs.domain_base.declared.place.Home.{Home}
+use Rattle.metadata_cells.specs.domain_base.declared.place.Tag.{Tag}
+use Rattle.metadata_cells.specs.page_store.Pages.{Pages, same_home}
+use Rattle.metadata_cells.specs.page_store.Bitfiles.{same_tag}
+use Rattle.metadata_cells.proofs.Changed.{homes_same, same_itself}
 use Rattle.tag_dirs.specs.declared.dir.TagPlace.{TagPlace}
 use Rattle.tag_dirs.specs.declared.page.TagEntry.{TagEntry}
 use Rattle.tag_dirs.specs.TagPage.{IsAllowed, IsTagPage, entry_of, index_of, slot_of}

@@ -2,18 +2,18 @@
 use Rattle.std.proofs.Common.{◌≡◌, ◌∙◌, ◌⊎◌, inl, inr, ℕ, ◌+◌, ◌*◌, ◌<◌, ◌≤◌, Bool, true, false, cond, nat_eq, Option, Some, None, List, [], ◌∷◌, ◌++◌, length, take, drop, get_or, refl, sym, ap, subst, arith, append_assoc, length-drop, length-take}
 use Rattle.std.proofs.lemmas.Bool.{cases_lt, eqb-true, eq-eqb, both_ways}
 use Rattle.std.proofs.lemmas.List.{drop_at, drop-drop, take-append-le, drop-append-le}
-use Rattle.domain_base.specs.Page.{overwritten}
-use Rattle.domain_base.specs.declared.place.CellAt.{CellAt}
-use Rattle.record_table.specs.Fields.{Fit, number_at}
-use Rattle.record_table.specs.Records.{spelled}
-use Rattle.record_table.specs.Rules.{nothing_seen}
-use Rattle.record_table.proofs.Scan.{decoded, decoded_again}
-use Rattle.bmt_mcells.specs.Cell.{IsAddress}
-use Rattle.bmt_mcells.proofs.Changed.{number-same}
-use Rattle.record_table.proofs.Bytes.{little_number-take}
+use Rattle.metadata_cells.specs.domain_base.Page.{overwritten}
+use Rattle.metadata_cells.specs.domain_base.declared.place.CellAt.{CellAt}
+use Rattle.metadata_cells.specs.cell_records.Fields.{Fit, number_at}
+use Rattle.metadata_cells.specs.cell_records.Records.{spelled}
+use Rattle.metadata_cells.specs.cell_records.Rules.{nothing_seen}
+use Rattle.metadata_cells.proofs.OfCellRecords.Scan.{decoded, decoded_again}
+use Rattle.metadata_cells.specs.Cell.{IsAddress}
+use Rattle.metadata_cells.proofs.Changed.{number-same}
+use Rattle.metadata_cells.proofs.OfCellRecords.Bytes.{little_number-take}
 use Rattle.byteorder.specs.Endian.{little_number}
-use Rattle.bmt_mcells.proofs.Places.{long_still, part_before, rest_after}
-use Rattle.bmt_mcells.proofs.Written.{any_of, pass_any}
+use Rattle.metadata_cells.proofs.Places.{long_still, part_before, rest_after}
+use Rattle.metadata_cells.proofs.Written.{any_of, pass_any}
 use Rattle.tag_dirs.specs.declared.page.TagEntry.{TagEntry}
 use Rattle.tag_dirs.specs.TagPage.{ChangesEntry, IsAllowed, IsSpelled, IsTagPage, cell_in, entry_of, index_of, next_of, slot_of}
 

@@ -2,11 +2,11 @@
 use Rattle.std.specs.Prelude.{◌≡◌, ◌==◌, ◌+◌, ◌/◌, ◌%◌, ◌<◌, ℕ, Bool, true, false, List, [], ◌∷◌, ◌++◌, ◌⊎◌, length, Option, Some, None, IfSome, IsSome, IsSomeAnd, slice_get, if◌then◌else◌}
 use Rattle.std.specs.List.{list_any}
 use Rattle.std.specs.Option.{option_and_then, option_map, option_map_or}
-use Rattle.domain_base.specs.declared.place.CellAt.{CellAt}
-use Rattle.domain_base.specs.declared.place.Home.{Home}
-use Rattle.domain_base.specs.declared.place.Tag.{Tag}
-use Rattle.page_store.specs.Pages.{Pages, same_home}
-use Rattle.page_store.specs.Bitfiles.{same_tag}
+use Rattle.metadata_cells.specs.domain_base.declared.place.CellAt.{CellAt}
+use Rattle.metadata_cells.specs.domain_base.declared.place.Home.{Home}
+use Rattle.metadata_cells.specs.domain_base.declared.place.Tag.{Tag}
+use Rattle.metadata_cells.specs.page_store.Pages.{Pages, same_home}
+use Rattle.metadata_cells.specs.page_store.Bitfiles.{same_tag}
 use Rattle.tag_dirs.specs.declared.dir.ReadyPage.{ReadyPage}
 use Rattle.tag_dirs.specs.declared.dir.TagPlace.{TagPlace}
 use Rattle.tag_dirs.specs.declared.page.TagEntry.{TagEntry}

@@ -1,10 +1,10 @@
 -- Tag pages: 16 bytes, and 1,022 entries of 8 bytes.
 use Rattle.std.specs.Prelude.{◌≡◌, ◌==◌, ◌&&◌, ◌+◌, ◌*◌, ◌<◌, ◌≤◌, ℕ, Bool, not, List, Option, Some, None, IfSome, is_some, length, nat_lt, if◌then◌else◌}
-use Rattle.domain_base.specs.Page.{overwritten}
-use Rattle.domain_base.specs.declared.place.CellAt.{CellAt}
-use Rattle.domain_base.specs.declared.place.Home.{Home}
-use Rattle.record_table.specs.Fields.{number_at}
-use Rattle.bmt_mcells.specs.Cell.{IsAddress}
+use Rattle.metadata_cells.specs.domain_base.Page.{overwritten}
+use Rattle.metadata_cells.specs.domain_base.declared.place.CellAt.{CellAt}
+use Rattle.metadata_cells.specs.domain_base.declared.place.Home.{Home}
+use Rattle.metadata_cells.specs.cell_records.Fields.{number_at}
+use Rattle.metadata_cells.specs.Cell.{IsAddress}
 use Rattle.tag_dirs.specs.declared.page.TagEntry.{TagEntry}
 
 -- the cell of an entry, if it is used: if it has a volume

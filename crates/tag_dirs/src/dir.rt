@@ -1,20 +1,19 @@
 //! The tag directory of a fileset.
 ghost use Rattle.std.specs.Prelude.{◌+◌, ◌∷◌, ◌++◌, OnOk, OnErr, ◌≡◌, ◌<◌, ◌≤◌, ◌≢◌, ◌/◌, ◌%◌, ℕ, false, true, [], List, length, IfOk, IfSome, IfNone, IsSome, None, Some, IsSomeAnd};
-ghost use Rattle.page_store.specs.Pages.{Pages};
+ghost use Rattle.metadata_cells.specs.page_store.Pages.{Pages};
 ghost use Rattle.tag_dirs.specs.declared.page.TagEntry.{TagEntry as Entry};
-ghost use Rattle.domain_base.specs.declared.place.Home.{Home as HomeOf};
+ghost use Rattle.metadata_cells.specs.domain_base.declared.place.Home.{Home as HomeOf};
 ghost use Rattle.tag_dirs.specs.TagPage.{IsAllowed, IsTagPage};
 ghost use Rattle.tag_dirs.specs.Directory.{IsNextIndex, IsReady};
 ghost use Rattle.tag_dirs.specs.declared.dir.TagPlace.{TagPlace as PlaceOf};
-ghost use Rattle.domain_base.specs.declared.place.Tag.{Tag};
+ghost use Rattle.metadata_cells.specs.domain_base.declared.place.Tag.{Tag};
 ghost use Rattle.tag_dirs.specs.Directory.{AddsPage, IsLast, has_home, ChangesSlot, IsDirectory, SetsTag, cell_of, entry_at as entry_there, home_with, number_with, sequence_of, CanJoin, CanTake, HasDirectory, IsDirectoryAt, IsOnPage, JoinsPage};
 
 use crate::entries::{change_entry, lead_on};
 use crate::finding::{find_in, guess_in, used_on};
 use crate::guess::Guess;
 use crate::page::{ENTRIES, TagEntry, can_take, new_page, read_entry, read_index, read_next};
-use domain_base::{CellAt, Home, OutOfMemory, Page, Tag};
-use page_store::MetaPages;
+use metadata_cells::{CellAt, Home, MetaPages, OutOfMemory, Page, Tag};
 use std::alloc::Global;
 use std::collections::HashMap;
 use std::marker::Model;
@@ -30,8 +29,8 @@ pub struct TagPlace {
 }
 
 /// The tag directory of a fileset: its pages, in their chain's order. The pages themselves stand
-/// among the pages of metadata that each call is given. Which of their entries may be free is
-/// guessed, and no part of what contracts see.
+/// among the pages of metadata that each call is given. Which of their entries may be free is a
+/// guess, which contracts do not see.
 #[derive(Debug, Drop)]
 pub struct TagDir {
     places: Vec<TagPlace>,
@@ -39,8 +38,8 @@ pub struct TagDir {
     numbers: HashMap<u32, usize>,
 }
 
-/// A page of tags that is ready to stand behind the last one of a directory. It wants room for one
-/// page more among the pages of metadata, and else no memory.
+/// A page of tags that is ready to be put after the last one of a directory. Putting it there needs
+/// room for one more page of metadata, and no other memory.
 #[derive(Drop)]
 pub struct ReadyPage {
     page: Page,
@@ -71,8 +70,8 @@ fn last_home(places: &[TagPlace]) -> Option<Home>
     Some(places[places.len() - 1].home)
 }
 
-/// Puts a page that is ready at its home, behind the last page of its directory, which then leads
-/// to it. All other entries stay. It takes no memory.
+/// Puts a page that is ready at its home, after the last page of its directory, which then leads to
+/// it. All other entries stay. Takes no memory.
 pub fn put_ready<M: MetaPages>(pages: &mut M, ready: ReadyPage)
     requires last { IfSome ready.last (λ home. IsSomeAnd (M.pages pages.old home) IsTagPage) }
     requires room { 0 < M.room pages.old }
@@ -115,7 +114,7 @@ impl TagDir {
         Ok(dir)
     }
 
-    /// Puts the page that stands there behind the others, and answers the home of its next page.
+    /// Adds the page that stands there after the others, and returns the home of its next page.
     fn join<M: MetaPages>(&mut self, pages: &M, home: &Home) -> Result<Option<Home>, OutOfMemory>
         requires { IsSomeAnd (M.pages pages.now home.now) (CanJoin self.old) }
         ensures { IfOk result (λ next. IsSomeAnd (M.pages pages.now home.now)
@@ -137,9 +136,9 @@ impl TagDir {
         self.places.as_slice()
     }
 
-    /// Adds a page whose entries were never used, with this index, behind the last page, which then
-    /// leads to it. The first page has index 0. All other entries stay. It takes the room for the
-    /// page before anything changes: at an Err there may be more room, and all else is as it was.
+    /// Adds a page with this index, whose entries were never used, after the last page, which then
+    /// leads to it. The first page has index 0. All other entries stay. Takes the room for the page
+    /// before anything changes: after an error there may be more room, and all else is as it was.
     pub fn add_page<M: MetaPages>(
         &mut self,
         alloc: Global,
@@ -175,9 +174,9 @@ impl TagDir {
         Ok(())
     }
 
-    /// Makes a page ready whose entries were never used, with this index, and puts its place behind
-    /// the others: the page is to be put there by `put_ready`, or its place to be forgotten. At an
-    /// Err nothing has changed.
+    /// Makes ready a page with this index, whose entries were never used, and adds its place after
+    /// the others. The caller then puts the page there with `put_ready`, or forgets its place.
+    /// After an error nothing has changed.
     pub fn prepare_page(
         &mut self,
         alloc: Global,
@@ -204,7 +203,7 @@ impl TagDir {
         })
     }
 
-    /// Forgets the last place, which no other has the index of. It takes no memory.
+    /// Forgets the last place. No other place has its index. Takes no memory.
     pub fn forget_last(&mut self)
         requires { (places : List PlaceOf) (place : PlaceOf) → self.old ≡ places ++ place ∷ []
             → home_with places place.index ≡ None }
@@ -217,7 +216,7 @@ impl TagDir {
         }
     }
 
-    /// The least index that no page of the directory has: None where they have all.
+    /// The least index that no page of the directory has. Returns None if all are taken.
     pub fn next_index(&self) -> Option<u32>
         ensures some { IfSome result (λ index. IsNextIndex index self.now) }
         ensures none { IfNone result ((index : ℕ) → index < 4202512
@@ -246,7 +245,8 @@ impl TagDir {
         self.numbers.get(&index).copied()
     }
 
-    /// Puts a place behind the others, with the guess of its page. At an Err nothing has changed.
+    /// Adds a place after the others, with the guess of its page. After an error nothing has
+    /// changed.
     fn push(&mut self, place: TagPlace, guess: Guess) -> Result<(), OutOfMemory>
         requires { home_with self.old place.index ≡ None }
         ensures ok { OnOk result (self.new ≡ self.old ++ place ∷ []) }
@@ -260,8 +260,8 @@ impl TagDir {
         Ok(())
     }
 
-    /// The cell that the tag leads to. None exactly where no page has its slot, or the entry there
-    /// is not used or has another sequence.
+    /// The cell that the tag leads to. Returns None if and only if no page has its slot, or the
+    /// entry there is not used or has another sequence.
     pub fn look<M: MetaPages>(&self, pages: &M, tag: Tag) -> Option<CellAt>
         requires { IsDirectory (M.pages pages.now) self.now }
         ensures { result ≡ cell_of (M.pages pages.now) self.now tag }
@@ -270,9 +270,9 @@ impl TagDir {
         if entry.seq == tag.seq { entry.at } else { None }
     }
 
-    /// Takes a free entry, and makes its tag lead to this cell: the tag has the entry's slot, and a
-    /// sequence of one more than the slot's last. None exactly where no page has a free entry of a
-    /// slot other than 0 whose sequence can rise, and then nothing has changed. It takes no memory.
+    /// Takes a free entry, and makes its tag lead to this cell. The tag has the entry's slot, and a
+    /// sequence one above the slot's last. Returns None if and only if no page has a free entry of
+    /// a slot other than 0 whose sequence can rise, and then nothing has changed. Takes no memory.
     pub fn enter<M: MetaPages>(&mut self, pages: &mut M, at: CellAt) -> Option<Tag>
         requires directory { IsDirectory (M.pages pages.old) self.old }
         requires cell { at.cell < 28 }
@@ -290,9 +290,9 @@ impl TagDir {
         Some(tag)
     }
 
-    /// Makes a tag, as a clone's entry, lead to this cell. Its slot's entry is not used. False
-    /// exactly where no page of the directory has the slot, and then nothing has changed. It takes
-    /// no memory.
+    /// Makes a tag lead to this cell, as an entry of a clone. Its slot's entry is not used. Returns
+    /// false if and only if no page of the directory has the slot, and then nothing has changed.
+    /// Takes no memory.
     pub fn enter_as<M: MetaPages>(&mut self, pages: &mut M, tag: Tag, at: CellAt) -> bool
         requires directory { IsDirectory (M.pages pages.old) self.old }
         requires slot { tag.slot ≢ 0 }
@@ -319,7 +319,7 @@ impl TagDir {
         )
     }
 
-    /// Makes a tag that is in use lead to another cell. It takes no memory.
+    /// Makes a tag that is in use lead to another cell. Takes no memory.
     pub fn switch<M: MetaPages>(&mut self, pages: &mut M, tag: Tag, at: CellAt)
         requires directory { IsDirectory (M.pages pages.old) self.old }
         requires used { IsSome (cell_of (M.pages pages.old) self.old tag) }
@@ -339,7 +339,7 @@ impl TagDir {
         );
     }
 
-    /// Takes a tag out of use. Its slot keeps its sequence. It takes no memory.
+    /// Takes a tag out of use. Its slot keeps its sequence. Takes no memory.
     pub fn drop_tag<M: MetaPages>(&mut self, pages: &mut M, tag: Tag)
         requires directory { IsDirectory (M.pages pages.old) self.old }
         requires used { IsSome (cell_of (M.pages pages.old) self.old tag) }
@@ -352,8 +352,8 @@ impl TagDir {
         self.change(pages, tag.slot, &TagEntry { seq, at: None });
     }
 
-    /// A tag that may be taken: looked for first where the guesses say, and then on all pages. None
-    /// exactly where no page has one.
+    /// A tag that may be taken. Looks first where the guesses say, and then on all pages. Returns
+    /// None if and only if no page has one.
     pub fn free_tag<M: MetaPages>(&mut self, pages: &M) -> Option<Tag>
         requires { IsDirectory (M.pages pages.now) self.old }
         ensures some { IfSome result (CanTake (M.pages pages.now) self.old) }
@@ -367,9 +367,9 @@ impl TagDir {
         find_in(pages, self.places.as_slice())
     }
 
-    /// A tag in use of the page with that number, counted along the chain from 0. None exactly where
-    /// that page has none, or the directory has no such page. So all tags of a directory are found,
-    /// page by page, while each is taken out of use.
+    /// A tag in use of the page with that number, counted along the chain from 0. Returns None if
+    /// and only if that page has none, or the directory has no such page. In this way all tags of a
+    /// directory are found, page by page, while each is taken out of use.
     pub fn tag_on<M: MetaPages>(&self, pages: &M, number: usize) -> Option<Tag>
         requires { IsDirectory (M.pages pages.now) self.now }
         ensures there { IfSome result (λ tag. IsSome (cell_of (M.pages pages.now) self.now tag)) }
@@ -407,8 +407,8 @@ impl TagDir {
         Some(read_entry(page, slot as usize % ENTRIES))
     }
 
-    /// Changes the entry of a slot, in place. False exactly where no page has the slot, and then
-    /// nothing has changed.
+    /// Changes the entry of a slot, in place. Returns false if and only if no page has the slot,
+    /// and then nothing has changed.
     fn change<M: MetaPages>(&mut self, pages: &mut M, slot: u32, entry: &TagEntry) -> bool
         requires directory { IsDirectory (M.pages pages.old) self.old }
         requires allowed { IsAllowed slot entry.now }
@@ -429,7 +429,7 @@ impl TagDir {
         true
     }
 
-    /// Changes the entry of a slot on the page with that number, and tells whether the one before
+    /// Changes the entry of a slot on the page with that number, and returns whether the old entry
     /// could be taken.
     fn change_on<M: MetaPages>(
         &self,

@@ -4,8 +4,7 @@ ghost use Rattle.tag_dirs.specs.TagPage.{IsInFront, IsTagPage, next_of};
 ghost use Rattle.tag_dirs.specs.Directory.{CanHave, ChangesAt, EndsAt, Leads, LinksAt, Unlinks};
 
 use crate::page::{TagEntry, can_take, entry_bytes, leads_to, next_bytes, read_entry};
-use domain_base::Home;
-use page_store::MetaPages;
+use metadata_cells::{Home, MetaPages};
 
 /// Whether an entry of the tag page that stands there may be taken.
 fn can_take_at<M: MetaPages>(pages: &M, home: &Home, place: usize) -> bool
@@ -18,7 +17,7 @@ fn can_take_at<M: MetaPages>(pages: &M, home: &Home, place: usize) -> bool
     }
 }
 
-/// Changes an entry of the tag page that stands there, in place, and tells whether the one before
+/// Changes an entry of the tag page that stands there, in place, and returns whether the old entry
 /// could be taken. All other entries and pages stay.
 pub(crate) fn change_entry<M: MetaPages>(
     pages: &mut M,
@@ -57,7 +56,7 @@ fn lead_nowhere<M: MetaPages>(pages: &mut M, home: &Home, next: &Home)
     pages.set(*home, 8, &[0; 8]);
 }
 
-/// Whether a page stands at a home that says that the next one stands at another.
+/// Whether the page at a home says that the next page stands at another home.
 fn is_in_front<M: MetaPages>(pages: &M, home: &Home, next: &Home) -> bool
     ensures yes { result ≡ true → IsSomeAnd (M.pages pages.now home.now) (IsInFront next.now) }
     ensures no { result ≡ false → IfSome (M.pages pages.now home.now)
@@ -69,8 +68,8 @@ fn is_in_front<M: MetaPages>(pages: &M, home: &Home, next: &Home) -> bool
     }
 }
 
-/// Makes the page at a home, if one is given, lead to no next page of its directory, where it leads
-/// to that one: so it can be given back. It takes no memory.
+/// Makes the page at `front`, if a home is given and its page leads to `next`, lead to no next page
+/// of its directory, so that `next` can be given back. Takes no memory.
 pub fn unlink_page<M: MetaPages>(pages: &mut M, front: &Option<Home>, next: &Home)
     ensures unlinks { Unlinks front.now next.now (M.pages pages.old) (M.pages pages.new) }
     ensures room { M.room pages.new ≡ M.room pages.old }

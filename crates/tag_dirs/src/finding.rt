@@ -1,14 +1,13 @@
 //! A tag of a directory that may be taken.
 ghost use Rattle.std.specs.Prelude.{◌≡◌, IfNone, IfSome, IsSomeAnd, length};
-ghost use Rattle.domain_base.specs.declared.place.Tag.{Tag};
+ghost use Rattle.metadata_cells.specs.domain_base.declared.place.Tag.{Tag};
 ghost use Rattle.tag_dirs.specs.TagPage.{HasIndex};
 ghost use Rattle.tag_dirs.specs.Directory.{CanTake, HasNone, IsDirectory, IsUsedOn, TakesOn, UsesNone};
 
 use crate::dir::TagPlace;
 use crate::guess::{Guess, first_entry};
 use crate::page::{ENTRIES, find_takeable, find_used, read_entry};
-use domain_base::Tag;
-use page_store::MetaPages;
+use metadata_cells::{MetaPages, Tag};
 
 /// A tag of the page at a place that may be taken, of its entries from one on.
 fn find_on<M: MetaPages>(pages: &M, place: &TagPlace, from: usize) -> Option<Tag>
@@ -39,7 +38,7 @@ pub(crate) fn used_on<M: MetaPages>(pages: &M, place: &TagPlace) -> Option<Tag>
     })
 }
 
-/// A tag of the page at a place that may be taken, looked for where the guess says.
+/// A tag of the page at a place that may be taken, searched for where the guess says.
 fn guess_on<M: MetaPages>(pages: &M, place: &TagPlace, guess: &mut Guess) -> Option<Tag>
     requires { IsSomeAnd (M.pages pages.now place.now.home) (HasIndex place.now.index) }
     ensures { IfSome result (TakesOn (M.pages pages.now) place.now) }

@@ -3,10 +3,10 @@ ghost use Rattle.std.specs.Prelude.{◌≡◌, ◌==◌, ◌≤◌, if◌then◌
 ghost use Rattle.tag_dirs.specs.TagPage.{IsTagPage};
 
 use crate::page::{ENTRIES, can_take, read_entry};
-use domain_base::{Page, Tag};
+use metadata_cells::{Page, Tag};
 
-/// What is guessed of a page: how many of its entries may be taken, and an entry before which none
-/// may. It says where to look first, and no answer depends on it.
+/// A guess about a page: how many of its entries may be taken, and an entry before which none may
+/// be. It says where to look first, and no answer depends on it.
 #[derive(Clone, Copy, Debug)]
 pub(crate) struct Guess {
     free: usize,
@@ -34,7 +34,7 @@ fn count_takeable(page: &Page, first: usize) -> usize
 }
 
 impl Guess {
-    /// That of a page with this index whose entries were never used.
+    /// The guess for a page with this index whose entries were never used.
     pub(crate) fn of_new(index: u32) -> Self {
         let first = first_entry(index);
         Guess {
@@ -43,7 +43,7 @@ impl Guess {
         }
     }
 
-    /// That of a page as it stands.
+    /// The guess for a page as it stands.
     pub(crate) fn of_page(page: &Page, index: u32) -> Self
         requires { IsTagPage page.now }
     {
@@ -54,7 +54,7 @@ impl Guess {
         }
     }
 
-    /// The entry from which on to look, if the page may have one to take.
+    /// The entry at which to begin looking, if the page may have one to take.
     pub(crate) fn start(&self) -> Option<usize> {
         if self.free == 0 {
             None
@@ -80,7 +80,7 @@ impl Guess {
         }
     }
 
-    /// One entry less may be taken.
+    /// Notes that one entry less may be taken.
     fn lower(&mut self, entry: usize) {
         self.free = self.free.saturating_sub(1);
         if self.first == entry {
@@ -88,7 +88,7 @@ impl Guess {
         }
     }
 
-    /// One entry more may be taken.
+    /// Notes that one more entry may be taken.
     fn raise(&mut self, entry: usize) {
         self.free = self.free.saturating_add(1);
         self.first = self.first.min(entry);

@@ -1,12 +1,11 @@
 //! Tag pages: what they begin with, and their entries.
 ghost use Rattle.std.specs.Prelude.{IfOk, ℕ, ◌≡◌, ◌+◌, ◌*◌, ◌<◌, ◌≤◌, true, false, length, IfOk, IfSome, IfNone, IsSome, None, Some};
-ghost use Rattle.domain_base.specs.Page.{zero_bytes};
-ghost use Rattle.record_table.specs.Fields.{number_at};
-ghost use Rattle.bmt_mcells.specs.Cell.{IsAddress};
+ghost use Rattle.metadata_cells.specs.domain_base.Page.{zero_bytes};
+ghost use Rattle.metadata_cells.specs.cell_records.Fields.{number_at};
+ghost use Rattle.metadata_cells.specs.Cell.{IsAddress};
 ghost use Rattle.tag_dirs.specs.TagPage.{IsNewPage, IsTagPage, SpellsEntry, SpellsNext, entry_of, index_of, is_takeable, next_of};
 
-use domain_base::{CellAt, Home, OutOfMemory, Page, VolIx};
-use record_table::{put, u8_at, u16_at, u32_at};
+use metadata_cells::{CellAt, Home, OutOfMemory, Page, VolIx, put, u8_at, u16_at, u32_at};
 use std::alloc::Global;
 
 /// How many entries a page has.
@@ -62,7 +61,7 @@ pub(crate) fn read_index(page: &Page) -> u32
     u32_at(page.bytes(), 4)
 }
 
-/// The home of the page that is next to a tag page, if there is one.
+/// The home of the page that follows a tag page, if there is one.
 pub(crate) fn read_next(page: &Page) -> Option<Home>
     requires { IsTagPage page.now }
     ensures { result ≡ next_of page.now }

@@ -1,24 +1,24 @@
 -- First cells that are found to be named by no entry are those of the rules.
 use Rattle.std.proofs.Common.{◌≡◌, ◌∙◌, ◌↔◌, Bool, true, false, not, IsTrue, List, Contains, refl, sym, subst}
 use mathlib.Core.Bool.{false≢true}
-use Rattle.domain_base.specs.declared.place.CellAt.{CellAt}
-use Rattle.domain_base.specs.declared.place.Home.{Home}
-use Rattle.page_store.specs.Pages.{Pages}
-use Rattle.bmt_mcells.specs.Cell.{Cell, kind_number}
-use Rattle.bmt_mcells.specs.Chain.{StandsAt}
-use Rattle.bmt_mcells.specs.declared.head.CellKind.TheVariants.{Primary}
-use Rattle.bmt_mcells.proofs.Unique.{one_stands}
-use Rattle.fileset_table.specs.Table.{Table}
-use Rattle.domain_layout.specs.CellRules.{next_in, say_removed}
-use Rattle.domain_layout.specs.Reached.{Frame}
-use Rattle.domain_layout.specs.TagRules.{HasEntry, IsFirstOf}
-use Rattle.cell_links.specs.Links.{HasLink}
-use Rattle.cell_links.specs.Members.{IsIn}
-use Rattle.cell_links.specs.declared.links.CellLink.{CellLink}
-use Rattle.cell_links.specs.declared.links.CellLinks.{CellLinks}
-use Rattle.cell_links.specs.declared.set.CellSet.{CellSet}
-use Rattle.chain_faults.specs.Links.{AreLinks}
-use Rattle.chain_faults.proofs.Walks.{is_link}
+use Rattle.cell_faults.specs.domain_base.declared.place.CellAt.{CellAt}
+use Rattle.cell_faults.specs.domain_base.declared.place.Home.{Home}
+use Rattle.cell_faults.specs.page_store.Pages.{Pages}
+use Rattle.cell_faults.specs.metadata_cells.Cell.{Cell, kind_number}
+use Rattle.cell_faults.specs.metadata_cells.Chain.{StandsAt}
+use Rattle.cell_faults.specs.metadata_cells.declared.head.CellKind.TheVariants.{Primary}
+use Rattle.cell_faults.proofs.OfMetadataCells.Unique.{one_stands}
+use Rattle.cell_faults.specs.fileset_table.Table.{Table}
+use Rattle.cell_faults.specs.domain_layout.CellRules.{next_in, say_removed}
+use Rattle.cell_faults.specs.domain_layout.Reached.{Frame}
+use Rattle.cell_faults.specs.domain_layout.TagRules.{HasEntry, IsFirstOf}
+use Rattle.cell_faults.specs.cell_chains.Links.{HasLink}
+use Rattle.cell_faults.specs.cell_chains.Members.{IsIn}
+use Rattle.cell_faults.specs.cell_chains.declared.links.CellLink.{CellLink}
+use Rattle.cell_faults.specs.cell_chains.declared.links.CellLinks.{CellLinks}
+use Rattle.cell_faults.specs.cell_chains.declared.set.CellSet.{CellSet}
+use Rattle.cell_faults.specs.Links.{AreLinks}
+use Rattle.cell_faults.proofs.Walks.{is_link}
 use Rattle.tag_faults.specs.Entries.{AreEntries, tag_of}
 use Rattle.tag_faults.specs.Unnamed.{HasUnnamed, IsFirstAlone, IsNamed, LeadsToFirst, Stays}
 use Rattle.tag_faults.specs.declared.named.NamedCell.{NamedCell}

@@ -1,19 +1,19 @@
 -- First cells that are found to be read through others than they may are those of the rule.
 use Rattle.std.proofs.Common.{◌≡◌, ◌∙◌, ◌↔◌, refl, ap}
-use Rattle.domain_base.specs.declared.place.CellAt.{CellAt}
-use Rattle.domain_base.specs.declared.place.Home.{Home}
-use Rattle.page_store.specs.Pages.{Pages}
-use Rattle.bmt_mcells.specs.Cell.{kind_number}
-use Rattle.bmt_mcells.specs.CellPage.{home_of}
-use Rattle.bmt_mcells.specs.declared.head.CellKind.TheVariants.{Primary}
-use Rattle.fileset_table.specs.Table.{Table}
-use Rattle.domain_layout.specs.CellRules.{next_in}
-use Rattle.domain_layout.specs.Reached.{Frame}
-use Rattle.cell_links.specs.Links.{HasLink}
-use Rattle.cell_links.specs.declared.links.CellLink.{CellLink}
-use Rattle.cell_links.specs.declared.links.CellLinks.{CellLinks}
-use Rattle.chain_faults.specs.Links.{AreLinks}
-use Rattle.chain_faults.proofs.Walks.{is_link}
+use Rattle.cell_faults.specs.domain_base.declared.place.CellAt.{CellAt}
+use Rattle.cell_faults.specs.domain_base.declared.place.Home.{Home}
+use Rattle.cell_faults.specs.page_store.Pages.{Pages}
+use Rattle.cell_faults.specs.metadata_cells.Cell.{kind_number}
+use Rattle.cell_faults.specs.metadata_cells.CellPage.{home_of}
+use Rattle.cell_faults.specs.metadata_cells.declared.head.CellKind.TheVariants.{Primary}
+use Rattle.cell_faults.specs.fileset_table.Table.{Table}
+use Rattle.cell_faults.specs.domain_layout.CellRules.{next_in}
+use Rattle.cell_faults.specs.domain_layout.Reached.{Frame}
+use Rattle.cell_faults.specs.cell_chains.Links.{HasLink}
+use Rattle.cell_faults.specs.cell_chains.declared.links.CellLink.{CellLink}
+use Rattle.cell_faults.specs.cell_chains.declared.links.CellLinks.{CellLinks}
+use Rattle.cell_faults.specs.Links.{AreLinks}
+use Rattle.cell_faults.proofs.Walks.{is_link}
 use Rattle.tag_faults.specs.Sources.{HasAstray, ReadsAstray}
 
 module _ (pages : Pages) (frame : Frame) (table : Table) (links : CellLinks) (are : AreLinks pages frame links) where

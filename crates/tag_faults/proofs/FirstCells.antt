@@ -1,21 +1,21 @@
 -- First cells to which entries lead, by what was read of cells in use.
 use Rattle.std.proofs.Common.{◌≡◌, ◌∙◌, ◌↔◌, Bool, IsTrue, List, ℕ, Some, Contains, refl, sym, ap, subst}
-use Rattle.domain_base.specs.declared.place.CellAt.{CellAt}
-use Rattle.domain_base.specs.declared.place.Home.{Home}
-use Rattle.page_store.specs.Pages.{Pages}
-use Rattle.bmt_mcells.specs.Cell.{kind_number}
-use Rattle.bmt_mcells.specs.CellPage.{cell_at}
-use Rattle.bmt_mcells.specs.declared.head.CellKind.TheVariants.{Primary}
-use Rattle.fileset_table.specs.Table.{Table}
-use Rattle.domain_layout.specs.CellRules.{next_in}
-use Rattle.domain_layout.specs.Reached.{Frame}
-use Rattle.domain_layout.specs.TagRules.{HasEntry, IsFirstOf, IsWrongEntry}
-use Rattle.cell_links.specs.Links.{HasLink}
-use Rattle.cell_links.specs.declared.links.CellLink.{CellLink}
-use Rattle.cell_links.specs.declared.links.CellLinks.{CellLinks}
-use Rattle.cell_links.proofs.Whole.{one_link}
-use Rattle.chain_faults.specs.Links.{AreLinks}
-use Rattle.chain_faults.proofs.Walks.{is_link}
+use Rattle.cell_faults.specs.domain_base.declared.place.CellAt.{CellAt}
+use Rattle.cell_faults.specs.domain_base.declared.place.Home.{Home}
+use Rattle.cell_faults.specs.page_store.Pages.{Pages}
+use Rattle.cell_faults.specs.metadata_cells.Cell.{kind_number}
+use Rattle.cell_faults.specs.metadata_cells.CellPage.{cell_at}
+use Rattle.cell_faults.specs.metadata_cells.declared.head.CellKind.TheVariants.{Primary}
+use Rattle.cell_faults.specs.fileset_table.Table.{Table}
+use Rattle.cell_faults.specs.domain_layout.CellRules.{next_in}
+use Rattle.cell_faults.specs.domain_layout.Reached.{Frame}
+use Rattle.cell_faults.specs.domain_layout.TagRules.{HasEntry, IsFirstOf, IsWrongEntry}
+use Rattle.cell_faults.specs.cell_chains.Links.{HasLink}
+use Rattle.cell_faults.specs.cell_chains.declared.links.CellLink.{CellLink}
+use Rattle.cell_faults.specs.cell_chains.declared.links.CellLinks.{CellLinks}
+use Rattle.cell_faults.proofs.OfCellChains.Whole.{one_link}
+use Rattle.cell_faults.specs.Links.{AreLinks}
+use Rattle.cell_faults.proofs.Walks.{is_link}
 use Rattle.tag_faults.specs.Entries.{AreEntries, LeadsToNoFirst, SaysEntry, address_of, tag_of}
 use Rattle.tag_faults.specs.declared.named.NamedCell.{NamedCell}
 

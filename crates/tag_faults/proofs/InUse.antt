@@ -1,29 +1,29 @@
 -- Cells in use that are named, by what was read of them.
 use Rattle.std.proofs.Common.{◌≡◌, ◌∙◌, ◌↔◌, inl, inr, ℕ, Bool, IsTrue, List, Option, Some, None, refl, sym, ap, subst}
 use Rattle.std.specs.Option.{option_and_then}
-use Rattle.domain_base.specs.declared.place.CellAt.{CellAt}
-use Rattle.domain_base.specs.declared.place.Home.{Home}
-use Rattle.page_store.specs.Pages.{Pages}
-use Rattle.record_table.specs.Fields.{number_at}
-use Rattle.bmt_mcells.specs.Cell.{IsFileset, kind_number}
-use Rattle.bmt_mcells.specs.CellPage.{cell_at, home_of}
-use Rattle.bmt_mcells.specs.declared.head.CellKind.TheVariants.{Quota}
-use Rattle.fileset_table.specs.Table.{Table, entry_of}
-use Rattle.fileset_table.specs.declared.slot.FilesetEntry.{FilesetEntry}
-use Rattle.fileset_table.specs.declared.slot.SlotItem.{SlotItem}
-use Rattle.domain_layout.specs.CellRules as rules
-use Rattle.domain_layout.specs.CellRules.{IsLink, next_in}
-use Rattle.domain_layout.specs.Reached.{Frame}
-use Rattle.domain_layout.specs.TagRules.{HasWrongQuota, IsQuotaOf}
-use Rattle.cell_links.specs.Links.{HasLink}
-use Rattle.cell_links.specs.Members.{IsIn}
-use Rattle.cell_links.specs.declared.links.CellLink.{CellLink}
-use Rattle.cell_links.specs.declared.links.CellLinks.{CellLinks}
-use Rattle.cell_links.specs.declared.set.CellSet.{CellSet}
-use Rattle.cell_links.proofs.Whole.{one_link}
-use Rattle.chain_leads.specs.Heads.{IsLedTo}
-use Rattle.chain_faults.specs.Links.{AreLinks}
-use Rattle.chain_faults.proofs.Walks.{in_use, is_link, link_of}
+use Rattle.cell_faults.specs.domain_base.declared.place.CellAt.{CellAt}
+use Rattle.cell_faults.specs.domain_base.declared.place.Home.{Home}
+use Rattle.cell_faults.specs.page_store.Pages.{Pages}
+use Rattle.cell_faults.specs.cell_records.Fields.{number_at}
+use Rattle.cell_faults.specs.metadata_cells.Cell.{IsFileset, kind_number}
+use Rattle.cell_faults.specs.metadata_cells.CellPage.{cell_at, home_of}
+use Rattle.cell_faults.specs.metadata_cells.declared.head.CellKind.TheVariants.{Quota}
+use Rattle.cell_faults.specs.fileset_table.Table.{Table, entry_of}
+use Rattle.cell_faults.specs.fileset_table.declared.slot.FilesetEntry.{FilesetEntry}
+use Rattle.cell_faults.specs.fileset_table.declared.slot.SlotItem.{SlotItem}
+use Rattle.cell_faults.specs.domain_layout.CellRules as rules
+use Rattle.cell_faults.specs.domain_layout.CellRules.{IsLink, next_in}
+use Rattle.cell_faults.specs.domain_layout.Reached.{Frame}
+use Rattle.cell_faults.specs.domain_layout.TagRules.{HasWrongQuota, IsQuotaOf}
+use Rattle.cell_faults.specs.cell_chains.Links.{HasLink}
+use Rattle.cell_faults.specs.cell_chains.Members.{IsIn}
+use Rattle.cell_faults.specs.cell_chains.declared.links.CellLink.{CellLink}
+use Rattle.cell_faults.specs.cell_chains.declared.links.CellLinks.{CellLinks}
+use Rattle.cell_faults.specs.cell_chains.declared.set.CellSet.{CellSet}
+use Rattle.cell_faults.proofs.OfCellChains.Whole.{one_link}
+use Rattle.cell_faults.specs.cell_chains.Heads.{IsLedTo}
+use Rattle.cell_faults.specs.Links.{AreLinks}
+use Rattle.cell_faults.proofs.Walks.{in_use, is_link, link_of}
 use Rattle.tag_faults.specs.Quotas.{HasUnnamedQuota, IsQuotaAlone, IsQuotaNamed, own_quota}
 
 some_same : {X : Type 0} (a b : X) → Some a ≡ Some b → a ≡ b

@@ -1,10 +1,10 @@
 -- Entries that are found to lead to files with numbers of clones that were not made are those of the
 -- rule.
 use Rattle.std.proofs.Common.{◌↔◌, List, Contains}
-use Rattle.domain_base.specs.declared.place.Home.{Home}
-use Rattle.page_store.specs.Pages.{Pages}
-use Rattle.fileset_table.specs.Table.{Table}
-use Rattle.domain_layout.specs.Reached.{Frame}
+use Rattle.cell_faults.specs.domain_base.declared.place.Home.{Home}
+use Rattle.cell_faults.specs.page_store.Pages.{Pages}
+use Rattle.cell_faults.specs.fileset_table.Table.{Table}
+use Rattle.cell_faults.specs.domain_layout.Reached.{Frame}
 use Rattle.tag_faults.specs.Entries.{AreEntries, address_of, tag_of}
 use Rattle.tag_faults.specs.Late.{HasLate, LeadsToLate}
 use Rattle.tag_faults.specs.declared.named.NamedCell.{NamedCell}

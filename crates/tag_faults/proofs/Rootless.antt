@@ -1,13 +1,13 @@
 -- Originals that are found to have no root are those of the rule.
 use Rattle.std.proofs.Common.{◌↔◌, ◌≤◌, ℕ, List, length, refl, subst, arith}
-use Rattle.domain_base.specs.declared.place.CellAt.{CellAt}
-use Rattle.domain_base.specs.declared.place.Home.{Home}
-use Rattle.domain_base.specs.declared.place.Tag.{Tag}
-use Rattle.page_store.specs.Pages.{Pages}
-use Rattle.fileset_table.specs.Table.{Table}
-use Rattle.name_space.specs.Names.{root_tag}
-use Rattle.domain_layout.specs.Reached.{Frame}
-use Rattle.domain_layout.specs.TagRules.{HasEntry, HasNoRoot}
+use Rattle.cell_faults.specs.domain_base.declared.place.CellAt.{CellAt}
+use Rattle.cell_faults.specs.domain_base.declared.place.Home.{Home}
+use Rattle.cell_faults.specs.domain_base.declared.place.Tag.{Tag}
+use Rattle.cell_faults.specs.page_store.Pages.{Pages}
+use Rattle.cell_faults.specs.fileset_table.Table.{Table}
+use Rattle.cell_faults.specs.name_space.Names.{root_tag}
+use Rattle.cell_faults.specs.domain_layout.Reached.{Frame}
+use Rattle.cell_faults.specs.domain_layout.TagRules.{HasEntry, HasNoRoot}
 use Rattle.tag_faults.specs.Entries.{AreEntries, address_of, tag_of}
 use Rattle.tag_faults.specs.Roots.{AreRootsRemoved, IsRemovedAt, LacksRoot}
 use Rattle.tag_faults.specs.declared.named.NamedCell.{NamedCell}

@@ -1,14 +1,14 @@
 -- Pages of tag directories that are found to break a rule are those of the rules.
 use Rattle.std.proofs.Common.{◌≡◌, ◌∙◌, ◌↔◌, inl, inr, ℕ, ◌<◌, ◌≤◌, List, length, Contains, Option, Some, None, slice_get, refl, sym, ap, subst, arith, ⊎_elim}
 use Rattle.std.proofs.lemmas.Option.{get_or_from_slice_get, slice_get_read, slice_get_within}
-use Rattle.domain_base.specs.declared.place.Home.{Home}
-use Rattle.page_store.specs.Pages.{Pages}
-use Rattle.tag_dirs.specs.TagPage.{index_of}
-use Rattle.fileset_table.specs.Table.{Table}
-use Rattle.domain_layout.specs.Layout.{first_tag_of}
-use Rattle.domain_layout.specs.Reached.{Frame, IsRead, IsUnread, tags_way}
-use Rattle.domain_layout.specs.TagRules.{HasTags, IsTagsPage}
-use Rattle.page_ways.specs.Walk.{AreRead}
+use Rattle.cell_faults.specs.domain_base.declared.place.Home.{Home}
+use Rattle.cell_faults.specs.page_store.Pages.{Pages}
+use Rattle.cell_faults.specs.tag_dirs.TagPage.{index_of}
+use Rattle.cell_faults.specs.fileset_table.Table.{Table}
+use Rattle.cell_faults.specs.domain_layout.Layout.{first_tag_of}
+use Rattle.cell_faults.specs.domain_layout.Reached.{Frame, IsRead, IsUnread, tags_way}
+use Rattle.cell_faults.specs.domain_layout.TagRules.{HasTags, IsTagsPage}
+use Rattle.cell_faults.specs.page_ways.Walk.{AreRead}
 use Rattle.tag_faults.specs.Directories.{HasIndexBefore, HasIndexThere, HasPage, HasWrongPage, IsDirectoryFault, IsFaultBehind, IsReadOf, IsWrongAmong, IsWrongPage, IsWrongThere}
 use Rattle.tag_faults.proofs.Counted.{IsBelow, one_item, within_of}
 

@@ -1,13 +1,13 @@
 -- The rules of pages and entries, those of cells that are named, and those of slots are all rules of
 -- tags.
 use Rattle.std.proofs.Common.{◌≡◌, ◌⊎◌, ◌↔◌, inl, inr, ⊎_elim}
-use Rattle.domain_base.specs.declared.place.CellAt.{CellAt}
-use Rattle.domain_base.specs.declared.place.Home.{Home}
-use Rattle.page_store.specs.Pages.{Pages}
-use Rattle.bmt_mcells.specs.CellPage.{home_of}
-use Rattle.fileset_table.specs.Table.{Table}
-use Rattle.domain_layout.specs.Reached.{Frame}
-use Rattle.domain_layout.specs.TagRules.{IsNamingFault, IsTagsFault}
+use Rattle.cell_faults.specs.domain_base.declared.place.CellAt.{CellAt}
+use Rattle.cell_faults.specs.domain_base.declared.place.Home.{Home}
+use Rattle.cell_faults.specs.page_store.Pages.{Pages}
+use Rattle.cell_faults.specs.metadata_cells.CellPage.{home_of}
+use Rattle.cell_faults.specs.fileset_table.Table.{Table}
+use Rattle.cell_faults.specs.domain_layout.Reached.{Frame}
+use Rattle.cell_faults.specs.domain_layout.TagRules.{IsNamingFault, IsTagsFault}
 use Rattle.tag_faults.specs.All.{IsNamedFault, IsPagesFault, IsSlotFault}
 
 module _ (pages : Pages) (frame : Frame) (table : Table) (home : Home) where

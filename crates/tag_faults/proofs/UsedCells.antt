@@ -1,20 +1,20 @@
 -- Cells in use that were read, and what stands in them.
 use Rattle.std.proofs.Common.{◌≡◌, ◌∙◌, ◌↔◌, Bool, true, IsTrue, Some, refl, sym, subst}
-use Rattle.domain_base.specs.declared.place.CellAt.{CellAt}
-use Rattle.page_store.specs.Pages.{Pages}
-use Rattle.record_table.specs.declared.record.Record.{Record}
-use Rattle.bmt_mcells.specs.Cell.{Cell, record_of}
-use Rattle.bmt_mcells.specs.Chain.{StandsAt}
-use Rattle.bmt_mcells.proofs.Unique.{one_stands}
-use Rattle.fileset_table.specs.Table.{Table}
-use Rattle.domain_layout.specs.CellRules.{IsUsed, next_in, say_removed}
-use Rattle.domain_layout.specs.Reached.{Frame}
-use Rattle.domain_layout.specs.TagRules.{IsLate}
-use Rattle.cell_links.specs.Links.{IsInUse}
-use Rattle.cell_links.specs.declared.links.CellLink.{CellLink}
-use Rattle.cell_links.specs.declared.links.CellLinks.{CellLinks}
-use Rattle.chain_faults.specs.Links.{AreLinks}
-use Rattle.chain_faults.proofs.Walks.{is_link}
+use Rattle.cell_faults.specs.domain_base.declared.place.CellAt.{CellAt}
+use Rattle.cell_faults.specs.page_store.Pages.{Pages}
+use Rattle.cell_faults.specs.cell_records.declared.record.Record.{Record}
+use Rattle.cell_faults.specs.metadata_cells.Cell.{Cell, record_of}
+use Rattle.cell_faults.specs.metadata_cells.Chain.{StandsAt}
+use Rattle.cell_faults.proofs.OfMetadataCells.Unique.{one_stands}
+use Rattle.cell_faults.specs.fileset_table.Table.{Table}
+use Rattle.cell_faults.specs.domain_layout.CellRules.{IsUsed, next_in, say_removed}
+use Rattle.cell_faults.specs.domain_layout.Reached.{Frame}
+use Rattle.cell_faults.specs.domain_layout.TagRules.{IsLate}
+use Rattle.cell_faults.specs.cell_chains.Links.{IsInUse}
+use Rattle.cell_faults.specs.cell_chains.declared.links.CellLink.{CellLink}
+use Rattle.cell_faults.specs.cell_chains.declared.links.CellLinks.{CellLinks}
+use Rattle.cell_faults.specs.Links.{AreLinks}
+use Rattle.cell_faults.proofs.Walks.{is_link}
 use Rattle.tag_faults.specs.Late.{HasLateNumber}
 use Rattle.tag_faults.specs.Roots.{IsRemovedAt}
 

@@ -1,10 +1,10 @@
 -- All rules of tags, of what they name, and of slots, by what finds them.
 use Rattle.std.specs.Prelude.{◌≡◌, ◌⊎◌, Some}
-use Rattle.domain_base.specs.declared.place.Home.{Home}
-use Rattle.page_store.specs.Pages.{Pages}
-use Rattle.fileset_table.specs.Table.{Table}
-use Rattle.domain_layout.specs.Reached.{Frame}
-use Rattle.domain_layout.specs.TagRules.{HasNoRoot, IsWrongEntry, IsWrongSlot}
+use Rattle.cell_faults.specs.domain_base.declared.place.Home.{Home}
+use Rattle.cell_faults.specs.page_store.Pages.{Pages}
+use Rattle.cell_faults.specs.fileset_table.Table.{Table}
+use Rattle.cell_faults.specs.domain_layout.Reached.{Frame}
+use Rattle.cell_faults.specs.domain_layout.TagRules.{HasNoRoot, IsWrongEntry, IsWrongSlot}
 use Rattle.tag_faults.specs.Directories.{IsDirectoryFault}
 use Rattle.tag_faults.specs.Late.{HasLate}
 use Rattle.tag_faults.specs.Quotas.{HasUnnamedQuota}

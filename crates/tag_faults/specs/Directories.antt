@@ -1,11 +1,11 @@
 -- Pages of the tag directories of slots.
 use Rattle.std.specs.Prelude.{◌≡◌, ◌⊎◌, ◌↔◌, ◌<◌, ℕ, List, Option, Some, slice_get}
-use Rattle.domain_base.specs.declared.place.Home.{Home}
-use Rattle.page_store.specs.Pages.{Pages}
-use Rattle.tag_dirs.specs.TagPage.{IsAllowed, IsSpelled, IsTagPage, entry_of, index_of, slot_of}
-use Rattle.fileset_table.specs.Table.{Table}
-use Rattle.domain_layout.specs.Reached.{Frame, IsUnread, tags_way}
-use Rattle.domain_layout.specs.TagRules.{HasTags, IsNoTagPage, IsSharedTagPage, IsTagsPage, IsWrongTagPage}
+use Rattle.cell_faults.specs.domain_base.declared.place.Home.{Home}
+use Rattle.cell_faults.specs.page_store.Pages.{Pages}
+use Rattle.cell_faults.specs.tag_dirs.TagPage.{IsAllowed, IsSpelled, IsTagPage, entry_of, index_of, slot_of}
+use Rattle.cell_faults.specs.fileset_table.Table.{Table}
+use Rattle.cell_faults.specs.domain_layout.Reached.{Frame, IsUnread, tags_way}
+use Rattle.cell_faults.specs.domain_layout.TagRules.{HasTags, IsNoTagPage, IsSharedTagPage, IsTagsPage, IsWrongTagPage}
 
 -- an entry is well formed
 abbrev pub IsGoodEntry : List ℕ → ℕ → Type 0

@@ -1,15 +1,15 @@
 -- Used entries of tag directories.
 use Rattle.std.specs.Prelude.{◌≡◌, ◌↔◌, ◌+◌, ◌*◌, ◌<◌, ℕ, List, Some, Contains}
-use Rattle.domain_base.specs.declared.place.CellAt.{CellAt}
-use Rattle.domain_base.specs.declared.place.Home.{Home}
-use Rattle.domain_base.specs.declared.place.Tag.{Tag}
-use Rattle.page_store.specs.Pages.{Pages}
-use Rattle.record_table.specs.Fields.{number_at}
-use Rattle.bmt_mcells.specs.Cell.{IsFileset}
-use Rattle.tag_dirs.specs.TagPage.{slot_of}
-use Rattle.fileset_table.specs.Table.{Table}
-use Rattle.domain_layout.specs.Reached.{Frame}
-use Rattle.domain_layout.specs.TagRules.{HasEntry, IsFirstOf, IsTagsPage}
+use Rattle.cell_faults.specs.domain_base.declared.place.CellAt.{CellAt}
+use Rattle.cell_faults.specs.domain_base.declared.place.Home.{Home}
+use Rattle.cell_faults.specs.domain_base.declared.place.Tag.{Tag}
+use Rattle.cell_faults.specs.page_store.Pages.{Pages}
+use Rattle.cell_faults.specs.cell_records.Fields.{number_at}
+use Rattle.cell_faults.specs.metadata_cells.Cell.{IsFileset}
+use Rattle.cell_faults.specs.tag_dirs.TagPage.{slot_of}
+use Rattle.cell_faults.specs.fileset_table.Table.{Table}
+use Rattle.cell_faults.specs.domain_layout.Reached.{Frame}
+use Rattle.cell_faults.specs.domain_layout.TagRules.{HasEntry, IsFirstOf, IsTagsPage}
 use Rattle.tag_faults.specs.declared.named.NamedCell.{NamedCell}
 
 -- the tag of an entry, and the address to which it leads

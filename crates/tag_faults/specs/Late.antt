@@ -1,15 +1,15 @@
 -- Files that originals name, with numbers of clones that were not made.
 use Rattle.std.specs.Prelude.{◌≡◌, true, Some, slice_get}
-use Rattle.domain_base.specs.declared.place.CellAt.{CellAt}
-use Rattle.domain_base.specs.declared.place.Home.{Home}
-use Rattle.page_store.specs.Pages.{Pages}
-use Rattle.record_table.specs.declared.record.Record.{Record}
-use Rattle.bmt_mcells.specs.Cell.{Cell, record_of}
-use Rattle.bmt_mcells.specs.CellPage.{home_of}
-use Rattle.fileset_table.specs.Table.{Table}
-use Rattle.domain_layout.specs.CellRules.{IsUsed, of_original}
-use Rattle.domain_layout.specs.Reached.{Frame}
-use Rattle.domain_layout.specs.TagRules.{IsFirstOf, IsLate, IsLateFile}
+use Rattle.cell_faults.specs.domain_base.declared.place.CellAt.{CellAt}
+use Rattle.cell_faults.specs.domain_base.declared.place.Home.{Home}
+use Rattle.cell_faults.specs.page_store.Pages.{Pages}
+use Rattle.cell_faults.specs.cell_records.declared.record.Record.{Record}
+use Rattle.cell_faults.specs.metadata_cells.Cell.{Cell, record_of}
+use Rattle.cell_faults.specs.metadata_cells.CellPage.{home_of}
+use Rattle.cell_faults.specs.fileset_table.Table.{Table}
+use Rattle.cell_faults.specs.domain_layout.CellRules.{IsUsed, of_original}
+use Rattle.cell_faults.specs.domain_layout.Reached.{Frame}
+use Rattle.cell_faults.specs.domain_layout.TagRules.{IsFirstOf, IsLate, IsLateFile}
 use Rattle.tag_faults.specs.Entries.{address_of, tag_of}
 use Rattle.tag_faults.specs.declared.named.NamedCell.{NamedCell}
 

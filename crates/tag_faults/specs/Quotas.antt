@@ -1,19 +1,19 @@
 -- Quota cells that slots name.
 use Rattle.std.specs.Prelude.{◌≡◌, ◌⊎◌, ℕ, Option, Some, slice_get}
 use Rattle.std.specs.Option.{option_and_then}
-use Rattle.domain_base.specs.declared.place.CellAt.{CellAt}
-use Rattle.domain_base.specs.declared.place.Home.{Home}
-use Rattle.page_store.specs.Pages.{Pages}
-use Rattle.bmt_mcells.specs.CellPage.{home_of}
-use Rattle.bmt_mcells.specs.declared.head.CellKind.TheVariants.{Quota}
-use Rattle.fileset_table.specs.Table.{Table, entry_of}
-use Rattle.fileset_table.specs.declared.slot.FilesetEntry.{FilesetEntry}
-use Rattle.fileset_table.specs.declared.slot.SlotItem.{SlotItem}
-use Rattle.domain_layout.specs.Reached.{Frame}
-use Rattle.domain_layout.specs.TagRules.{HasWrongNumber, HasWrongQuota, IsUnnamedQuota, quota_of}
-use Rattle.cell_links.specs.Members.{IsIn}
-use Rattle.cell_links.specs.declared.links.CellLink.{CellLink}
-use Rattle.cell_links.specs.declared.set.CellSet.{CellSet}
+use Rattle.cell_faults.specs.domain_base.declared.place.CellAt.{CellAt}
+use Rattle.cell_faults.specs.domain_base.declared.place.Home.{Home}
+use Rattle.cell_faults.specs.page_store.Pages.{Pages}
+use Rattle.cell_faults.specs.metadata_cells.CellPage.{home_of}
+use Rattle.cell_faults.specs.metadata_cells.declared.head.CellKind.TheVariants.{Quota}
+use Rattle.cell_faults.specs.fileset_table.Table.{Table, entry_of}
+use Rattle.cell_faults.specs.fileset_table.declared.slot.FilesetEntry.{FilesetEntry}
+use Rattle.cell_faults.specs.fileset_table.declared.slot.SlotItem.{SlotItem}
+use Rattle.cell_faults.specs.domain_layout.Reached.{Frame}
+use Rattle.cell_faults.specs.domain_layout.TagRules.{HasWrongNumber, HasWrongQuota, IsUnnamedQuota, quota_of}
+use Rattle.cell_faults.specs.cell_chains.Members.{IsIn}
+use Rattle.cell_faults.specs.cell_chains.declared.links.CellLink.{CellLink}
+use Rattle.cell_faults.specs.cell_chains.declared.set.CellSet.{CellSet}
 
 -- what is in a slot has it for its first quota cell
 abbrev pub NamesQuota : Table → ℕ → CellAt → Type 0

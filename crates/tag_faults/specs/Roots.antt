@@ -1,15 +1,15 @@
 -- Originals without a root.
 use Rattle.std.specs.Prelude.{◌≡◌, ℕ, true, List, Some, Contains, slice_get}
-use Rattle.domain_base.specs.declared.place.CellAt.{CellAt}
-use Rattle.domain_base.specs.declared.place.Home.{Home}
-use Rattle.page_store.specs.Pages.{Pages}
-use Rattle.bmt_mcells.specs.Cell.{Cell}
-use Rattle.fileset_table.specs.Table.{Table}
-use Rattle.fileset_table.specs.declared.slot.SlotItem.{SlotItem}
-use Rattle.name_space.specs.Names.{root_tag}
-use Rattle.domain_layout.specs.CellRules.{IsUsed, of_original, say_removed}
-use Rattle.domain_layout.specs.Layout.{first_tag_of}
-use Rattle.domain_layout.specs.Reached.{Frame}
+use Rattle.cell_faults.specs.domain_base.declared.place.CellAt.{CellAt}
+use Rattle.cell_faults.specs.domain_base.declared.place.Home.{Home}
+use Rattle.cell_faults.specs.page_store.Pages.{Pages}
+use Rattle.cell_faults.specs.metadata_cells.Cell.{Cell}
+use Rattle.cell_faults.specs.fileset_table.Table.{Table}
+use Rattle.cell_faults.specs.fileset_table.declared.slot.SlotItem.{SlotItem}
+use Rattle.cell_faults.specs.name_space.Names.{root_tag}
+use Rattle.cell_faults.specs.domain_layout.CellRules.{IsUsed, of_original, say_removed}
+use Rattle.cell_faults.specs.domain_layout.Layout.{first_tag_of}
+use Rattle.cell_faults.specs.domain_layout.Reached.{Frame}
 use Rattle.tag_faults.specs.Entries.{address_of, tag_of}
 use Rattle.tag_faults.specs.declared.named.NamedCell.{NamedCell}
 

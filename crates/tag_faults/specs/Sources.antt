@@ -1,20 +1,20 @@
 -- Cells through which files of clones are read.
 use Rattle.std.specs.Prelude.{◌≡◌, ℕ, false, Some}
 use Rattle.std.specs.Option.{option_and_then}
-use Rattle.domain_base.specs.declared.place.CellAt.{CellAt}
-use Rattle.domain_base.specs.declared.place.Home.{Home}
-use Rattle.domain_base.specs.declared.place.Tag.{Tag}
-use Rattle.page_store.specs.Pages.{Pages}
-use Rattle.bmt_mcells.specs.Cell.{Cell, record_of}
-use Rattle.bmt_mcells.specs.CellPage.{home_of}
-use Rattle.bmt_mcells.specs.Chain.{StandsAt}
-use Rattle.bmt_mcells.specs.declared.head.CellHead.{CellHead}
-use Rattle.bmt_mcells.specs.declared.head.CellKind.TheVariants.{Primary}
-use Rattle.fileset_table.specs.Table.{Table}
-use Rattle.domain_layout.specs.CellRules.{item_of, say_removed}
-use Rattle.domain_layout.specs.Reached.{Frame}
-use Rattle.domain_layout.specs.Seen.{source_in}
-use Rattle.domain_layout.specs.TagRules.{HasWrongSource, IsFirstOf, original_slot}
+use Rattle.cell_faults.specs.domain_base.declared.place.CellAt.{CellAt}
+use Rattle.cell_faults.specs.domain_base.declared.place.Home.{Home}
+use Rattle.cell_faults.specs.domain_base.declared.place.Tag.{Tag}
+use Rattle.cell_faults.specs.page_store.Pages.{Pages}
+use Rattle.cell_faults.specs.metadata_cells.Cell.{Cell, record_of}
+use Rattle.cell_faults.specs.metadata_cells.CellPage.{home_of}
+use Rattle.cell_faults.specs.metadata_cells.Chain.{StandsAt}
+use Rattle.cell_faults.specs.metadata_cells.declared.head.CellHead.{CellHead}
+use Rattle.cell_faults.specs.metadata_cells.declared.head.CellKind.TheVariants.{Primary}
+use Rattle.cell_faults.specs.fileset_table.Table.{Table}
+use Rattle.cell_faults.specs.domain_layout.CellRules.{item_of, say_removed}
+use Rattle.cell_faults.specs.domain_layout.Reached.{Frame}
+use Rattle.cell_faults.specs.domain_layout.Seen.{source_in}
+use Rattle.cell_faults.specs.domain_layout.TagRules.{HasWrongSource, IsFirstOf, original_slot}
 
 -- the tag that a head says
 abbrev pub tag_in : CellHead → Tag

@@ -1,20 +1,20 @@
 -- First cells that no entry names.
 use Rattle.std.specs.Prelude.{◌≡◌, ℕ, false}
-use Rattle.domain_base.specs.declared.place.CellAt.{CellAt}
-use Rattle.domain_base.specs.declared.place.Home.{Home}
-use Rattle.domain_base.specs.declared.place.Tag.{Tag}
-use Rattle.page_store.specs.Pages.{Pages}
-use Rattle.bmt_mcells.specs.Cell.{Cell}
-use Rattle.bmt_mcells.specs.CellPage.{home_of}
-use Rattle.bmt_mcells.specs.Chain.{StandsAt}
-use Rattle.bmt_mcells.specs.declared.head.CellKind.TheVariants.{Primary}
-use Rattle.fileset_table.specs.Table.{Table}
-use Rattle.domain_layout.specs.CellRules.{say_removed}
-use Rattle.domain_layout.specs.Reached.{Frame}
-use Rattle.domain_layout.specs.TagRules.{HasEntry, IsFirstOf, IsUnnamed}
-use Rattle.cell_links.specs.Members.{IsIn}
-use Rattle.cell_links.specs.declared.links.CellLink.{CellLink}
-use Rattle.cell_links.specs.declared.set.CellSet.{CellSet}
+use Rattle.cell_faults.specs.domain_base.declared.place.CellAt.{CellAt}
+use Rattle.cell_faults.specs.domain_base.declared.place.Home.{Home}
+use Rattle.cell_faults.specs.domain_base.declared.place.Tag.{Tag}
+use Rattle.cell_faults.specs.page_store.Pages.{Pages}
+use Rattle.cell_faults.specs.metadata_cells.Cell.{Cell}
+use Rattle.cell_faults.specs.metadata_cells.CellPage.{home_of}
+use Rattle.cell_faults.specs.metadata_cells.Chain.{StandsAt}
+use Rattle.cell_faults.specs.metadata_cells.declared.head.CellKind.TheVariants.{Primary}
+use Rattle.cell_faults.specs.fileset_table.Table.{Table}
+use Rattle.cell_faults.specs.domain_layout.CellRules.{say_removed}
+use Rattle.cell_faults.specs.domain_layout.Reached.{Frame}
+use Rattle.cell_faults.specs.domain_layout.TagRules.{HasEntry, IsFirstOf, IsUnnamed}
+use Rattle.cell_faults.specs.cell_chains.Members.{IsIn}
+use Rattle.cell_faults.specs.cell_chains.declared.links.CellLink.{CellLink}
+use Rattle.cell_faults.specs.cell_chains.declared.set.CellSet.{CellSet}
 use Rattle.tag_faults.specs.Entries.{address_of, tag_of}
 use Rattle.tag_faults.specs.declared.named.NamedCell.{NamedCell}
 

@@ -1,10 +1,10 @@
 //! All rules of tags, of what they name, and of the slots of the fileset table.
 ghost use Rattle.std.specs.Prelude.{◌⊎◌, ◌↔◌, IfOk, OnOk};
-ghost use Rattle.domain_base.specs.declared.place.Home.{Home};
-ghost use Rattle.domain_layout.specs.TagRules.{IsTagsFault};
-ghost use Rattle.page_ways.specs.Frame.{frame_in};
-ghost use Rattle.home_sets.specs.Members.{IsIn as IsHomeIn};
-ghost use Rattle.chain_faults.specs.Links.{AreLinks};
+ghost use Rattle.cell_faults.specs.domain_base.declared.place.Home.{Home};
+ghost use Rattle.cell_faults.specs.domain_layout.TagRules.{IsTagsFault};
+ghost use Rattle.cell_faults.specs.page_ways.Frame.{frame_in};
+ghost use Rattle.cell_faults.specs.sorted_sets.Members.{IsIn as IsHomeIn};
+ghost use Rattle.cell_faults.specs.Links.{AreLinks};
 ghost use Rattle.tag_faults.specs.All.{IsNamedFault, IsPagesFault, IsSlotFault};
 
 use crate::directories::{directory_faults, insert_one};
@@ -15,14 +15,9 @@ use crate::roots::root_faults;
 use crate::slots::has_wrong_slot;
 use crate::sources::source_faults;
 use crate::unnamed::unnamed_faults;
-use cell_faults::read_tables;
-use cell_links::CellLinks;
-use chain_faults::read_links;
-use domain_base::OutOfMemory;
-use fileset_table::FilesetTable;
-use home_sets::HomeSet;
-use page_store::MetaPages;
-use page_ways::DomainFrame;
+use cell_faults::{
+    CellLinks, DomainFrame, FilesetTable, HomeSet, MetaPages, OutOfMemory, read_links, read_tables,
+};
 use std::alloc::Global;
 
 /// The pages at which a rule of pages of tag directories, or of their entries, is broken.
@@ -45,7 +40,7 @@ fn pages_faults<M: MetaPages>(
     Ok(found)
 }
 
-/// The pages at which a rule of cells that are named, or that should be, is broken.
+/// The pages at which a rule of cells that are named, or that should be named, is broken.
 fn named_faults<M: MetaPages>(
     alloc: Global,
     pages: &M,
@@ -89,8 +84,8 @@ fn insert_slot_fault<M: MetaPages>(
 }
 
 /// The pages at which a rule of tags, of what they name, or of the slots of the fileset table is
-/// broken, each once and in order: those with the code 6 in a list of faults, where the page of
-/// that table breaks no rule and says this table.
+/// broken, each once and in order: those with the code 6 in a list of faults, if the page of that
+/// table breaks no rule and says this table.
 pub fn tags_faults<M: MetaPages>(
     alloc: Global,
     pages: &M,

@@ -1,19 +1,14 @@
-//! What is read of a cell in use whatever else stands in it.
+//! What is read of a cell in use, whatever else it holds.
 ghost use Rattle.std.specs.Prelude.{◌≡◌, ◌↔◌, ℕ, IsTrue, List, Some};
-ghost use Rattle.record_table.specs.Fields.{number_at};
-ghost use Rattle.bmt_mcells.specs.Cell.{IsFileset};
-ghost use Rattle.bmt_mcells.specs.declared.head.CellKind.TheVariants.{Quota};
-ghost use Rattle.bmt_mcells.specs.CellPage.{cell_at, home_of as home_there};
-ghost use Rattle.domain_layout.specs.Reached.{Frame};
-ghost use Rattle.domain_layout.specs.TagRules.{IsQuotaOf};
-ghost use Rattle.chain_faults.specs.Links.{AreLinks};
+ghost use Rattle.cell_faults.specs.cell_records.Fields.{number_at};
+ghost use Rattle.cell_faults.specs.metadata_cells.Cell.{IsFileset};
+ghost use Rattle.cell_faults.specs.metadata_cells.declared.head.CellKind.TheVariants.{Quota};
+ghost use Rattle.cell_faults.specs.metadata_cells.CellPage.{cell_at, home_of as home_there};
+ghost use Rattle.cell_faults.specs.domain_layout.Reached.{Frame};
+ghost use Rattle.cell_faults.specs.domain_layout.TagRules.{IsQuotaOf};
+ghost use Rattle.cell_faults.specs.Links.{AreLinks};
 
-use bmt_mcells::CellKind;
-use cell_faults::bytes_of;
-use cell_links::CellLinks;
-use domain_base::{CellAt, FilesetNo, Home};
-use page_store::MetaPages;
-use record_table::u8_at;
+use cell_faults::{CellAt, CellKind, CellLinks, FilesetNo, Home, MetaPages, bytes_of, u8_at};
 
 /// The home of the page of a cell.
 pub(crate) fn home_of(at: &CellAt) -> Home
@@ -25,7 +20,7 @@ pub(crate) fn home_of(at: &CellAt) -> Home
     }
 }
 
-/// Whether a byte of a cell is that of a fileset: its number and 1 more.
+/// Whether a byte of a cell is that of a fileset: its number plus 1.
 pub(crate) fn is_fileset(byte: u8, number: FilesetNo) -> bool
     ensures { IsTrue result ↔ IsFileset byte (Some number) }
 {
@@ -43,14 +38,14 @@ fn says_fileset<M: MetaPages>(pages: &M, at: &CellAt, number: FilesetNo) -> bool
     }
 }
 
-/// Whether a kind is that of cells of quotas.
+/// Whether a kind is that of quota cells.
 fn is_quota(kind: CellKind) -> bool
     ensures { IsTrue result ↔ (kind ≡ Quota) }
 {
     matches!(kind, CellKind::Quota)
 }
 
-/// Whether a quota cell of a fileset stands at a place, whatever else is in it.
+/// Whether a quota cell of a fileset stands at a place, whatever else it holds.
 pub(crate) fn is_quota_of<M: MetaPages>(
     pages: &M,
     links: &CellLinks,

@@ -1,18 +1,17 @@
 //! Pages of tag directories.
 ghost use Rattle.std.specs.Prelude.{◌≡◌, ◌⊎◌, ◌↔◌, Contains, IfOk, OnOk, Some};
-ghost use Rattle.domain_base.specs.declared.place.Home.{Home};
-ghost use Rattle.domain_layout.specs.Layout.{first_tag_of};
-ghost use Rattle.page_ways.specs.Frame.{frame_in};
-ghost use Rattle.home_sets.specs.Members.{IsIn as IsHomeIn};
+ghost use Rattle.cell_faults.specs.domain_base.declared.place.Home.{Home};
+ghost use Rattle.cell_faults.specs.domain_layout.Layout.{first_tag_of};
+ghost use Rattle.cell_faults.specs.page_ways.Frame.{frame_in};
+ghost use Rattle.cell_faults.specs.sorted_sets.Members.{IsIn as IsHomeIn};
 ghost use Rattle.tag_faults.specs.Directories.{HasPage, IsDirectoryFault, IsFaultBehind, IsReadOf};
 
 use crate::indexes::insert_wrong_pages;
 use crate::table::{count_slots, slot_number};
-use domain_base::{FilesetNo, Home, OutOfMemory};
-use fileset_table::{FilesetTable, SlotItem};
-use home_sets::HomeSet;
-use page_store::MetaPages;
-use page_ways::{DomainFrame, ReadPages, TagsWay, read_pages};
+use cell_faults::{
+    DomainFrame, FilesetNo, FilesetTable, Home, HomeSet, MetaPages, OutOfMemory, ReadPages,
+    SlotItem, TagsWay, read_pages,
+};
 use std::alloc::Global;
 
 /// The first page of the tag directory of what is in a slot, if it has one.
@@ -27,7 +26,7 @@ fn first_tag(item: &SlotItem) -> Option<Home>
     }
 }
 
-/// The pages of the tag directory of what is in a slot: none, where it has none.
+/// The pages of the tag directory of what is in a slot; no page if it has none.
 pub fn read_directory<M: MetaPages>(
     alloc: Global,
     pages: &M,
@@ -71,7 +70,7 @@ fn insert_if(earlier: &HomeSet, home: &Home, found: &mut HomeSet) -> Result<(), 
     Ok(())
 }
 
-/// Puts those of the homes into a set that another set has.
+/// Puts into a set those of the homes that another set has.
 fn insert_shared(homes: &[Home], earlier: &HomeSet, found: &mut HomeSet) -> Result<(), OutOfMemory>
     ensures { OnOk result ((home : Home) → IsHomeIn found.new home ↔ (IsHomeIn found.old home
         ⊎ (Contains homes.now home × IsHomeIn earlier.now home))) }
@@ -82,7 +81,7 @@ fn insert_shared(homes: &[Home], earlier: &HomeSet, found: &mut HomeSet) -> Resu
     Ok(())
 }
 
-/// Looks at the directory of a slot, behind those of all earlier slots.
+/// Looks at the directory of a slot, after those of all earlier slots.
 fn look_at<M: MetaPages>(
     alloc: Global,
     pages: &M,
@@ -107,8 +106,8 @@ fn look_at<M: MetaPages>(
     Ok(())
 }
 
-/// The pages of tag directories that cannot be such, that an earlier slot's directory has, too, that
-/// are not well formed, or have an index that they may not have.
+/// The pages of tag directories that cannot be pages of one, that an earlier slot's directory has,
+/// too, that are not well formed, or that have an index that they may not have.
 pub fn directory_faults<M: MetaPages>(
     alloc: Global,
     pages: &M,

@@ -1,13 +1,12 @@
-//! Whether a page is a well-formed one of a tag directory.
+//! Whether a page is a well-formed page of a tag directory.
 ghost use Rattle.std.specs.Prelude.{◌≡◌, ◌↔◌, ◌+◌, ◌*◌, ◌<◌, ◌≤◌, IsTrue, ℕ};
-ghost use Rattle.record_table.specs.Fields.{number_at};
-ghost use Rattle.tag_dirs.specs.TagPage.{IsTagPage, slot_of};
+ghost use Rattle.cell_faults.specs.cell_records.Fields.{number_at};
+ghost use Rattle.cell_faults.specs.tag_dirs.TagPage.{IsTagPage, slot_of};
 ghost use Rattle.tag_faults.specs.Directories.{IsGoodEntry};
 
-use domain_base::Page;
-use record_table::{u8_at, u16_at, u32_at};
+use cell_faults::{Page, u8_at, u16_at, u32_at};
 
-/// Whether an entry leads to a volume, which there need not be.
+/// Whether an entry leads to a volume, which need not exist.
 pub(crate) fn is_used(page: &Page, entry: usize) -> bool
     requires { entry < 1022 }
     ensures { IsTrue result ↔ ¬ number_at 1 (18 + 8 * entry) page.now ≡ 0 }
@@ -70,7 +69,7 @@ fn are_good_entries(page: &Page) -> bool
     true
 }
 
-/// Whether a page is a well-formed one of a tag directory.
+/// Whether a page is a well-formed page of a tag directory.
 pub(crate) fn is_tag_page(page: &Page) -> bool
     ensures { IsTrue result ↔ IsTagPage page.now }
 {

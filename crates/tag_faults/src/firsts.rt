@@ -1,28 +1,23 @@
 //! First cells to which entries lead.
 ghost use Rattle.std.specs.Prelude.{◌≡◌, ◌⊎◌, ◌↔◌, ◌≤◌, Contains, IfNone, IfOk, IfSome, IsTrue, List, OnOk, Some, length, ℕ};
-ghost use Rattle.domain_base.specs.declared.place.CellAt.{CellAt};
-ghost use Rattle.domain_base.specs.declared.place.Home.{Home};
-ghost use Rattle.record_table.specs.Fields.{number_at};
-ghost use Rattle.bmt_mcells.specs.CellPage.{cell_at};
-ghost use Rattle.bmt_mcells.specs.declared.head.CellKind.TheVariants.{Primary};
-ghost use Rattle.domain_layout.specs.TagRules.{IsFirstOf, IsWrongEntry};
-ghost use Rattle.page_ways.specs.Frame.{frame_in};
-ghost use Rattle.home_sets.specs.Members.{IsIn as IsHomeIn};
-ghost use Rattle.chain_faults.specs.Links.{AreLinks};
+ghost use Rattle.cell_faults.specs.domain_base.declared.place.CellAt.{CellAt};
+ghost use Rattle.cell_faults.specs.domain_base.declared.place.Home.{Home};
+ghost use Rattle.cell_faults.specs.cell_records.Fields.{number_at};
+ghost use Rattle.cell_faults.specs.metadata_cells.CellPage.{cell_at};
+ghost use Rattle.cell_faults.specs.metadata_cells.declared.head.CellKind.TheVariants.{Primary};
+ghost use Rattle.cell_faults.specs.domain_layout.TagRules.{IsFirstOf, IsWrongEntry};
+ghost use Rattle.cell_faults.specs.page_ways.Frame.{frame_in};
+ghost use Rattle.cell_faults.specs.sorted_sets.Members.{IsIn as IsHomeIn};
+ghost use Rattle.cell_faults.specs.Links.{AreLinks};
 ghost use Rattle.tag_faults.specs.Entries.{LeadsToNoFirst, SaysEntry, address_of, tag_of};
 ghost use Rattle.tag_faults.specs.declared.named.NamedCell.{NamedCell as NamedOf};
 
 use crate::cells::{home_of, is_fileset};
 use crate::named::{NamedCell, read_entries};
-use bmt_mcells::CellKind;
-use cell_faults::bytes_of;
-use cell_links::CellLinks;
-use domain_base::{CellAt, OutOfMemory, VolIx};
-use fileset_table::FilesetTable;
-use home_sets::HomeSet;
-use page_store::MetaPages;
-use page_ways::DomainFrame;
-use record_table::{u8_at, u16_at, u32_at};
+use cell_faults::{
+    CellAt, CellKind, CellLinks, DomainFrame, FilesetTable, HomeSet, MetaPages, OutOfMemory, VolIx,
+    bytes_of, u8_at, u16_at, u32_at,
+};
 use std::alloc::Global;
 
 /// The cell to which an entry leads, if it leads to one of the volumes 1 to 8.
@@ -55,7 +50,7 @@ fn says_entry(bytes: &[u8], entry: &NamedCell) -> bool
         && u16_at(bytes, 12) == entry.seq
 }
 
-/// Whether the cell at a place says them, if one is there.
+/// Whether the cell at a place, if one is there, says the fileset and the tag of an entry.
 fn says_entry_at<M: MetaPages>(pages: &M, at: &CellAt, entry: &NamedCell) -> bool
     ensures { (bytes : List ℕ) → cell_at (M.pages pages.now) at.now ≡ Some bytes → IsTrue result
         ↔ SaysEntry bytes entry.now }
@@ -66,7 +61,7 @@ fn says_entry_at<M: MetaPages>(pages: &M, at: &CellAt, entry: &NamedCell) -> boo
     }
 }
 
-/// Whether an entry leads to a first cell of its fileset and tag, whatever else is in that.
+/// Whether an entry leads to a first cell of its fileset and tag, whatever else the cell holds.
 pub(crate) fn leads_to_first<M: MetaPages>(
     pages: &M,
     frame: &DomainFrame,
@@ -104,8 +99,8 @@ fn insert_wrong<M: MetaPages>(
     Ok(())
 }
 
-/// The pages of tag directories with an entry that leads to no first cell of its fileset and tag, by
-/// what was read of all cells in use.
+/// The pages of tag directories with an entry that leads to no first cell of its fileset and tag,
+/// from what was read of all cells in use.
 pub fn entry_faults<M: MetaPages>(
     alloc: Global,
     pages: &M,

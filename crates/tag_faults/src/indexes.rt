@@ -1,17 +1,13 @@
 //! Pages of a tag directory that are not well formed, or have an index that they may not have.
 ghost use Rattle.std.specs.Prelude.{◌≡◌, ◌⊎◌, ◌↔◌, ◌+◌, ℕ, IsTrue, OnOk, Some};
-ghost use Rattle.domain_base.specs.declared.place.Home.{Home};
-ghost use Rattle.tag_dirs.specs.TagPage.{index_of as index_there};
-ghost use Rattle.home_sets.specs.Members.{IsIn as IsHomeIn};
-ghost use Rattle.span_sets.specs.Members.{HasNumber};
+ghost use Rattle.cell_faults.specs.domain_base.declared.place.Home.{Home};
+ghost use Rattle.cell_faults.specs.tag_dirs.TagPage.{index_of as index_there};
+ghost use Rattle.cell_faults.specs.sorted_sets.Members.{IsIn as IsHomeIn};
+ghost use Rattle.cell_faults.specs.sorted_sets.SpanMembers.{HasNumber};
 ghost use Rattle.tag_faults.specs.Directories.{HasIndexThere, IsWrongAmong, IsWrongPage, IsWrongThere};
 
 use crate::entries::is_tag_page;
-use domain_base::{Home, OutOfMemory, Page};
-use home_sets::HomeSet;
-use page_store::MetaPages;
-use record_table::u32_at;
-use span_sets::{Span, SpanSet};
+use cell_faults::{Home, HomeSet, MetaPages, OutOfMemory, Page, Span, SpanSet, u32_at};
 use std::alloc::Global;
 
 /// The index of a page.
@@ -21,7 +17,7 @@ fn index_of(page: &Page) -> u32
     u32_at(page.bytes(), 4)
 }
 
-/// The span of a number alone.
+/// The span of a single number.
 fn span_of(number: u32) -> Span
     ensures from { result.from ≡ number }
     ensures to { result.to ≡ number + 1 }
@@ -46,14 +42,14 @@ fn see_index(page: &Page, seen: &mut SpanSet) -> Result<(), OutOfMemory>
     Ok(())
 }
 
-/// Whether a page is the first one and has another index than 0.
+/// Whether a page is the first one and has an index other than 0.
 fn begins_late(page: &Page, place: usize) -> bool
     ensures { IsTrue result ↔ ((place ≡ 0) × ¬ index_there page.now ≡ 0) }
 {
     place == 0 && index_of(page) != 0
 }
 
-/// Whether a page is not well formed, is the first one with another index than 0, or has an index
+/// Whether a page is not well formed, is the first one with an index other than 0, or has an index
 /// that was seen.
 fn is_wrong_page(page: &Page, place: usize, seen: &SpanSet) -> bool
     ensures { IsTrue result ↔ IsWrongPage page.now place (HasNumber seen.now) }
@@ -78,7 +74,7 @@ fn insert_wrong(
     Ok(())
 }
 
-/// Looks at the page at a place of a directory, behind all in front of it.
+/// Looks at the page at a place of a directory, after all before it.
 fn look_at<M: MetaPages>(
     pages: &M,
     place: usize,
@@ -100,7 +96,7 @@ fn look_at<M: MetaPages>(
     Ok(())
 }
 
-/// Puts those of the homes of a directory into a set at which a page is wrong.
+/// Puts into a set those of the homes of a directory at which a page is wrong.
 pub(crate) fn insert_wrong_pages<M: MetaPages>(
     alloc: Global,
     pages: &M,

@@ -1,27 +1,23 @@
-//! Files that originals name, with numbers of clones that were not made.
+//! Files that originals name and that have numbers of clones that were not made.
 ghost use Rattle.std.specs.Prelude.{◌≡◌, ◌⊎◌, ◌↔◌, IfOk, IsTrue, OnOk, Some, slice_get, true};
-ghost use Rattle.domain_base.specs.declared.place.Home.{Home};
-ghost use Rattle.record_table.specs.declared.record.Record.{Record as RecordOf};
-ghost use Rattle.bmt_mcells.specs.Cell.{Cell, record_of};
-ghost use Rattle.bmt_mcells.specs.Chain.{StandsAt};
-ghost use Rattle.domain_layout.specs.CellRules.{of_original};
-ghost use Rattle.domain_layout.specs.TagRules.{IsLate};
-ghost use Rattle.page_ways.specs.Frame.{frame_in};
-ghost use Rattle.home_sets.specs.Members.{IsIn as IsHomeIn};
-ghost use Rattle.chain_faults.specs.Links.{AreLinks};
+ghost use Rattle.cell_faults.specs.domain_base.declared.place.Home.{Home};
+ghost use Rattle.cell_faults.specs.cell_records.declared.record.Record.{Record as RecordOf};
+ghost use Rattle.cell_faults.specs.metadata_cells.Cell.{Cell, record_of};
+ghost use Rattle.cell_faults.specs.metadata_cells.Chain.{StandsAt};
+ghost use Rattle.cell_faults.specs.domain_layout.CellRules.{of_original};
+ghost use Rattle.cell_faults.specs.domain_layout.TagRules.{IsLate};
+ghost use Rattle.cell_faults.specs.page_ways.Frame.{frame_in};
+ghost use Rattle.cell_faults.specs.sorted_sets.Members.{IsIn as IsHomeIn};
+ghost use Rattle.cell_faults.specs.Links.{AreLinks};
 ghost use Rattle.tag_faults.specs.Late.{HasLate, HasLateNumber, LeadsToLate};
 
 use crate::cells::home_of;
 use crate::firsts::{cell_of, leads_to_first};
 use crate::named::{NamedCell, read_entries};
-use bmt_mcells::{find_record, read_used};
-use cell_links::CellLinks;
-use domain_base::{CellAt, FilesetNo, OutOfMemory};
-use fileset_table::{FilesetTable, SlotItem};
-use home_sets::HomeSet;
-use page_store::MetaPages;
-use page_ways::DomainFrame;
-use record_table::Record;
+use cell_faults::{
+    CellAt, CellLinks, DomainFrame, FilesetNo, FilesetTable, HomeSet, MetaPages, OutOfMemory,
+    Record, SlotItem, find_record, read_used,
+};
 use std::alloc::Global;
 
 /// Whether a slot has an original.
@@ -45,7 +41,8 @@ fn is_late(table: &FilesetTable, value: &Record) -> bool
     }
 }
 
-/// Whether the attributes of the cell in use at a place have such a number.
+/// Whether the attributes of the cell in use at a place have the number of a clone that was not
+/// made.
 fn is_late_at<M: MetaPages>(pages: &M, table: &FilesetTable, at: &CellAt) -> bool
     ensures { (cell : Cell) → StandsAt (M.pages pages.now) at.now cell → IsTrue result
         ↔ ((value : RecordOf) × (record_of 1 cell.records ≡ Some value)
@@ -57,7 +54,8 @@ fn is_late_at<M: MetaPages>(pages: &M, table: &FilesetTable, at: &CellAt) -> boo
     }
 }
 
-/// Whether a cell in use stands at a place of a page of cells, with such a number.
+/// Whether a cell in use with the number of a clone that was not made stands at a place of a page
+/// of cells.
 fn has_late_number<M: MetaPages>(
     alloc: Global,
     pages: &M,
@@ -80,7 +78,7 @@ fn has_late_number<M: MetaPages>(
 }
 
 /// Puts the page of the cell of an entry into a set, if an original has the entry, and the cell is
-/// a first one of its fileset and tag with such a number.
+/// a first one of its fileset and tag with the number of a clone that was not made.
 fn insert_late<M: MetaPages>(
     alloc: Global,
     pages: &M,
@@ -110,7 +108,7 @@ fn insert_late<M: MetaPages>(
 }
 
 /// The pages with a first cell that an original's entry of its tag names, and that has the number
-/// of a clone which was not made, by what was read of all cells in use.
+/// of a clone that was not made, from what was read of all cells in use.
 pub fn late_file_faults<M: MetaPages>(
     alloc: Global,
     pages: &M,

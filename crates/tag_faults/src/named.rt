@@ -1,23 +1,21 @@
 //! Used entries of tag directories.
 ghost use Rattle.std.specs.Prelude.{◌≡◌, ◌⊎◌, ◌↔◌, ◌<◌, ◌+◌, ◌*◌, Contains, IfOk, OnOk};
-ghost use Rattle.record_table.specs.Fields.{number_at};
-ghost use Rattle.tag_dirs.specs.TagPage.{slot_of};
-ghost use Rattle.page_ways.specs.Frame.{frame_in};
+ghost use Rattle.cell_faults.specs.cell_records.Fields.{number_at};
+ghost use Rattle.cell_faults.specs.tag_dirs.TagPage.{slot_of};
+ghost use Rattle.cell_faults.specs.page_ways.Frame.{frame_in};
 ghost use Rattle.tag_faults.specs.Entries.{AreEntries, IsEntryAmong, IsEntryAt, IsEntryIn, IsEntryOf, IsEntryThere, named_at};
 ghost use Rattle.tag_faults.specs.declared.named.NamedCell.{NamedCell as NamedOf};
 
 use crate::directories::read_directory;
 use crate::entries::is_used;
 use crate::table::{count_slots, slot_number};
-use domain_base::{FilesetNo, Home, OutOfMemory, Page};
-use fileset_table::FilesetTable;
-use page_store::MetaPages;
-use page_ways::DomainFrame;
-use record_table::{u8_at, u16_at, u32_at};
+use cell_faults::{
+    DomainFrame, FilesetNo, FilesetTable, Home, MetaPages, OutOfMemory, Page, u8_at, u16_at, u32_at,
+};
 use std::alloc::Global;
 
 /// A used entry of the tag directory of a fileset: its tag, the address to which it leads, whatever
-/// that is, and the home of its page.
+/// it is, and the home of its page.
 #[derive(Clone, Copy, Debug, PartialEq, Eq)]
 pub(crate) struct NamedCell {
     pub number: FilesetNo,
@@ -55,7 +53,7 @@ fn entry_at(page: &Page, number: FilesetNo, home: &Home, entry: usize) -> NamedC
     }
 }
 
-/// Puts an entry of a page behind others, if it is used.
+/// Appends an entry of a page to others, if it is used.
 fn push_entry(
     page: &Page,
     number: FilesetNo,
@@ -73,7 +71,7 @@ fn push_entry(
     Ok(())
 }
 
-/// Puts the used entries of a page behind others.
+/// Appends the used entries of a page to others.
 fn push_entries(
     page: &Page,
     number: FilesetNo,
@@ -89,7 +87,7 @@ fn push_entries(
     Ok(())
 }
 
-/// The same of the page that stands at a home, if one does.
+/// Appends the used entries of the page at a home, if one is there, to others.
 fn push_page<M: MetaPages>(
     pages: &M,
     number: FilesetNo,
@@ -106,7 +104,7 @@ fn push_page<M: MetaPages>(
     }
 }
 
-/// The same of the pages of a directory.
+/// Appends the used entries of the pages of a directory to others.
 fn push_pages<M: MetaPages>(
     pages: &M,
     number: FilesetNo,
@@ -123,7 +121,7 @@ fn push_pages<M: MetaPages>(
     Ok(())
 }
 
-/// The same of the directory of a slot.
+/// Appends the used entries of the directory of a slot to others.
 fn push_slot<M: MetaPages>(
     alloc: Global,
     pages: &M,

@@ -1,24 +1,22 @@
 //! Quota cells that nothing names.
 ghost use Rattle.std.specs.Prelude.{◌≡◌, ◌⊎◌, ◌↔◌, IfOk, OnOk};
-ghost use Rattle.domain_base.specs.declared.place.CellAt.{CellAt};
-ghost use Rattle.domain_base.specs.declared.place.Home.{Home};
-ghost use Rattle.page_store.specs.Pages.{Pages};
-ghost use Rattle.bmt_mcells.specs.CellPage.{home_of as home_there};
-ghost use Rattle.domain_layout.specs.Reached.{Frame};
-ghost use Rattle.domain_layout.specs.TagRules.{quota_of as quota_there};
-ghost use Rattle.home_sets.specs.Members.{IsIn as IsHomeIn};
-ghost use Rattle.cell_links.specs.Members.{IsIn};
-ghost use Rattle.chain_faults.specs.Links.{AreLinks};
+ghost use Rattle.cell_faults.specs.domain_base.declared.place.CellAt.{CellAt};
+ghost use Rattle.cell_faults.specs.domain_base.declared.place.Home.{Home};
+ghost use Rattle.cell_faults.specs.page_store.Pages.{Pages};
+ghost use Rattle.cell_faults.specs.metadata_cells.CellPage.{home_of as home_there};
+ghost use Rattle.cell_faults.specs.domain_layout.Reached.{Frame};
+ghost use Rattle.cell_faults.specs.domain_layout.TagRules.{quota_of as quota_there};
+ghost use Rattle.cell_faults.specs.sorted_sets.Members.{IsIn as IsHomeIn};
+ghost use Rattle.cell_faults.specs.cell_chains.Members.{IsIn};
+ghost use Rattle.cell_faults.specs.Links.{AreLinks};
 ghost use Rattle.tag_faults.specs.Quotas.{HasUnnamedQuota, IsQuotaAlone, IsQuotaNamed, NamesQuota};
 
 use crate::cells::home_of;
 use crate::table::{count_slots, slot_number};
-use bmt_mcells::CellKind;
-use cell_links::{CellLink, CellLinks, CellSet};
-use chain_leads::led_cells;
-use domain_base::{CellAt, FilesetNo, OutOfMemory};
-use fileset_table::{FilesetTable, SlotItem};
-use home_sets::HomeSet;
+use cell_faults::{
+    CellAt, CellKind, CellLink, CellLinks, CellSet, FilesetNo, FilesetTable, HomeSet, OutOfMemory,
+    SlotItem, led_cells,
+};
 use std::alloc::Global;
 
 /// The first quota cell of what is in a slot, if it names one.
@@ -59,7 +57,7 @@ fn named_quotas(alloc: Global, table: &FilesetTable) -> Result<CellSet, OutOfMem
     Ok(named)
 }
 
-/// Puts the page of a quota cell into a set, if no cell of quotas leads to it and no slot names it.
+/// Puts the page of a quota cell into a set, if no quota cell leads to it and no slot names it.
 fn insert_alone(
     led: &CellSet,
     named: &CellSet,
@@ -76,7 +74,7 @@ fn insert_alone(
     Ok(())
 }
 
-/// The pages with a quota cell to which no cell of quotas leads, and that no slot names, by what was
+/// The pages with a quota cell to which no quota cell leads and that no slot names, from what was
 /// read of all cells in use.
 pub fn unnamed_quota_faults(
     alloc: Global,

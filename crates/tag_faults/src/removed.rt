@@ -1,18 +1,16 @@
 //! Files that are to be removed.
 ghost use Rattle.std.specs.Prelude.{◌≡◌, ◌↔◌, IfOk, IsTrue};
-ghost use Rattle.bmt_mcells.specs.Cell.{Cell};
-ghost use Rattle.bmt_mcells.specs.Chain.{StandsAt};
-ghost use Rattle.domain_layout.specs.CellRules.{say_removed};
-ghost use Rattle.page_ways.specs.Frame.{frame_in};
-ghost use Rattle.chain_faults.specs.Links.{AreLinks};
+ghost use Rattle.cell_faults.specs.metadata_cells.Cell.{Cell};
+ghost use Rattle.cell_faults.specs.metadata_cells.Chain.{StandsAt};
+ghost use Rattle.cell_faults.specs.domain_layout.CellRules.{say_removed};
+ghost use Rattle.cell_faults.specs.page_ways.Frame.{frame_in};
+ghost use Rattle.cell_faults.specs.Links.{AreLinks};
 ghost use Rattle.tag_faults.specs.Roots.{IsRemovedAt};
 
-use bmt_mcells::{find_record, read_used};
-use cell_links::CellLinks;
-use domain_base::{CellAt, OutOfMemory};
-use page_store::MetaPages;
-use page_ways::DomainFrame;
-use record_table::{Leftover, Record};
+use cell_faults::{
+    CellAt, CellLinks, DomainFrame, Leftover, MetaPages, OutOfMemory, Record, find_record,
+    read_used,
+};
 use std::alloc::Global;
 
 /// Whether the first cell that stands at a place says that all of its file is to be removed.

@@ -1,12 +1,12 @@
 //! Originals without a root.
 ghost use Rattle.std.specs.Prelude.{◌≡◌, ◌⊎◌, ◌↔◌, IfNone, IfOk, IfSome, IsTrue, OnOk, Some, true};
-ghost use Rattle.domain_base.specs.declared.place.Home.{Home};
-ghost use Rattle.domain_layout.specs.CellRules.{of_original};
-ghost use Rattle.domain_layout.specs.Layout.{first_tag_of};
-ghost use Rattle.domain_layout.specs.TagRules.{HasNoRoot};
-ghost use Rattle.page_ways.specs.Frame.{frame_in};
-ghost use Rattle.home_sets.specs.Members.{IsIn as IsHomeIn};
-ghost use Rattle.chain_faults.specs.Links.{AreLinks};
+ghost use Rattle.cell_faults.specs.domain_base.declared.place.Home.{Home};
+ghost use Rattle.cell_faults.specs.domain_layout.CellRules.{of_original};
+ghost use Rattle.cell_faults.specs.domain_layout.Layout.{first_tag_of};
+ghost use Rattle.cell_faults.specs.domain_layout.TagRules.{HasNoRoot};
+ghost use Rattle.cell_faults.specs.page_ways.Frame.{frame_in};
+ghost use Rattle.cell_faults.specs.sorted_sets.Members.{IsIn as IsHomeIn};
+ghost use Rattle.cell_faults.specs.Links.{AreLinks};
 ghost use Rattle.tag_faults.specs.Entries.{address_of};
 ghost use Rattle.tag_faults.specs.Roots.{AreRootsRemoved, IsRemovedAt, IsRootOf, LacksRoot};
 
@@ -14,12 +14,10 @@ use crate::firsts::cell_of;
 use crate::named::{NamedCell, read_entries};
 use crate::removed::is_removed_at;
 use crate::table::{count_slots, slot_number};
-use cell_links::CellLinks;
-use domain_base::{FilesetNo, Home, OutOfMemory};
-use fileset_table::{FilesetTable, SlotItem};
-use home_sets::HomeSet;
-use page_store::MetaPages;
-use page_ways::DomainFrame;
+use cell_faults::{
+    CellLinks, DomainFrame, FilesetNo, FilesetTable, Home, HomeSet, MetaPages, OutOfMemory,
+    SlotItem,
+};
 use std::alloc::Global;
 
 /// The first page of the tag directory of what is in a slot, if that is an original.
@@ -126,7 +124,7 @@ fn insert_rootless<M: MetaPages>(
 }
 
 /// The first pages of the tag directories of originals that have no root, or one that is to be
-/// removed, by what was read of all cells in use.
+/// removed, from what was read of all cells in use.
 pub fn root_faults<M: MetaPages>(
     alloc: Global,
     pages: &M,

@@ -1,23 +1,22 @@
-//! Slots of the fileset table that name wrong.
+//! Slots of the fileset table that name something wrong.
 ghost use Rattle.std.specs.Prelude.{◌≡◌, ◌⊎◌, ◌↔◌, ◌<◌, IfOk, IsTrue};
-ghost use Rattle.domain_base.specs.declared.place.CellAt.{CellAt as CellOf};
-ghost use Rattle.domain_layout.specs.Reached.{Frame};
-ghost use Rattle.domain_layout.specs.TagRules.{HasWrongNumber, HasWrongQuota, IsWrongSlot};
-ghost use Rattle.cell_links.specs.Members.{IsIn};
-ghost use Rattle.chain_leads.specs.Heads.{IsLedTo};
-ghost use Rattle.chain_faults.specs.Links.{AreLinks};
+ghost use Rattle.cell_faults.specs.domain_base.declared.place.CellAt.{CellAt as CellOf};
+ghost use Rattle.cell_faults.specs.domain_layout.Reached.{Frame};
+ghost use Rattle.cell_faults.specs.domain_layout.TagRules.{HasWrongNumber, HasWrongQuota, IsWrongSlot};
+ghost use Rattle.cell_faults.specs.cell_chains.Members.{IsIn};
+ghost use Rattle.cell_faults.specs.cell_chains.Heads.{IsLedTo};
+ghost use Rattle.cell_faults.specs.Links.{AreLinks};
 ghost use Rattle.tag_faults.specs.Quotas.{IsWrongIn, own_quota as own_quota_there};
 
 use crate::cells::is_quota_of;
 use crate::table::{count_slots, slot_number};
-use cell_links::{CellLinks, CellSet};
-use chain_leads::led_cells;
-use domain_base::{CellAt, FilesetNo, OutOfMemory};
-use fileset_table::{FilesetTable, SlotItem};
-use page_store::MetaPages;
+use cell_faults::{
+    CellAt, CellLinks, CellSet, FilesetNo, FilesetTable, MetaPages, OutOfMemory, SlotItem,
+    led_cells,
+};
 use std::alloc::Global;
 
-/// Whether a clone's number is that of no clone that was made.
+/// Whether a clone's number is not that of a clone that was made.
 fn has_wrong_number(table: &FilesetTable, item: &SlotItem) -> bool
     ensures { IsTrue result ↔ HasWrongNumber table.now item.now }
 {
@@ -38,8 +37,8 @@ fn own_quota(item: &SlotItem) -> Option<CellAt>
     }
 }
 
-/// Whether an original or a clone in a slot names a first quota cell that is none of its fileset, or
-/// to which another one leads.
+/// Whether an original or a clone in a slot names a first quota cell that does not belong to its
+/// fileset, or to which another one leads.
 fn has_wrong_quota<M: MetaPages>(
     pages: &M,
     links: &CellLinks,
@@ -73,9 +72,9 @@ fn is_wrong_in<M: MetaPages>(
     has_wrong_number(table, item) || has_wrong_quota(pages, links, led, number, item)
 }
 
-/// Whether a slot has a clone with the number of no clone that was made, or an original or a clone
-/// that names a first quota cell which is none of its fileset or to which another one leads, by what
-/// was read of all cells in use.
+/// Whether a slot has a clone whose number is not that of a clone that was made, or an original or
+/// a clone that names a first quota cell that does not belong to its fileset or to which another
+/// one leads, from what was read of all cells in use.
 pub fn has_wrong_slot<M: MetaPages>(
     alloc: Global,
     pages: &M,

@@ -1,15 +1,15 @@
-//! Files of clones that are read through a cell which is none of the original's file.
+//! Files of clones that are read through a cell that does not belong to the original's file.
 ghost use Rattle.std.specs.Prelude.{◌≡◌, ◌⊎◌, ◌↔◌, IfNone, IfOk, IfSome, IsTrue, None, OnOk, Some};
-ghost use Rattle.domain_base.specs.declared.place.Home.{Home};
-ghost use Rattle.bmt_mcells.specs.Cell.{Cell};
-ghost use Rattle.bmt_mcells.specs.CellPage.{home_of as home_there};
-ghost use Rattle.bmt_mcells.specs.Chain.{StandsAt};
-ghost use Rattle.domain_layout.specs.CellRules.{item_of};
-ghost use Rattle.domain_layout.specs.Seen.{source_in};
-ghost use Rattle.domain_layout.specs.TagRules.{original_slot};
-ghost use Rattle.page_ways.specs.Frame.{frame_in};
-ghost use Rattle.home_sets.specs.Members.{IsIn as IsHomeIn};
-ghost use Rattle.chain_faults.specs.Links.{AreLinks};
+ghost use Rattle.cell_faults.specs.domain_base.declared.place.Home.{Home};
+ghost use Rattle.cell_faults.specs.metadata_cells.Cell.{Cell};
+ghost use Rattle.cell_faults.specs.metadata_cells.CellPage.{home_of as home_there};
+ghost use Rattle.cell_faults.specs.metadata_cells.Chain.{StandsAt};
+ghost use Rattle.cell_faults.specs.domain_layout.CellRules.{item_of};
+ghost use Rattle.cell_faults.specs.domain_layout.Seen.{source_in};
+ghost use Rattle.cell_faults.specs.domain_layout.TagRules.{original_slot};
+ghost use Rattle.cell_faults.specs.page_ways.Frame.{frame_in};
+ghost use Rattle.cell_faults.specs.sorted_sets.Members.{IsIn as IsHomeIn};
+ghost use Rattle.cell_faults.specs.Links.{AreLinks};
 ghost use Rattle.tag_faults.specs.Entries.{address_of, tag_of};
 ghost use Rattle.tag_faults.specs.Sources.{HasAstray, HasSourceAstray, ReadsAstray, tag_in};
 
@@ -17,17 +17,13 @@ use crate::cells::home_of;
 use crate::firsts::{is_primary, leads_to_first};
 use crate::named::NamedCell;
 use crate::removed::is_removed;
-use bmt_mcells::{CellHead, find_record, read_used};
-use cell_links::CellLinks;
-use domain_base::{CellAt, FilesetNo, OutOfMemory};
-use fileset_table::{FilesetTable, SlotItem};
-use home_sets::HomeSet;
-use page_store::MetaPages;
-use page_ways::DomainFrame;
-use record_table::Record;
+use cell_faults::{
+    CellAt, CellHead, CellLinks, DomainFrame, FilesetNo, FilesetTable, HomeSet, MetaPages,
+    OutOfMemory, Record, SlotItem, find_record, read_used,
+};
 use std::alloc::Global;
 
-/// The slot of the original of which there is a clone in a slot.
+/// The slot of the original whose clone is in a slot.
 fn original_in(item: &SlotItem) -> Option<FilesetNo>
     ensures { result ≡ original_slot (Some item.now) }
 {
@@ -37,7 +33,7 @@ fn original_in(item: &SlotItem) -> Option<FilesetNo>
     }
 }
 
-/// The slot of the original of which there is a clone in the slot that a head names.
+/// The slot of the original whose clone is in the slot that a head names.
 fn original_of(table: &FilesetTable, head: &CellHead) -> Option<FilesetNo>
     ensures { result ≡ original_slot (item_of table.now head.now) }
 {
@@ -73,8 +69,8 @@ fn source_as(value: &Record, number: FilesetNo, head: &CellHead, at: &CellAt) ->
     }
 }
 
-/// Whether the file whose first cell stands at a place, with this head, is read through a cell that
-/// is no first one of the original's file of its tag.
+/// Whether the file whose first cell, with this head, stands at a place is read through a cell that
+/// is not the first one of the original's file of its tag.
 fn has_source_astray<M: MetaPages>(
     pages: &M,
     frame: &DomainFrame,
@@ -101,7 +97,7 @@ fn has_source_astray<M: MetaPages>(
 }
 
 /// Whether a first cell that stays stands at a place, and its file is read through a cell that is
-/// no first one of the original's file of its tag.
+/// not the first one of the original's file of its tag.
 fn reads_astray<M: MetaPages>(
     alloc: Global,
     pages: &M,
@@ -124,7 +120,8 @@ fn reads_astray<M: MetaPages>(
     )
 }
 
-/// Puts the page of a cell into a set, if it is such a first cell.
+/// Puts the page of a cell into a set, if it is a first cell whose file is read through a wrong
+/// cell.
 fn insert_astray<M: MetaPages>(
     alloc: Global,
     pages: &M,
@@ -146,8 +143,8 @@ fn insert_astray<M: MetaPages>(
 }
 
 /// The pages with a first cell in a clone that is not to be removed, and whose file is read through
-/// a cell that is no first one of the original's file of its tag, by what was read of all cells in
-/// use.
+/// a cell that is not the first one of the original's file of its tag, from what was read of all
+/// cells in use.
 pub fn source_faults<M: MetaPages>(
     alloc: Global,
     pages: &M,

@@ -1,8 +1,7 @@
 //! The slots of the fileset table by their numbers.
 ghost use Rattle.std.specs.Prelude.{◌≡◌, ◌<◌, length};
 
-use domain_base::FilesetNo;
-use fileset_table::FilesetTable;
+use cell_faults::{FilesetNo, FilesetTable};
 
 /// The slot of that number.
 pub fn slot_number(number: u32) -> FilesetNo

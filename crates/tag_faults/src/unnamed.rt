@@ -1,27 +1,24 @@
 //! First cells that no entry names.
 ghost use Rattle.std.specs.Prelude.{◌⊎◌, ◌↔◌, IfOk, IsTrue, OnOk};
-ghost use Rattle.domain_base.specs.declared.place.CellAt.{CellAt};
-ghost use Rattle.domain_base.specs.declared.place.Home.{Home};
-ghost use Rattle.page_ways.specs.Frame.{frame_in};
-ghost use Rattle.home_sets.specs.Members.{IsIn as IsHomeIn};
-ghost use Rattle.cell_links.specs.Members.{IsIn};
-ghost use Rattle.chain_faults.specs.Links.{AreLinks};
+ghost use Rattle.cell_faults.specs.domain_base.declared.place.CellAt.{CellAt};
+ghost use Rattle.cell_faults.specs.domain_base.declared.place.Home.{Home};
+ghost use Rattle.cell_faults.specs.page_ways.Frame.{frame_in};
+ghost use Rattle.cell_faults.specs.sorted_sets.Members.{IsIn as IsHomeIn};
+ghost use Rattle.cell_faults.specs.cell_chains.Members.{IsIn};
+ghost use Rattle.cell_faults.specs.Links.{AreLinks};
 ghost use Rattle.tag_faults.specs.Unnamed.{HasUnnamed, IsFirstAlone, IsNamed, LeadsToFirst, Stays};
 
 use crate::cells::home_of;
 use crate::firsts::{cell_of, is_primary, leads_to_first};
 use crate::named::{NamedCell, read_entries};
 use crate::removed::is_removed;
-use bmt_mcells::read_used;
-use cell_links::{CellLink, CellLinks, CellSet};
-use domain_base::{CellAt, OutOfMemory};
-use fileset_table::FilesetTable;
-use home_sets::HomeSet;
-use page_store::MetaPages;
-use page_ways::DomainFrame;
+use cell_faults::{
+    CellAt, CellLink, CellLinks, CellSet, DomainFrame, FilesetTable, HomeSet, MetaPages,
+    OutOfMemory, read_used,
+};
 use std::alloc::Global;
 
-/// Whether no cell stands at a place that says that all of its file is to be removed.
+/// Whether no cell that says that all of its file is to be removed stands at a place.
 fn stays<M: MetaPages>(alloc: Global, pages: &M, at: &CellAt) -> Result<bool, OutOfMemory>
     ensures { IfOk result (λ stays. IsTrue stays ↔ Stays (M.pages pages.now) at.now) }
 {
@@ -31,7 +28,7 @@ fn stays<M: MetaPages>(alloc: Global, pages: &M, at: &CellAt) -> Result<bool, Ou
     Ok(!is_removed(pages, at))
 }
 
-/// Puts the cell of an entry into a set, if that is a first one of the entry's fileset and tag.
+/// Puts the cell of an entry into a set, if it is a first cell of the entry's fileset and tag.
 fn insert_named<M: MetaPages>(
     pages: &M,
     frame: &DomainFrame,
@@ -72,7 +69,7 @@ fn named_cells<M: MetaPages>(
     Ok(named)
 }
 
-/// Puts the page of a first cell into a set, if it stays and another set has it not.
+/// Puts the page of a first cell into a set, if the cell stays and another set does not have it.
 fn insert_alone<M: MetaPages>(
     alloc: Global,
     pages: &M,
@@ -94,7 +91,7 @@ fn insert_alone<M: MetaPages>(
 }
 
 /// The pages with a first cell that is not to be removed, and that no entry of its fileset and tag
-/// names, by what was read of all cells in use.
+/// names, from what was read of all cells in use.
 pub fn unnamed_faults<M: MetaPages>(
     alloc: Global,
     pages: &M,

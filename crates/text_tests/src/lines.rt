@@ -1,14 +1,11 @@
 //! The lines of histories.
 
-use domain_base::OutOfMemory;
-use fileset_model::{
-    Actor, Bytes, Command, Entry, FilesetItem, FilesetName, Listing, Name, Owner, Path, Place,
-    Refusal, Reply,
+use history_reading::{
+    Actor, Bytes, Command, Entry, FilesetItem, FilesetName, Listing, Name, OutOfMemory, Owner,
+    Path, Place, Refusal, Reply, history_line, read_script, runs_are_maximal,
 };
-use script_text::{history_line, read_script};
 use std::alloc::Global;
 use std::test::Fail;
-use word_forms::runs_are_maximal;
 
 /// Bytes that were read, as a history writes them.
 pub(crate) static READS: [(&str, &str); 6] = [

@@ -1,9 +1,9 @@
 //! Lines of histories that are read back, and lines that no history has.
 
 use crate::lines::{READS, REFUSALS};
-use fileset_model::{Actor, Command, Entry, Refusal, Reply};
-use history_reading::read_line;
-use script_text::{FaultKind, ScriptFault, history_line};
+use history_reading::{
+    Actor, Command, Entry, FaultKind, Refusal, Reply, ScriptFault, history_line, read_line,
+};
 use std::alloc::Global;
 use std::test::Fail;
 

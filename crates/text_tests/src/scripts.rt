@@ -1,7 +1,7 @@
 //! What scripts say, and the first bad line of bad ones.
 
 use crate::lines::done;
-use script_text::{FaultKind, ScriptFault, read_script};
+use history_reading::{FaultKind, ScriptFault, read_script};
 use std::alloc::{AllocError, Global};
 use std::test::Fail;
 

@@ -1,5 +1,5 @@
-//! Gates on the volumes of a rack. A gate is a block, and what stands behind it counts only where
-//! it is open.
+//! Gates on the volumes of a rack. A gate is a block, and what follows it counts only if the gate
+//! is open.
 ghost use Rattle.std.specs.Prelude.{◌*◌, ◌↔◌, IsTrue, IfOk, OnOk};
 ghost use Rattle.domain_base.specs.Gate.{closed, opened};
 ghost use Rattle.volume_disk.specs.Disk.{AreBlocks, Tells};
@@ -19,8 +19,7 @@ use domain_base::VolIx;
 use domain_base::gate::{closed_block, is_open, open_block};
 use domain_base::limits::BLOCK_BYTES;
 
-/// Whether the gate at a block of a volume is open. The error is the volume, of which the read
-/// failed.
+/// Whether the gate at a block of a volume is open. The error is the volume, if its read failed.
 pub fn read_gate<R: Rack>(rack: &mut R, vol: VolIx, block: u32) -> Result<bool, VolIx>
     requires { AreBlocks (R.disk rack.old) vol block BLOCK_BYTES }
     ensures reads { OnlyReads (R.disk rack.old) (R.disk rack.new) }
@@ -33,8 +32,8 @@ pub fn read_gate<R: Rack>(rack: &mut R, vol: VolIx, block: u32) -> Result<bool, 
     Ok(is_open(&gate))
 }
 
-/// Writes the gate at a block of a volume open, and syncs the volume. The error is the volume, of
-/// which the write or the sync failed.
+/// Writes the gate at a block of a volume open, and syncs the volume. The error is the volume, if
+/// its write or sync failed.
 pub fn open_gate<R: Rack>(rack: &mut R, vol: VolIx, block: u32) -> Result<(), VolIx>
     requires { AreBlocks (R.disk rack.old) vol block BLOCK_BYTES }
     ensures writes { let places = IsIn vol (512 * block) BLOCK_BYTES in
@@ -47,8 +46,8 @@ pub fn open_gate<R: Rack>(rack: &mut R, vol: VolIx, block: u32) -> Result<(), Vo
     write_synced(rack, vol, block, &open_block())
 }
 
-/// Writes the gate at a block of a volume closed, and syncs the volume. The error is the volume, of
-/// which the write or the sync failed.
+/// Writes the gate at a block of a volume closed, and syncs the volume. The error is the volume, if
+/// its write or sync failed.
 pub fn close_gate<R: Rack>(rack: &mut R, vol: VolIx, block: u32) -> Result<(), VolIx>
     requires { AreBlocks (R.disk rack.old) vol block BLOCK_BYTES }
     ensures writes { let places = IsIn vol (512 * block) BLOCK_BYTES in

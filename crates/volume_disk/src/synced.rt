@@ -1,4 +1,4 @@
-//! Calls of a rack that name the volume of which they failed.
+//! Calls of a rack whose error names the volume on which they failed.
 ghost use Rattle.std.specs.Prelude.{◌≡◌, ◌*◌, ◌+◌, length, OnOk};
 ghost use Rattle.volume_disk.specs.Disk.{AreBlocks, HasVolume, IsSettled, Syncs, Tells, Writes};
 ghost use Rattle.volume_disk.specs.Image.{IsIn, NoPlace, bytes_at};
@@ -16,8 +16,8 @@ use crate::Rack;
 use domain_base::VolIx;
 use domain_base::limits::MAX_VOLUMES;
 
-/// Reads whole blocks of 512 bytes of a volume, beginning at a block. The error is the volume, of
-/// which the read failed; `out` is then not to be used.
+/// Reads whole blocks of 512 bytes of a volume, beginning at a block. The error is the volume, if
+/// its read failed. Then `out` must not be used.
 pub fn read_blocks<R: Rack>(
     rack: &mut R,
     vol: VolIx,
@@ -36,8 +36,8 @@ pub fn read_blocks<R: Rack>(
     }
 }
 
-/// Writes whole blocks of 512 bytes of a volume, beginning at a block; the next sync of the volume
-/// makes them last. The error is the volume, of which the write failed.
+/// Writes whole blocks of 512 bytes of a volume, beginning at a block. The next sync of the volume
+/// makes them last. The error is the volume, if its write failed.
 pub fn write_blocks<R: Rack>(
     rack: &mut R,
     vol: VolIx,
@@ -58,7 +58,7 @@ pub fn write_blocks<R: Rack>(
     }
 }
 
-/// Syncs a volume. The error is the volume, of which that failed.
+/// Syncs a volume. The error is the volume, if its sync failed.
 pub fn sync_volume<R: Rack>(rack: &mut R, vol: VolIx) -> Result<(), VolIx>
     requires { HasVolume (R.disk rack.old) vol }
     ensures writes { OnlyWrites (R.disk rack.old) (R.disk rack.new) NoPlace }
@@ -87,9 +87,9 @@ fn sync_there<R: Rack>(rack: &mut R, vol: VolIx) -> Result<(), VolIx>
     }
 }
 
-/// Syncs each volume of the rack, in their order, up to the eighth: then nothing is pending. It is
-/// for a rack on which a domain was stopped by a call that failed, before one is opened there
-/// again. The error is the first volume of which that failed.
+/// Syncs each volume of the rack, in their order, up to the eighth. Then nothing is pending. It is
+/// for a rack on which a failed call stopped a domain, before one is opened there again. The error
+/// is the first volume whose sync failed.
 pub fn sync_volumes<R: Rack>(rack: &mut R) -> Result<(), VolIx>
     ensures writes { OnlyWrites (R.disk rack.old) (R.disk rack.new) NoPlace }
     ensures settled { OnOk result (Tells (R.disk rack.old) → IsSettled (R.disk rack.new).now) }
@@ -105,7 +105,7 @@ pub fn sync_volumes<R: Rack>(rack: &mut R) -> Result<(), VolIx>
 }
 
 /// Writes whole blocks of 512 bytes of a volume, beginning at a block, and syncs the volume. The
-/// error is the volume, of which the write or the sync failed.
+/// error is the volume, if its write or sync failed.
 pub fn write_synced<R: Rack>(
     rack: &mut R,
     vol: VolIx,

@@ -3,7 +3,7 @@ use Rattle.std.proofs.Common.{◌≡◌, ℕ, true, false, not, eqb, Some, List,
 use Rattle.std.specs.List.{list_all}
 use Rattle.std.proofs.lemmas.Bool.Decides.{nat_tests}
 use Rattle.std.proofs.lemmas.List.Folds.{list_all-append}
-use Rattle.fileset_model.specs.declared.command.Place.{Place}
+use Rattle.fileset_values.specs.declared.command.Place.{Place}
 use Rattle.word_forms.specs.Forms.{fileset_of, has_length, is_fileset_character, named_place_of, place_of}
 use Rattle.word_forms.specs.Texts.{path_text, place_text}
 use Rattle.word_forms.specs.WellFormed.{IsFileset, IsNamed, IsPlace}

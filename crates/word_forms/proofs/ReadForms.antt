@@ -6,7 +6,7 @@ use Rattle.std.specs.Str.Parse.{digits_value}
 use Rattle.std.proofs.lemmas.Bool.Decides.{nat_tests}
 use Rattle.std.proofs.lemmas.List.Folds.{list_all-append}
 use Rattle.std.proofs.lemmas.Option.{cond_some, option_and_then_some}
-use Rattle.fileset_model.specs.declared.command.Place.{Place}
+use Rattle.fileset_values.specs.declared.command.Place.{Place}
 use Rattle.word_forms.specs.Forms.{Spelling, Begins, Percent, Digit, byte_of, bytes_from, bytes_of, each, fileset_of, has_length, hexadecimal_digit, is_escaped, is_name, is_quotable, name_of, named_path_of, named_place_of, number_below, number_within, passing, path_of, place_of, quoted_of, run_of, runs_of_word, stands_for_itself}
 use Rattle.word_forms.specs.Runs.{Run, bytes_of_run}
 use Rattle.word_forms.specs.WellFormed.{AreBytes, IsContent, IsFileset, IsNamed, IsNamedPath, IsPath, IsPlace, is_name_byte, is_written_name}

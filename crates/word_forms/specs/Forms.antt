@@ -4,9 +4,9 @@ use Rattle.std.specs.List.{list_all, before_first, after_first, flat_map, slice_
 use Rattle.std.specs.Char.{is_ascii_digit, is_ascii_alphanumeric}
 use Rattle.std.specs.Str.{bytes_eq}
 use Rattle.std.specs.Str.Parse.{digits_value}
-use Rattle.fileset_model.specs.declared.command.Owner.{Owner}
-use Rattle.fileset_model.specs.declared.command.Owner.TheVariants.{User, Group, Fileset}
-use Rattle.fileset_model.specs.declared.command.Place.{Place}
+use Rattle.fileset_values.specs.declared.command.Owner.{Owner}
+use Rattle.fileset_values.specs.declared.command.Owner.TheVariants.{User, Group, Fileset}
+use Rattle.fileset_values.specs.declared.command.Place.{Place}
 use Rattle.word_forms.specs.Runs.{Run, bytes_of_run}
 
 infixl 10 ◌>>=◌

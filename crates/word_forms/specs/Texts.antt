@@ -1,7 +1,7 @@
 -- The text of words, as histories write them.
 use Rattle.std.specs.Prelude.{ℕ, if◌then◌else◌, List, [], ◌∷◌, ◌++◌, codes}
 use Rattle.std.specs.List.{flat_map, join_with_byte}
-use Rattle.fileset_model.specs.declared.command.Place.{Place}
+use Rattle.fileset_values.specs.declared.command.Place.{Place}
 use Rattle.word_forms.specs.Forms.{stands_for_itself}
 use Rattle.word_forms.specs.Runs.{hexadecimal}
 

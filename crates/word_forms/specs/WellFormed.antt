@@ -1,9 +1,9 @@
 -- What is of the form of a word: names, places, bytes, owners and numbers.
 use Rattle.std.specs.Prelude.{◌≡◌, ℕ, ◌^◌, ◌<◌, ◌≤◌, ◌==◌, ◌&&◌, not, nat_lt, Bool, true, Option, MatchOption, List, length}
 use Rattle.std.specs.List.{list_all}
-use Rattle.fileset_model.specs.declared.command.Owner.{Owner}
-use Rattle.fileset_model.specs.declared.command.Owner.TheVariants.{User, Group, Fileset}
-use Rattle.fileset_model.specs.declared.command.Place.{Place}
+use Rattle.fileset_values.specs.declared.command.Owner.{Owner}
+use Rattle.fileset_values.specs.declared.command.Owner.TheVariants.{User, Group, Fileset}
+use Rattle.fileset_values.specs.declared.command.Place.{Place}
 use Rattle.word_forms.specs.Forms.{has_length, is_fileset_name, is_name}
 
 abbrev pub IsFileset : List ℕ → Type 0

@@ -8,9 +8,8 @@ ghost use Rattle.word_forms.specs.Runs.{Run, runs_of, run_text, bytes_text, IsRu
 use crate::fault::WordFault;
 use crate::numbers::{hexadecimal_byte, number, push_hexadecimal, push_number};
 use crate::splitting::parts;
-use domain_base::OutOfMemory;
-use domain_base::limits::MAX_TRANSFER;
-use fileset_model::Bytes;
+use fileset_values::limits::MAX_TRANSFER;
+use fileset_values::{Bytes, OutOfMemory};
 use std::alloc::Global;
 
 fn is_quotable(byte: u8) -> bool
@@ -62,7 +61,7 @@ fn run(word: &[u8]) -> Option<(u8, u64)>
     }
 }
 
-/// Adds a byte so many times, where no more than 8,192 come together.
+/// Adds a byte `count` times, if there are then at most 8,192 bytes.
 fn add_run(bytes: &mut Vec<u8>, byte: u8, count: u64) -> Result<(), WordFault>
     requires { vec_len bytes.old ≤ 8_192 }
     ensures ok { OnOk result (bytes.new.items ≡ bytes.old.items ++ replicate count byte) }
@@ -124,7 +123,7 @@ fn run_len(bytes: &[u8]) -> usize
     front_len(bytes, bytes[0])
 }
 
-/// Adds a byte, and how often it stands where that is more than once.
+/// Adds a byte, and how often it stands there if that is more than once.
 #[tactic(auto, unfolding(crate::specs::Runs::run_text))]
 fn push_run(out: &mut Vec<u8>, byte: u8, count: usize) -> Result<(), OutOfMemory>
     ensures { OnOk result (out.new.items
@@ -138,8 +137,8 @@ fn push_run(out: &mut Vec<u8>, byte: u8, count: usize) -> Result<(), OutOfMemory
     Ok(())
 }
 
-/// Adds the bytes as their maximal runs, with a dot between two of them, or `-` where there are
-/// none.
+/// Adds the bytes as their maximal runs, with a dot between two of them, or `-` if there are no
+/// bytes.
 pub fn push_bytes(out: &mut Vec<u8>, bytes: &[u8]) -> Result<(), OutOfMemory>
     ensures { OnOk result (out.new.items ≡ out.old.items ++ bytes_text bytes.now) }
 {
@@ -159,7 +158,7 @@ pub fn push_bytes(out: &mut Vec<u8>, bytes: &[u8]) -> Result<(), OutOfMemory>
     Ok(())
 }
 
-/// The runs that a history writes are maximal and give the bytes back, and no other runs do.
+/// The runs that a history writes are maximal and give the bytes back, and no other runs are both.
 pub fn runs_are_maximal()
     ensures form { (bytes : List ℕ) → IsRunLengthForm bytes (runs_of bytes) }
     ensures only { (bytes : List ℕ) (runs : List Run)

@@ -1,7 +1,7 @@
 ghost use Rattle.std.specs.Prelude.{◌≡◌};
 ghost use Rattle.word_forms.specs.declared.fault.WordFault.TheVariants as word;
 
-use domain_base::OutOfMemory;
+use fileset_values::OutOfMemory;
 use std::alloc::AllocFailed;
 
 /// Why a word was not read.
@@ -9,7 +9,7 @@ use std::alloc::AllocFailed;
 pub enum WordFault {
     /// The word is not of its form, or beyond its limit.
     Malformed,
-    /// No memory could be had.
+    /// Memory ran out.
     OutOfMemory,
 }
 

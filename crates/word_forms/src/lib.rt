@@ -15,3 +15,14 @@ pub use paths::{
     push_place,
 };
 pub use splitting::{halves, has_byte, parts};
+
+// What stands below and is named above.
+pub use fileset_values::{
+    Actor, Command, CommandList, Entry, ExtentItem, FilesetItem, FilesetName, Listing, NameItem,
+    OutOfMemory, Owner, Path, Refusal, Reply, VolumeItem, limits,
+};
+
+/// Names of the crate `fileset_values` that are other things here.
+pub mod from_fileset_values {
+    pub use fileset_values::{Bytes, Name, Place};
+}

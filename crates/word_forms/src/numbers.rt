@@ -4,10 +4,10 @@ ghost use Rattle.std.specs.Fmt.{digit_glyph};
 ghost use Rattle.word_forms.specs.Forms.{byte_of, hexadecimal_digit, number_below, number_within};
 ghost use Rattle.word_forms.specs.Runs.{hexadecimal};
 
-use domain_base::OutOfMemory;
+use fileset_values::OutOfMemory;
 use itoa::Buffer;
 
-/// The number with one decimal digit more.
+/// The number with one more decimal digit.
 fn with_digit(n: u64, digit: u8) -> Option<u64>
     ensures { SomeIff result (n * 10 + digit < 2 ^ 64) (n * 10 + digit) }
 {
@@ -43,7 +43,7 @@ pub fn small_number(word: &[u8]) -> Option<u32>
     }
 }
 
-/// The number that a word's decimal digits say, where it lies within these bounds.
+/// The number that a word's decimal digits say, if it lies within these bounds.
 #[tactic(auto, unfolding(crate::specs::Forms::number_within))]
 pub fn number_within(least: u32, most: u32, word: &[u8]) -> Option<u32>
     ensures value { result ≡ number_within least most word.now }

@@ -8,9 +8,8 @@ ghost use Rattle.word_forms.specs.Texts.{name_byte_text, name_text, path_text, p
 use crate::fault::WordFault;
 use crate::numbers::{hexadecimal_byte, push_hexadecimal};
 use crate::splitting::{halves, parts};
-use domain_base::OutOfMemory;
-use domain_base::limits::{MAX_FILESET_NAME, MAX_NAME, MAX_PATH_NAMES};
-use fileset_model::{FilesetName, Name, Path, Place};
+use fileset_values::limits::{MAX_FILESET_NAME, MAX_NAME, MAX_PATH_NAMES};
+use fileset_values::{FilesetName, Name, OutOfMemory, Path, Place};
 use std::alloc::Global;
 
 fn is_fileset_character(byte: u8) -> bool
@@ -44,7 +43,7 @@ pub fn fileset(alloc: Global, word: &[u8]) -> Result<FilesetName, WordFault>
     Ok(FilesetName::from_vec(Vec::from_slice(alloc, word)?))
 }
 
-/// Whether a path writes the byte as itself.
+/// Whether the byte stands for itself in a path.
 fn stands_for_itself(byte: u8) -> bool
     ensures { result ≡ stands_for_itself byte }
 {
@@ -58,7 +57,7 @@ fn is_escaped(byte: u8) -> bool
     !stands_for_itself(byte) && byte != 0
 }
 
-/// The byte that the front of a name says, and what is behind.
+/// The byte that the front of a name says, and the text after it.
 fn next_byte(text: &[u8]) -> Option<(u8, &[u8])>
     requires { 0 < length text.now }
     ensures none { IsNone result → bytes_from Begins text.now ≡ None }
@@ -124,7 +123,7 @@ fn names(alloc: Global, words: &[&[u8]]) -> Result<Path, WordFault>
     Ok(Path::from_vec(names))
 }
 
-/// The path that a word says: `/`, or up to 32 names, each behind a `/`.
+/// The path that a word says: `/`, or up to 32 names, each after a `/`.
 #[tactic(auto, unfolding(crate::specs::Forms::path_of))]
 pub fn path(alloc: Global, word: &[u8]) -> Result<Path, WordFault>
     ensures { Gives result (path_of word.now) }
@@ -143,7 +142,7 @@ pub fn path(alloc: Global, word: &[u8]) -> Result<Path, WordFault>
     Ok(path)
 }
 
-/// The same of a path that is not the root.
+/// The path that a word says, which must not be the root.
 #[tactic(auto, unfolding(crate::specs::Forms::named_path_of))]
 pub fn named_path(alloc: Global, word: &[u8]) -> Result<Path, WordFault>
     ensures { Gives result (named_path_of word.now) }
@@ -166,7 +165,7 @@ pub fn place(alloc: Global, word: &[u8]) -> Result<Place, WordFault>
     Ok(Place { fileset, path })
 }
 
-/// The same of a place that is not a root.
+/// The place that a word says, which must not be a root.
 #[tactic(auto, unfolding(crate::specs::Forms::named_place_of))]
 pub fn named_place(alloc: Global, word: &[u8]) -> Result<Place, WordFault>
     ensures { Gives result (named_place_of word.now) }

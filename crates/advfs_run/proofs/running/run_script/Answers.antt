@@ -1,6 +1,6 @@
 use Rattle.std.proofs.Common.{List, inl, ap, subst, sym}
-use Rattle.fileset_model.specs.declared.entry.Entry.{Entry}
-use Rattle.domain_runs.specs.Quiet.{TellNoFault}
+use Rattle.domain_attaching.specs.fileset_values.declared.entry.Entry.{Entry}
+use Rattle.advfs_run.specs.Quiet.{TellNoFault}
 use Rattle.advfs_run.proofs.Endings.{ended_lost, ended_read, ended_run, follows, refused_run, unbegun_ends, unbegun_read, unbegun_run, unread_begun}
 use Rattle.advfs_run.proofs.running.run_script.Goals as goal
 

@@ -1,8 +1,8 @@
 use Rattle.std.proofs.Common.{List, All, subst}
 use Rattle.std.proofs.lemmas.Result.{err_from_is_err_and}
-use Rattle.script_text.specs.declared.script.Section.{Section}
-use Rattle.domain_runs.specs.Ending.{IsServed}
-use Rattle.domain_runs.proofs.Scripts.{script_served}
+use Rattle.run_parts.specs.script_text.declared.script.Section.{Section}
+use Rattle.client_commands.specs.name_commands.Ending.{IsServed}
+use Rattle.advfs_run.proofs.Scripts.{script_served}
 use Rattle.run_parts.specs.Answering.{SameByNumber}
 use Rattle.run_parts.proofs.Reading.{IsNoLonger-from_short}
 use Rattle.run_parts.proofs.Shuffled.{all_of_same}

@@ -1,6 +1,6 @@
 use Rattle.std.proofs.Common.{◌≡◌, ◌∙◌, Option, Some, slice_get, ap, sym, subst}
-use Rattle.fileset_table.specs.declared.slot.SlotItem.TheVariants as slot
-use Rattle.domain_parts.specs.declared.slots.SlotFiles.{SlotFiles}
+use Rattle.no_faults.specs.fileset_table.declared.slot.SlotItem.TheVariants as slot
+use Rattle.no_faults.specs.domain_memory.declared.slots.SlotFiles.{SlotFiles}
 use Rattle.attached_domain.specs.Parts.{GetsItsBook}
 use Rattle.attached_domain.proofs.TheirBooks.{gets}
 use Rattle.attached_domain.proofs.books.set_book.Goals as goal

@@ -1,6 +1,6 @@
 use Rattle.std.proofs.Common.{◌∙◌, ◌<◌, ℕ, Option, None, length, subst, arith}
-use Rattle.bitfile_cells.proofs.Allocated.{there_is}
-use Rattle.domain_parts.specs.declared.slots.SlotFiles.{SlotFiles}
+use Rattle.no_faults.proofs.OfFileChains.Allocated.{there_is}
+use Rattle.no_faults.specs.domain_memory.declared.slots.SlotFiles.{SlotFiles}
 use Rattle.attached_domain.specs.Parts.{GetsItsBook}
 use Rattle.attached_domain.proofs.TheirBooks.{all_get, more_get}
 use Rattle.attached_domain.proofs.books.set_books.Goals as goal

@@ -1,8 +1,8 @@
 use Rattle.std.proofs.Common.{◌∙◌, sym, ap, subst}
-use Rattle.page_store.specs.Pages.{Pages}
-use Rattle.staged_pages.specs.Store.{before_of, pages_of}
-use Rattle.page_ways.specs.Frame.{frame_in}
-use Rattle.domain_layout.specs.Read.{ReadsFrom}
+use Rattle.no_faults.specs.page_store.Pages.{Pages}
+use Rattle.no_faults.specs.staged_pages.Store.{before_of, pages_of}
+use Rattle.no_faults.specs.page_ways.Frame.{frame_in}
+use Rattle.no_faults.specs.domain_layout.Read.{ReadsFrom}
 use Rattle.attached_domain.proofs.PartsRead.{few_pages, good_parts, table_parts}
 use Rattle.attached_domain.proofs.StandsRead.{all_stands, is_settled, may_go_back}
 use Rattle.attached_domain.proofs.domain.read_domain.Goals as goal

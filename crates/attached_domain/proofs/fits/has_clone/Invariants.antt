@@ -1,5 +1,5 @@
 use Rattle.std.proofs.Common.{◌≡◌, ℕ, ◌<◌, false, slice_get}
-use Rattle.domain_layout.specs.CellRules.{of_clone}
+use Rattle.no_faults.specs.domain_layout.CellRules.{of_clone}
 use Rattle.attached_domain.proofs.fits.has_clone.Given as goal
 
 abbrev pub invariant-loop-number : goal.invariant-loop-number

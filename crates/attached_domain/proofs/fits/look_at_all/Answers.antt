@@ -1,10 +1,10 @@
 use Rattle.std.proofs.Common.{◌≡◌, ◌∙◌, true, slice_get, sym, subst}
 use mathlib.Core.Bool.{false≢true}
-use Rattle.page_ways.specs.Frame.{frame_in}
-use Rattle.fileset_table.specs.Table.{Table}
-use Rattle.domain_layout.specs.CellRules.{of_clone}
-use Rattle.domain_layout.specs.Owners.{frame_of}
-use Rattle.attached_list.specs.Attached.{HaveQuotasToGo}
+use Rattle.no_faults.specs.page_ways.Frame.{frame_in}
+use Rattle.no_faults.specs.fileset_table.Table.{Table}
+use Rattle.no_faults.specs.domain_layout.CellRules.{of_clone}
+use Rattle.no_faults.specs.domain_layout.Owners.{frame_of}
+use Rattle.no_faults.specs.Attached.{HaveQuotasToGo}
 use Rattle.attached_domain.specs.declared.signs.Sign.TheVariants.{Cut, Removed}
 use Rattle.attached_domain.specs.declared.unfit.Unfit.TheVariants.{CutDirectory, ReadThrough, RemovedFile, WrongQuotas}
 use Rattle.attached_domain.proofs.Fitting.{cause_at, layout_read, linked_at, no_clone_by, no_tables_fault, sign_read}

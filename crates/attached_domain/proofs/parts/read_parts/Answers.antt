@@ -1,7 +1,7 @@
 use Rattle.std.proofs.Common.{refl}
-use Rattle.page_ways.specs.Frame.{frame_in}
-use Rattle.domain_layout.proofs.NoTables.{none_of_tables}
-use Rattle.fileset_shapes.proofs.SeenShapes.{good}
+use Rattle.no_faults.specs.page_ways.Frame.{frame_in}
+use Rattle.no_faults.proofs.OfDomainLayout.NoTables.{none_of_tables}
+use Rattle.no_faults.proofs.OfFilesetShapes.SeenShapes.{good}
 use Rattle.attached_domain.proofs.MayAttach.{domain_read, laid_so, layout_so}
 use Rattle.attached_domain.proofs.PartsRead.{are_parts, says_read}
 use Rattle.attached_domain.proofs.parts.read_parts.Goals as goal

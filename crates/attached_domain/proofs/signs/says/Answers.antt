@@ -1,7 +1,7 @@
 use Rattle.std.proofs.Common.{IfNone, subst}
 use mathlib.Core.Bool.{false≢true}
-use Rattle.bmt_mcells.specs.Cell.{Cell}
-use Rattle.bmt_mcells.specs.Chain.{StandsAt}
+use Rattle.no_faults.specs.metadata_cells.Cell.{Cell}
+use Rattle.no_faults.specs.metadata_cells.Chain.{StandsAt}
 use Rattle.attached_domain.proofs.signs.says.Goals as goal
 
 pub returns-in_default : goal.returns-in_default

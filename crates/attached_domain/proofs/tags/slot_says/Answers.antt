@@ -2,7 +2,7 @@ use Rattle.std.proofs.Common.{◌≡◌, ◌<◌, ℕ, Bool, Some, length, slice
 use Rattle.std.proofs.lemmas.Option.{slice_get_read}
 use Rattle.std.proofs.lemmas.Result.{IfOk-weaker}
 use mathlib.Core.Bool.{false≢true}
-use Rattle.page_ways.specs.Frame.{frame_in}
+use Rattle.no_faults.specs.page_ways.Frame.{frame_in}
 use Rattle.attached_domain.proofs.Looked.{directory_read, not_said, said_of}
 use Rattle.attached_domain.proofs.tags.slot_says.Goals as goal
 

@@ -1,7 +1,7 @@
 use Rattle.std.proofs.Common.{◌≡◌, ◌∙◌, Some, length, slice_get, sym, subst, arith, rules, vec_len}
 use Rattle.std.proofs.lemmas.Option.{slice_get_read}
 use mathlib.Core.Bool.{false≢true}
-use Rattle.layout_laws.proofs.OnePage.{some_same}
+use Rattle.no_faults.proofs.OfDomainLayout.OnePage.{some_same}
 use Rattle.attached_domain.specs.Signs.{LeadsSo}
 use Rattle.attached_domain.proofs.Looked.{LeadsElse, none_leads, one_more}
 use Rattle.attached_domain.proofs.tags.some_tag_says.Goals as goal

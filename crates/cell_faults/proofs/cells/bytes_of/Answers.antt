@@ -1,5 +1,5 @@
 use Rattle.std.proofs.Common.{◌≡◌, ◌∙◌, ◌+◌, ◌-◌, ◌*◌, ℕ, List, take, drop, length, length-drop, length-take, arith, ap}
-use Rattle.bmt_mcells.specs.CellPage.{cell_of}
+use Rattle.page_ways.specs.metadata_cells.CellPage.{cell_of}
 use Rattle.cell_faults.proofs.cells.bytes_of.Goals as goal
 
 -- the bytes of a cell, as code takes them

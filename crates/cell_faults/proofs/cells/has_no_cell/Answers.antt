@@ -1,8 +1,8 @@
 use Rattle.std.proofs.Common.{◌∙◌, IfNone, IfSome, sym, subst}
 use mathlib.Core.Bool.{false≢true}
-use Rattle.bmt_mcells.specs.Cell.{Cell, IsFreeCell}
-use Rattle.bmt_mcells.specs.CellPage.{cell_of}
-use Rattle.bmt_mcells.specs.Chain.{StandsAt}
+use Rattle.page_ways.specs.metadata_cells.Cell.{Cell, IsFreeCell}
+use Rattle.page_ways.specs.metadata_cells.CellPage.{cell_of}
+use Rattle.page_ways.specs.metadata_cells.Chain.{StandsAt}
 use Rattle.cell_faults.proofs.NoCell.{known_decides, none_stands}
 use Rattle.cell_faults.proofs.cells.has_no_cell.Goals as goal
 

@@ -1,7 +1,7 @@
 use Rattle.std.proofs.Common.{◌∙◌, arith, refl, sym, ap}
 use Rattle.std.specs.Option.{option_copied}
 use mathlib.Core.Bool.{false≢true}
-use Rattle.domain_layout.specs.CellRules.{IsCellsPage}
+use Rattle.page_ways.specs.domain_layout.CellRules.{IsCellsPage}
 use Rattle.page_ways.specs.Frame.{frame_in}
 use Rattle.cell_faults.proofs.WrongCell.{good_one, moved, none_wrong, wrong_there}
 use Rattle.cell_faults.proofs.cells.has_wrong_cell.Goals as goal

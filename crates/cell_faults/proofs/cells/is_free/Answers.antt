@@ -1,6 +1,6 @@
 use Rattle.std.proofs.Common.{◌≡◌, ◌∙◌, length, nat_eq, ap, sym}
 use Rattle.std.specs.List.{list_all}
-use Rattle.bmt_mcells.specs.CellPage.{cell_of}
+use Rattle.page_ways.specs.metadata_cells.CellPage.{cell_of}
 use Rattle.cell_faults.proofs.NoCell.{zeros_are_free}
 use Rattle.cell_faults.proofs.cells.is_free.Goals as goal
 

@@ -2,8 +2,8 @@ use Rattle.std.proofs.Common.{◌≡◌, ◌∙◌, ◌+◌, get_or, length, ref
 use Rattle.std.proofs.lemmas.Option.{get_or_from_slice_get, slice_get_read}
 use mathlib.Core.Bool.{false≢true}
 use Rattle.page_ways.specs.Frame.{frame_in}
-use Rattle.home_sets.specs.Members.{IsIn}
-use Rattle.home_sets.specs.declared.set.HomeSet.{HomeSet}
+use Rattle.page_ways.specs.sorted_sets.Members.{IsIn}
+use Rattle.page_ways.specs.sorted_sets.declared.home_set.HomeSet.{HomeSet}
 use Rattle.cell_faults.specs.declared.tables.CellsPage.{CellsPage}
 use Rattle.cell_faults.proofs.WrongPages.{AreIn, right_in, wrong_in}
 use Rattle.cell_faults.proofs.local.insert_wrong.Goals as goal

@@ -1,5 +1,5 @@
 use Rattle.page_ways.specs.Frame.{frame_in}
-use Rattle.home_sets.specs.Members.{IsIn}
+use Rattle.page_ways.specs.sorted_sets.Members.{IsIn}
 use Rattle.cell_faults.proofs.WrongPages.{AreIn}
 use Rattle.cell_faults.proofs.local.insert_wrong.Given as goal
 

@@ -1,5 +1,5 @@
 use Rattle.std.proofs.Common.{List, Contains, inl, inr, sym, subst, ⊎_elim}
-use Rattle.domain_base.specs.declared.place.Home.{Home}
+use Rattle.page_ways.specs.domain_base.declared.place.Home.{Home}
 use Rattle.page_ways.specs.Frame.{frame_in}
 use Rattle.cell_faults.specs.Rules.{IsWrongAmong}
 use Rattle.cell_faults.specs.declared.tables.CellsPage.{CellsPage}

@@ -1,7 +1,7 @@
 use Rattle.std.proofs.Common.{◌∙◌, IfNone, IfSome, refl, sym, subst}
 use mathlib.Core.Bool.{false≢true}
-use Rattle.bmt_mcells.specs.Cell.{Cell}
-use Rattle.bmt_mcells.specs.Chain.{StandsAt}
+use Rattle.page_ways.specs.metadata_cells.Cell.{Cell}
+use Rattle.page_ways.specs.metadata_cells.Chain.{StandsAt}
 use Rattle.page_ways.specs.Frame.{frame_in}
 use Rattle.cell_faults.specs.Rules.{IsStrayVolume}
 use Rattle.cell_faults.proofs.WrongPlace.{none_there, some_there, stray}

@@ -1,5 +1,5 @@
 use Rattle.std.proofs.Common.{◌≡◌, ◌⊎◌, ◌↔◌, ◌+◌, ◌++◌, ◌∷◌, [], List, Option, Some, Contains, slice_get, sym, subst}
-use Rattle.domain_base.specs.declared.place.Home.{Home}
+use Rattle.page_ways.specs.domain_base.declared.place.Home.{Home}
 use Rattle.page_ways.specs.Frame.{frame_in}
 use Rattle.cell_faults.specs.Tables.{AreTablesBelow}
 use Rattle.cell_faults.specs.declared.tables.CellsPage.{CellsPage}

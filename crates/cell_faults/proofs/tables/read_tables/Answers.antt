@@ -6,7 +6,7 @@ use Rattle.cell_faults.specs.declared.tables.CellTables.{CellTables}
 use Rattle.cell_faults.proofs.Joined.{all_tables, no_table}
 use Rattle.cell_faults.proofs.tables.read_tables.Goals as goal
 use Rattle.cell_faults.proofs.tables.read_tables.Goals.{in-Some+then-is_member+in_ok-read_table, in-Some+else-is_member, in_default}
-use Rattle.log_ring.specs.Homes.{IsMember}
+use Rattle.page_ways.specs.log_ring.Homes.{IsMember}
 
 pub loop-number-preserved : goal.loop-number-preserved
 loop-number-preserved g c =

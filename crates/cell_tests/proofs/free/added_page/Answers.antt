@@ -1,7 +1,7 @@
 use Rattle.std.proofs.Common.{◌≡◌, ◌<◌, ℕ, List, [], ◌∷◌, length, get_or, ap, subst, sym, arith, lit<}
 use Rattle.std.specs.List.{Contains}
-use Rattle.domain_base.specs.declared.place.Home.{Home}
-use Rattle.memory_store.specs.Homes.{pages_of}
+use Rattle.free_cells.specs.domain_base.declared.place.Home.{Home}
+use Rattle.free_cells.specs.page_store.Homes.{pages_of}
 use Rattle.free_cells.specs.Belong.{LeadsTo}
 use Rattle.free_cells.specs.Cells.{table_of}
 use Rattle.cell_tests.proofs.free.added_page.Goals as goal

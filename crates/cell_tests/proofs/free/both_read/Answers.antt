@@ -1,6 +1,6 @@
 use Rattle.std.proofs.Common.{◌≡◌, ◌∙◌, ℕ, List, length, IsSomeAnd, ap, subst, sym, arith}
-use Rattle.domain_base.specs.declared.place.Home.{Home}
-use Rattle.memory_store.specs.Homes.{pages_of}
+use Rattle.free_cells.specs.domain_base.declared.place.Home.{Home}
+use Rattle.free_cells.specs.page_store.Homes.{pages_of}
 use Rattle.free_cells.specs.Belong.{IsNextPage}
 use Rattle.free_cells.specs.Cells.{table_of}
 use Rattle.free_cells.proofs.Belongs.{some_and}

@@ -1,7 +1,7 @@
 use Rattle.std.proofs.Common.{◌≡◌, ◌∙◌, ℕ, ◌-◌, List, [], ◌∷◌, ◌++◌, length, slice_index, Option, Some, None, IsSomeAnd, ap, subst, sym}
-use Rattle.domain_base.specs.declared.place.Home.{Home}
-use Rattle.memory_store.specs.Homes.{pages_of}
-use Rattle.bmt_mcells.specs.CellPage.{next_of}
+use Rattle.free_cells.specs.domain_base.declared.place.Home.{Home}
+use Rattle.free_cells.specs.page_store.Homes.{pages_of}
+use Rattle.free_cells.specs.metadata_cells.CellPage.{next_of}
 use Rattle.free_cells.specs.Cells.{Cells, JoinsPage, table_of, with_page_last}
 use Rattle.free_cells.proofs.Belongs.{last_leads, some_and}
 use Rattle.cell_tests.proofs.free.one_read.Goals as goal

@@ -1,6 +1,6 @@
 use Rattle.std.proofs.Common.{◌≡◌, ◌∙◌, IsSomeAnd, ap, subst, sym}
-use Rattle.page_store.specs.Pages.{Pages}
-use Rattle.bmt_mcells.specs.CellPage.{IsEmptyPage}
+use Rattle.free_cells.specs.page_store.Pages.{Pages}
+use Rattle.free_cells.specs.metadata_cells.CellPage.{IsEmptyPage}
 use Rattle.free_cells.proofs.PutThere.{other, there}
 use Rattle.cell_tests.proofs.free.put_empty.Goals as goal
 

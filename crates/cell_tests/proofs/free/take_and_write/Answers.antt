@@ -1,6 +1,6 @@
 use Rattle.std.proofs.Common.{◌≡◌, Option, Some, IfSome, subst}
-use Rattle.domain_base.specs.declared.place.CellAt.{CellAt}
-use Rattle.memory_store.specs.Homes.{pages_of}
+use Rattle.free_cells.specs.domain_base.declared.place.CellAt.{CellAt}
+use Rattle.free_cells.specs.page_store.Homes.{pages_of}
 use Rattle.free_cells.specs.Cells.{TakesCell}
 use Rattle.free_cells.proofs.Belongs.{belong_written}
 use Rattle.cell_tests.proofs.free.take_and_write.Goals as goal

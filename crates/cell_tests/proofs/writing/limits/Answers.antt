@@ -1,9 +1,9 @@
 use Rattle.std.proofs.Common.{◌≡◌, ◌^◌, ◌<◌, ◌≤◌, ◌++◌, ◌∷◌, [], ℕ, List, length, lit<, sym, subst, arith, length-append, ◌∙◌, ap}
-use Rattle.record_table.specs.declared.record.Record.{Record}
-use Rattle.record_table.specs.declared.record.Record.TheVariants.{UserQuota, GroupQuota}
-use Rattle.record_table.specs.Records.{Allowed, spelling}
-use Rattle.record_table.proofs.WholeRecord.{length-spelling}
-use Rattle.bmt_mcells.specs.Cell.{AreRecords, spellings}
+use Rattle.free_cells.specs.cell_records.declared.record.Record.{Record}
+use Rattle.free_cells.specs.cell_records.declared.record.Record.TheVariants.{UserQuota, GroupQuota}
+use Rattle.free_cells.specs.cell_records.Records.{Allowed, spelling}
+use Rattle.free_cells.proofs.OfCellRecords.WholeRecord.{length-spelling}
+use Rattle.free_cells.specs.metadata_cells.Cell.{AreRecords, spellings}
 use Rattle.cell_tests.proofs.writing.limits.Goals as goal
 
 user_allowed : (id : ℕ) → id < 2 ^ 32 → Allowed (UserQuota id 3 1024)

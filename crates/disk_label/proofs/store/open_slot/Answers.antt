@@ -1,6 +1,6 @@
 use Rattle.std.proofs.Common.{ℕ, subst}
 use Rattle.std.proofs.lemmas.Result.{on_ok_weaker}
-use Rattle.domain_base.specs.Gate.{opened}
+use Rattle.volume_disk.specs.domain_base.Gate.{opened}
 use Rattle.volume_disk.specs.Image.{IsIn}
 use Rattle.volume_disk.specs.Run.{OnlyWrites, Settles}
 use Rattle.disk_label.proofs.store.open_slot.Goals as goal

@@ -1,6 +1,6 @@
 use Rattle.std.proofs.Common.{ℕ, ◌+◌, ◌*◌, subst, arith}
 use Rattle.std.proofs.lemmas.Result.{on_ok_weaker}
-use Rattle.domain_base.specs.Gate.{closed, opened}
+use Rattle.volume_disk.specs.domain_base.Gate.{closed, opened}
 use Rattle.volume_disk.specs.Run.{OnlyWrites, Settles}
 use Rattle.disk_label.specs.Slot.{IsBody, IsGate}
 use Rattle.disk_label.proofs.Steps.{one_write, two_writes, three_writes, has_written}

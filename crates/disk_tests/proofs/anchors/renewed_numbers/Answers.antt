@@ -1,5 +1,5 @@
 use Rattle.std.proofs.Common.{ap}
-use Rattle.volume_disk.specs.Disk.{Disk}
+use Rattle.disk_label.specs.volume_disk.Disk.{Disk}
 use Rattle.disk_tests.proofs.anchors.renewed_numbers.Goals as goal
 
 pub renew_twice-requires : goal.renew_twice-requires

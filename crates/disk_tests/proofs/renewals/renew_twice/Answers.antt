@@ -1,7 +1,7 @@
 use Rattle.std.proofs.Common.{◌≡◌, ℕ, ◌+◌, ◌-◌, ◌*◌, Option, Some, sym, ◌∙◌, ap, subst, arith}
-use Rattle.volume_disk.specs.Disk.{Disk, Moment, Tells}
-use Rattle.volume_disk.specs.Image.{AreBytes}
-use Rattle.volume_disk.specs.Run.{OnlyReads}
+use Rattle.disk_label.specs.volume_disk.Disk.{Disk, Moment, Tells}
+use Rattle.disk_label.specs.volume_disk.Image.{AreBytes}
+use Rattle.disk_label.specs.volume_disk.Run.{OnlyReads}
 use Rattle.disk_label.specs.Anchor.{IsAnchor}
 use Rattle.disk_label.specs.Laws.{AreAnchorsSynced}
 use Rattle.disk_label.specs.Slot.{HasAnchor, HasReadied, IsReady, IsReadyFor}

@@ -1,16 +1,16 @@
 use Rattle.std.proofs.Common.{◌≡◌, refl, sym, subst}
-use Rattle.fileset_model.specs.Filesets.{FilesetMap}
-use Rattle.volume_disk.specs.Disk.{Tells}
-use Rattle.volume_disk.specs.Image.{NoPlace}
-use Rattle.volume_disk.specs.Run.{OnlyReads, Touches}
-use Rattle.disk_label.specs.Fault.{HasPassed}
-use Rattle.staged_pages.specs.Store.{before_of}
-use Rattle.page_ways.specs.Frame.{frame_in}
-use Rattle.log_settling.specs.Settling.{Anywhere, StandsAtHome}
-use Rattle.log_settling.proofs.Settled.{anywhere, anywhere_then}
-use Rattle.domain_layout.specs.Read.{Means}
-use Rattle.domain_memory.specs.Memory.{StandsFor}
-use Rattle.domain_memory.specs.declared.memory.DomainMemory.{DomainMemory}
+use Rattle.attached_domain.specs.fileset_model.Filesets.{FilesetMap}
+use Rattle.attached_domain.specs.volume_disk.Disk.{Tells}
+use Rattle.attached_domain.specs.volume_disk.Image.{NoPlace}
+use Rattle.attached_domain.specs.volume_disk.Run.{OnlyReads, Touches}
+use Rattle.attached_domain.specs.disk_label.Fault.{HasPassed}
+use Rattle.attached_domain.specs.staged_pages.Store.{before_of}
+use Rattle.attached_domain.specs.page_ways.Frame.{frame_in}
+use Rattle.attached_domain.specs.log_recovery.Settling.{Anywhere, StandsAtHome}
+use Rattle.attached_domain.proofs.OfLogRecovery.Settled.{anywhere, anywhere_then}
+use Rattle.attached_domain.specs.domain_layout.Read.{Means}
+use Rattle.attached_domain.specs.domain_memory.Memory.{StandsFor}
+use Rattle.attached_domain.specs.domain_memory.declared.memory.DomainMemory.{DomainMemory}
 use Rattle.domain_bringing.specs.Fault.{IsNoDomain}
 use Rattle.domain_attaching.specs.Attaching.{HasCause, HasDomain, IfNotADomain, IfNotFit, IfNotSettled, IsBroughtMemory, IsReadFrom, IsUnfitDomain}
 use Rattle.domain_attaching.specs.Settling.{HasNoGroups, IfRefused, IsNotSettled, StandHome, StaysReadSince, WritesNone, rested_anchor, with_anchor}

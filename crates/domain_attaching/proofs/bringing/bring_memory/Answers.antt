@@ -1,8 +1,8 @@
 use Rattle.std.proofs.Common.{Result, IfErr, sym, subst}
 use Rattle.std.proofs.lemmas.Result.{err_from_is_err_and}
-use Rattle.volume_disk.specs.Disk.{Tells}
-use Rattle.staged_pages.specs.Store.{before_of}
-use Rattle.page_ways.specs.Frame.{frame_in}
+use Rattle.attached_domain.specs.volume_disk.Disk.{Tells}
+use Rattle.attached_domain.specs.staged_pages.Store.{before_of}
+use Rattle.attached_domain.specs.page_ways.Frame.{frame_in}
 use Rattle.domain_bringing.specs.Fault.{IsNoDomain}
 use Rattle.domain_bringing.proofs.Means.{mean_same}
 use Rattle.attached_domain.specs.declared.unfit.Unfit.{Unfit}

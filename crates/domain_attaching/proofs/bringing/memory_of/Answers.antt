@@ -1,8 +1,8 @@
 use Rattle.std.proofs.Common.{◌∙◌, sym, ap, subst}
-use Rattle.page_store.specs.Pages.{Pages}
-use Rattle.staged_pages.specs.Store.{before_of}
-use Rattle.page_ways.specs.Frame.{frame_in}
-use Rattle.domain_layout.specs.Reached.{Frame}
+use Rattle.attached_domain.specs.page_store.Pages.{Pages}
+use Rattle.attached_domain.specs.staged_pages.Store.{before_of}
+use Rattle.attached_domain.specs.page_ways.Frame.{frame_in}
+use Rattle.attached_domain.specs.domain_layout.Reached.{Frame}
 use Rattle.attached_domain.specs.Causes.{MayBeRead}
 use Rattle.domain_bringing.specs.Brought.{IsWholeDomain}
 use Rattle.domain_attaching.proofs.MayRead.{may_be_read, table_home}

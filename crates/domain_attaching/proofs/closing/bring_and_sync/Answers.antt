@@ -1,8 +1,8 @@
 use Rattle.std.proofs.Common.{◌∙◌}
 use Rattle.std.proofs.lemmas.Result.{on_ok_weaker}
-use Rattle.volume_disk.specs.Disk.{Tells}
-use Rattle.volume_disk.proofs.Laws.{touches-then}
-use Rattle.staged_pages.specs.Store.{pages_of}
+use Rattle.attached_domain.specs.volume_disk.Disk.{Tells}
+use Rattle.attached_domain.proofs.OfVolumeDisk.Laws.{touches-then}
+use Rattle.attached_domain.specs.staged_pages.Store.{pages_of}
 use Rattle.domain_attaching.specs.Closing.{AreTheseHome, IsChosen, IsOnThese, StayHome}
 use Rattle.domain_attaching.proofs.HomeKept.{fault_then, none_wider, stay_then, stay_untouched}
 use Rattle.domain_attaching.proofs.InOrder.{if_ok}

@@ -1,7 +1,7 @@
 use Rattle.std.proofs.Common.{◌≡◌, ◌∙◌, sym, ap, subst}
-use Rattle.volume_disk.specs.Disk.{Disk, raised_at}
-use Rattle.log_ring.specs.Homes.{HasMembers}
-use Rattle.domain_memory.specs.declared.memory.DomainMemory.{DomainMemory}
+use Rattle.attached_domain.specs.volume_disk.Disk.{Disk, raised_at}
+use Rattle.attached_domain.specs.log_ring.Homes.{HasMembers}
+use Rattle.attached_domain.specs.domain_memory.declared.memory.DomainMemory.{DomainMemory}
 use Rattle.domain_attaching.specs.Closing.{HasRoomFor}
 use Rattle.domain_attaching.proofs.AtClose.{asks_members, closed_then, means_then}
 use Rattle.domain_attaching.proofs.InOrder.{order_there, so_far_there}

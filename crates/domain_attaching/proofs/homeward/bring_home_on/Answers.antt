@@ -1,8 +1,8 @@
 use Rattle.std.proofs.Common.{◌∙◌, ◌+◌, ◌-◌, ◌≤◌, max, refl, subst, arith}
-use Rattle.volume_disk.proofs.Laws.{touches-none, touches-then}
-use Rattle.domain_base.specs.declared.place.Home.{Home}
-use Rattle.disk_label.specs.declared.anchor.Member.{Member}
-use Rattle.staged_pages.specs.Store.{pages_of}
+use Rattle.attached_domain.proofs.OfVolumeDisk.Laws.{touches-none, touches-then}
+use Rattle.attached_domain.specs.domain_base.declared.place.Home.{Home}
+use Rattle.attached_domain.specs.disk_label.declared.anchor.Member.{Member}
+use Rattle.attached_domain.specs.staged_pages.Store.{pages_of}
 use Rattle.domain_attaching.specs.Closing.{IsChosen, IsOnThese, StandsHome}
 use Rattle.domain_attaching.proofs.HomeKept.{all_home_on, members_still, stay_then}
 use Rattle.domain_attaching.proofs.Rows.{by_count, by_end, homes_more, next_page, row_on_rack, row_on_these, stay_row}

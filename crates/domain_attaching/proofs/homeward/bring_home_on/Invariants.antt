@@ -1,8 +1,8 @@
 use Rattle.std.proofs.Common.{◌≡◌, ◌-◌, ◌*◌, ◌<◌, length}
-use Rattle.log_ring.specs.Homes.{member_of}
-use Rattle.volume_disk.specs.Disk.{Tells}
-use Rattle.volume_disk.specs.Run.{Touches}
-use Rattle.staged_pages.specs.Store.{pages_of}
+use Rattle.attached_domain.specs.log_ring.Homes.{member_of}
+use Rattle.attached_domain.specs.volume_disk.Disk.{Tells}
+use Rattle.attached_domain.specs.volume_disk.Run.{Touches}
+use Rattle.attached_domain.specs.staged_pages.Store.{pages_of}
 use Rattle.domain_attaching.specs.Closing.{AreTheseHome, IsChosen, IsOnThese, StayHome}
 use Rattle.domain_attaching.proofs.homeward.bring_home_on.Given as goal
 

@@ -1,7 +1,7 @@
 use Rattle.std.proofs.Common.{◌≡◌, ◌∙◌, ℕ, refl, subst, arith}
-use Rattle.domain_base.specs.declared.place.Home.{Home}
-use Rattle.volume_disk.proofs.Laws.{touches-none, touches-then}
-use Rattle.staged_pages.specs.Store.{pages_of}
+use Rattle.attached_domain.specs.domain_base.declared.place.Home.{Home}
+use Rattle.attached_domain.proofs.OfVolumeDisk.Laws.{touches-none, touches-then}
+use Rattle.attached_domain.specs.staged_pages.Store.{pages_of}
 use Rattle.domain_attaching.specs.Closing.{AreTheseHome, IsChosen, IsOnThese}
 use Rattle.domain_attaching.proofs.HomeKept.{members_still, one_volume_more, stay_then}
 use Rattle.domain_attaching.proofs.homeward.bring_pages_home.Goals as goal

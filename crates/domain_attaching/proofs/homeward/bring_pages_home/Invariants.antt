@@ -1,7 +1,7 @@
 use Rattle.std.proofs.Common.{◌≡◌, ◌*◌, ◌<◌, length}
-use Rattle.volume_disk.specs.Disk.{Tells}
-use Rattle.volume_disk.specs.Run.{Touches}
-use Rattle.staged_pages.specs.Store.{pages_of}
+use Rattle.attached_domain.specs.volume_disk.Disk.{Tells}
+use Rattle.attached_domain.specs.volume_disk.Run.{Touches}
+use Rattle.attached_domain.specs.staged_pages.Store.{pages_of}
 use Rattle.domain_attaching.specs.Closing.{AreTheseHome, IsChosen, IsOnThese, StayHome}
 use Rattle.domain_attaching.proofs.homeward.bring_pages_home.Given as goal
 

@@ -1,5 +1,5 @@
 use Rattle.std.proofs.Common.{◌≤◌}
-use Rattle.staged_pages.specs.Store.{pages_of}
+use Rattle.attached_domain.specs.staged_pages.Store.{pages_of}
 use Rattle.domain_attaching.specs.Closing.{AreBetween, IsToBring}
 use Rattle.domain_attaching.proofs.homeward.end_of_row.Given as goal
 

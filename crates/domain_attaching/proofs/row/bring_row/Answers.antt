@@ -1,6 +1,6 @@
 use Rattle.std.proofs.Common.{◌∙◌}
 use Rattle.std.proofs.lemmas.Result.{on_ok_weaker}
-use Rattle.volume_disk.proofs.Laws.{touches-then}
+use Rattle.attached_domain.proofs.OfVolumeDisk.Laws.{touches-then}
 use Rattle.domain_attaching.specs.Closing.{IsOnRow}
 use Rattle.domain_attaching.proofs.HomeKept.{fault_then, none_wider}
 use Rattle.domain_attaching.proofs.row.bring_row.Goals as goal

@@ -2,7 +2,7 @@ use borrow.Rule.Slice.PartMut.{put_mid, same_len_mid, mid_len}
 use Rattle.std.proofs.Common.{◌≡◌, ◌∙◌, ℕ, ◌+◌, ◌-◌, ◌*◌, ◌≤◌, List, Some, length, sym, ap, subst, arith, ⊎_elim}
 use Rattle.std.proofs.lemmas.Bool.{cases_lt}
 use Rattle.std.specs.Prelude.{option_copied}
-use Rattle.staged_pages.specs.Store.{pages_of}
+use Rattle.attached_domain.specs.staged_pages.Store.{pages_of}
 use Rattle.domain_attaching.specs.Closing.{page_in}
 use Rattle.domain_attaching.proofs.Rows.{laid_front, laid_here}
 use Rattle.domain_attaching.proofs.row.lay_all.Goals as goal

@@ -1,5 +1,5 @@
 use Rattle.std.proofs.Common.{◌≡◌, ◌+◌, ◌*◌, ◌<◌, ◌≤◌, ℕ, Some, length}
-use Rattle.staged_pages.specs.Store.{pages_of}
+use Rattle.attached_domain.specs.staged_pages.Store.{pages_of}
 use Rattle.domain_attaching.specs.Closing.{page_in}
 use Rattle.domain_attaching.proofs.row.lay_all.Given as goal
 

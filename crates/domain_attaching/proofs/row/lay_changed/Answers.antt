@@ -3,7 +3,7 @@ use Rattle.std.proofs.Common.{◌≡◌, ◌∙◌, ℕ, ◌+◌, ◌-◌, ◌*�
 use Rattle.std.proofs.lemmas.Bool.{cases_lt}
 use Rattle.std.specs.Cmp.Lexicographic.{same_text}
 use Rattle.std.specs.Prelude.{option_copied}
-use Rattle.staged_pages.specs.Store.{pages_of}
+use Rattle.attached_domain.specs.staged_pages.Store.{pages_of}
 use Rattle.domain_attaching.specs.Closing.{page_in}
 use Rattle.domain_attaching.proofs.Rows.{laid_behind, laid_front, laid_here}
 use Rattle.domain_attaching.proofs.row.lay_changed.Goals as goal

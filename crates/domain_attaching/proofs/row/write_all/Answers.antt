@@ -1,8 +1,8 @@
 use Rattle.std.proofs.Common.{◌≡◌, ◌∙◌, ℕ, ◌*◌, List, length}
 use Rattle.std.proofs.lemmas.Result.{on_ok_weaker}
-use Rattle.volume_disk.specs.Image.{IsIn}
-use Rattle.volume_disk.proofs.Laws.{touches-wider}
-use Rattle.staged_pages.specs.Store.{pages_of}
+use Rattle.attached_domain.specs.volume_disk.Image.{IsIn}
+use Rattle.attached_domain.proofs.OfVolumeDisk.Laws.{touches-wider}
+use Rattle.attached_domain.specs.staged_pages.Store.{pages_of}
 use Rattle.domain_attaching.specs.Closing.{IsOnRow}
 use Rattle.domain_attaching.proofs.Rows.{row_written, whole_row}
 use Rattle.domain_attaching.proofs.row.write_all.Goals as goal

@@ -1,11 +1,11 @@
 use borrow.Rule.Slice.PartMut.{mid_len}
 use Rattle.std.proofs.Common.{◌≡◌, ◌∙◌, ◌⊎◌, ℕ, ◌+◌, ◌-◌, ◌*◌, ◌<◌, ◌≤◌, List, length, slice_range, refl, arith}
-use Rattle.volume_disk.specs.Disk.{Tells}
-use Rattle.volume_disk.specs.Image.{IsIn}
-use Rattle.volume_disk.proofs.Laws.{touches-none, touches-then, touches-wider}
-use Rattle.staged_pages.specs.Store.{pages_of}
+use Rattle.attached_domain.specs.volume_disk.Disk.{Tells}
+use Rattle.attached_domain.specs.volume_disk.Image.{IsIn}
+use Rattle.attached_domain.proofs.OfVolumeDisk.Laws.{touches-none, touches-then, touches-wider}
+use Rattle.attached_domain.specs.staged_pages.Store.{pages_of}
 use Rattle.domain_bringing.proofs.InARow.{written_in}
-use Rattle.domain_bringing.proofs.PagesRead.{read_in}
+use Rattle.domain_bringing.proofs.OfImageLoading.PagesRead.{read_in}
 use Rattle.domain_attaching.specs.Closing.{IsOnRow}
 use Rattle.domain_attaching.proofs.Rows.{all_of_row, home_more, part_of_row, passed_over, read_more}
 use Rattle.domain_attaching.proofs.row.write_changed.Goals as goal

@@ -1,8 +1,8 @@
 use Rattle.std.proofs.Common.{◌-◌, ◌≡◌, ◌+◌, ◌*◌, ◌<◌, ◌≤◌, ℕ, length}
-use Rattle.staged_pages.specs.Store.{pages_of}
-use Rattle.volume_disk.specs.Disk.{Tells}
-use Rattle.volume_disk.specs.Image.{page_at}
-use Rattle.volume_disk.specs.Run.{Touches}
+use Rattle.attached_domain.specs.staged_pages.Store.{pages_of}
+use Rattle.attached_domain.specs.volume_disk.Disk.{Tells}
+use Rattle.attached_domain.specs.volume_disk.Image.{page_at}
+use Rattle.attached_domain.specs.volume_disk.Run.{Touches}
 use Rattle.domain_attaching.specs.Closing.{IsOnRow, StandsHome, page_in}
 use Rattle.domain_attaching.proofs.row.write_changed.Given as goal
 

@@ -1,10 +1,10 @@
 use Rattle.std.proofs.Common.{◌∙◌, sym, ap, subst}
-use Rattle.volume_disk.specs.Disk.{Disk}
-use Rattle.volume_disk.specs.Image.{NoPlace}
-use Rattle.volume_disk.specs.Run.{Touches}
-use Rattle.disk_label.specs.Fault.{HasPassed}
-use Rattle.log_settling.specs.Settling.{Anywhere, StandsAtHome}
-use Rattle.disk_label.specs.declared.anchor.Anchor.{Anchor}
+use Rattle.attached_domain.specs.volume_disk.Disk.{Disk}
+use Rattle.attached_domain.specs.volume_disk.Image.{NoPlace}
+use Rattle.attached_domain.specs.volume_disk.Run.{Touches}
+use Rattle.attached_domain.specs.disk_label.Fault.{HasPassed}
+use Rattle.attached_domain.specs.log_recovery.Settling.{Anywhere, StandsAtHome}
+use Rattle.attached_domain.specs.disk_label.declared.anchor.Anchor.{Anchor}
 use Rattle.domain_attaching.specs.Settling.{HasNoGroups, StaysReadSince, with_anchor}
 use Rattle.domain_attaching.proofs.Anew.{back_new, settled_new, stands_new}
 use Rattle.domain_attaching.proofs.settling.attach_brought.Goals as goal

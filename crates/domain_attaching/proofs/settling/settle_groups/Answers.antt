@@ -1,7 +1,7 @@
 use Rattle.std.proofs.Common.{refl}
-use Rattle.volume_disk.proofs.Laws.{only_reads-none}
-use Rattle.log_settling.proofs.Settled.{read_still}
-use Rattle.log_settling.specs.Settling.{HasCause}
+use Rattle.attached_domain.proofs.OfVolumeDisk.Laws.{only_reads-none}
+use Rattle.attached_domain.proofs.OfLogRecovery.Settled.{read_still}
+use Rattle.attached_domain.specs.log_recovery.Settling.{HasCause}
 use Rattle.domain_attaching.specs.Settling.{HasSettleCause}
 use Rattle.domain_attaching.proofs.Mapped.{err_too}
 use Rattle.domain_attaching.proofs.Rested.{cause_now, none_behind, none_home}

@@ -1,10 +1,10 @@
 use Rattle.std.proofs.Common.{sym, subst}
-use Rattle.volume_disk.specs.Disk.{Disk}
-use Rattle.volume_disk.specs.Image.{NoPlace}
-use Rattle.volume_disk.specs.Run.{Touches}
-use Rattle.disk_label.specs.Fault.{HasPassed}
-use Rattle.log_settling.specs.Settling.{Anywhere, StandsAtHome}
-use Rattle.log_settling.proofs.Settled.{anywhere, anywhere_then}
+use Rattle.attached_domain.specs.volume_disk.Disk.{Disk}
+use Rattle.attached_domain.specs.volume_disk.Image.{NoPlace}
+use Rattle.attached_domain.specs.volume_disk.Run.{Touches}
+use Rattle.attached_domain.specs.disk_label.Fault.{HasPassed}
+use Rattle.attached_domain.specs.log_recovery.Settling.{Anywhere, StandsAtHome}
+use Rattle.attached_domain.proofs.OfLogRecovery.Settled.{anywhere, anywhere_then}
 use Rattle.domain_attaching.specs.Settling.{HasSettleCause}
 use Rattle.domain_attaching.proofs.HomeKept.{passed_then}
 use Rattle.domain_attaching.proofs.Mapped.{err_too, ok_too}

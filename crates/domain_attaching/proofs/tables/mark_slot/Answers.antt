@@ -1,10 +1,10 @@
 use Rattle.std.proofs.Common.{◌≡◌, ◌∙◌, List, Some, length, slice_get, refl, subst, ap}
 use Rattle.std.proofs.lemmas.Option.{slice_get_read}
 use Rattle.std.specs.Prelude.{Contains, map}
-use Rattle.domain_base.specs.declared.place.Home.{Home}
-use Rattle.anchor_laws.specs.Domain.{layout_of}
-use Rattle.domain_layout.specs.Layout.{Layout}
-use Rattle.domain_memory.specs.Staged.{staged_in}
+use Rattle.attached_domain.specs.domain_base.declared.place.Home.{Home}
+use Rattle.attached_domain.specs.domain_standing.Domain.{layout_of}
+use Rattle.attached_domain.specs.domain_layout.Layout.{Layout}
+use Rattle.attached_domain.specs.domain_memory.Staged.{staged_in}
 use Rattle.domain_attaching.specs.Tables.{Marks}
 use Rattle.domain_attaching.proofs.Marked.{contains_nothing, marks_none, marks_place, marks_places}
 use Rattle.domain_attaching.proofs.tables.mark_slot.Goals as goal

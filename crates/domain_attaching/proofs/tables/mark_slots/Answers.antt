@@ -1,7 +1,7 @@
 use Rattle.std.proofs.Common.{◌≡◌, None, slice_get, refl, arith}
 use Rattle.std.proofs.lemmas.Option.{slice_get_past}
-use Rattle.anchor_laws.specs.Domain.{layout_of}
-use Rattle.domain_memory.specs.Staged.{staged_in}
+use Rattle.attached_domain.specs.domain_standing.Domain.{layout_of}
+use Rattle.attached_domain.specs.domain_memory.Staged.{staged_in}
 use Rattle.domain_attaching.proofs.TablesMarked.{all_slots, no_slots, one_slot_more}
 use Rattle.domain_attaching.proofs.tables.mark_slots.Goals as goal
 

@@ -1,5 +1,5 @@
-use Rattle.anchor_laws.specs.Domain.{layout_of}
-use Rattle.domain_memory.specs.Staged.{staged_in}
+use Rattle.attached_domain.specs.domain_standing.Domain.{layout_of}
+use Rattle.attached_domain.specs.domain_memory.Staged.{staged_in}
 use Rattle.domain_attaching.specs.Tables.{Marks}
 use Rattle.domain_attaching.proofs.TablesMarked.{HasTagPageBelow}
 use Rattle.domain_attaching.proofs.tables.mark_slots.Given as goal

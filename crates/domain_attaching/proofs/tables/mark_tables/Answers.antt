@@ -1,5 +1,5 @@
-use Rattle.anchor_laws.specs.Domain.{layout_of}
-use Rattle.domain_memory.specs.Staged.{staged_in}
+use Rattle.attached_domain.specs.domain_standing.Domain.{layout_of}
+use Rattle.attached_domain.specs.domain_memory.Staged.{staged_in}
 use Rattle.domain_attaching.proofs.TablesMarked.{three_marked}
 use Rattle.domain_attaching.proofs.tables.mark_tables.Goals as goal
 

@@ -1,6 +1,6 @@
 use Rattle.std.proofs.Common.{subst, sym}
-use Rattle.page_store.specs.Pages.{Pages}
-use Rattle.page_ways.specs.Frame.{frame_in}
+use Rattle.domain_faults.specs.page_store.Pages.{Pages}
+use Rattle.domain_faults.specs.page_ways.Frame.{frame_in}
 use Rattle.staged_pages.specs.Store.{pages_of}
 use Rattle.domain_bringing.specs.Brought.{ArePagesOf, HasDomainPages}
 use Rattle.domain_bringing.proofs.Means.{brought_same}

@@ -1,7 +1,7 @@
 use Rattle.std.proofs.Common.{List, ℕ, subst, sym}
-use Rattle.log_recovery.specs.Outcome.{IsSound}
+use Rattle.domain_faults.specs.log_recovery.Outcome.{IsSound}
 use Rattle.staged_pages.specs.Store.{before_of}
-use Rattle.volume_disk.proofs.Laws.{only_reads-then}
+use Rattle.domain_faults.proofs.OfVolumeDisk.Laws.{only_reads-then}
 use Rattle.domain_bringing.proofs.Causes.{cause_before, recovery_cause, recovery_place, wrong_before, wrong_known}
 use Rattle.domain_bringing.proofs.Recovered.{brought_before}
 use Rattle.domain_bringing.proofs.bringing.bring_domain.Goals as goal

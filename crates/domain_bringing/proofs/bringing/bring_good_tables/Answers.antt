@@ -1,8 +1,8 @@
 use Rattle.std.proofs.Common.{List}
-use Rattle.page_ways.specs.Frame.{frame_in}
-use Rattle.log_ring.specs.Groups.{Group}
-use Rattle.log_recovery.specs.Outcome.{HasRecovered}
-use Rattle.volume_disk.specs.Disk.{Tells}
+use Rattle.domain_faults.specs.page_ways.Frame.{frame_in}
+use Rattle.domain_faults.specs.log_ring.Groups.{Group}
+use Rattle.domain_faults.specs.log_recovery.Outcome.{HasRecovered}
+use Rattle.domain_faults.specs.volume_disk.Disk.{Tells}
 use Rattle.domain_bringing.specs.Fault.{HasCause, HasFirstRow, IfNotADomain, IsNoDomain, IsWrongOn}
 use Rattle.domain_bringing.proofs.Causes.{cause_before, err_weaker, no_place, place_weaker}
 use Rattle.domain_bringing.proofs.Means.{agree_by, brought_same, no_domain}

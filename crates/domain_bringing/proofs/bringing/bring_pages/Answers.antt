@@ -1,5 +1,5 @@
-use Rattle.volume_disk.proofs.Laws.{only_reads-then}
-use Rattle.metadata_loading.proofs.Brought.{brings_then, members_stay}
+use Rattle.domain_faults.proofs.OfVolumeDisk.Laws.{only_reads-then}
+use Rattle.image_loading.proofs.Brought.{brings_then, members_stay}
 use Rattle.domain_bringing.specs.Brought.{images_alone}
 use Rattle.domain_bringing.proofs.bringing.bring_pages.Goals as goal
 

@@ -1,6 +1,6 @@
 use Rattle.std.proofs.Common.{subst, sym}
-use Rattle.log_ring.specs.Homes.{HasMembers}
-use Rattle.disk_label.specs.declared.anchor.Anchor.{Anchor}
+use Rattle.domain_faults.specs.log_ring.Homes.{HasMembers}
+use Rattle.domain_faults.specs.disk_label.declared.anchor.Anchor.{Anchor}
 use Rattle.domain_bringing.proofs.bringing.bring_recovered.Goals as goal
 
 pub bring_all-requires-clause-members : goal.bring_all-requires-clause-members

@@ -1,7 +1,7 @@
 use Rattle.std.proofs.Common.{◌≡◌, List, subst}
-use Rattle.domain_base.specs.declared.place.Home.{Home}
-use Rattle.page_change.specs.Images.{overlaid}
-use Rattle.page_change.specs.declared.image.PageImage.{PageImage}
+use Rattle.domain_faults.specs.domain_base.declared.place.Home.{Home}
+use Rattle.domain_faults.specs.log_ring.Images.{overlaid}
+use Rattle.domain_faults.specs.log_ring.declared.image.PageImage.{PageImage}
 use Rattle.domain_bringing.proofs.Laid.{brings_behind}
 use Rattle.domain_bringing.proofs.bringing.bring_tables.Goals as goal
 

@@ -1,7 +1,7 @@
 use Rattle.std.proofs.Common.{◌≡◌, ◌∙◌, [], ap, subst, sym}
 use Rattle.std.proofs.lemmas.Result.{on_ok_weaker}
-use Rattle.page_ways.specs.Frame.{frame_in}
-use Rattle.domain_layout.specs.Faults.{AreFaults}
+use Rattle.domain_faults.specs.page_ways.Frame.{frame_in}
+use Rattle.domain_faults.specs.domain_layout.Faults.{AreFaults}
 use Rattle.domain_faults.specs.Rows.{rows_there}
 use Rattle.domain_faults.proofs.ToldFaults.{none_told}
 use Rattle.domain_bringing.specs.Fault.{BeginsAt, HasFirstRow, IfNotADomain}

@@ -1,8 +1,8 @@
 use Rattle.std.proofs.Common.{subst, sym}
 use Rattle.std.proofs.lemmas.Result.{on_ok_weaker}
-use Rattle.page_ways.specs.Frame.{frame_in}
-use Rattle.domain_layout.proofs.NoTables.{none_of_tables}
-use Rattle.image_loading.specs.Files.{AreFilePages}
+use Rattle.domain_faults.specs.page_ways.Frame.{frame_in}
+use Rattle.domain_faults.proofs.OfDomainLayout.NoTables.{none_of_tables}
+use Rattle.domain_faults.specs.page_faults.Files.{AreFilePages}
 use Rattle.domain_bringing.proofs.Held.{held}
 use Rattle.domain_bringing.proofs.files.load_files.Goals as goal
 

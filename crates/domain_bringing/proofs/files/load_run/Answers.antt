@@ -1,6 +1,6 @@
 use Rattle.std.proofs.Common.{◌∙◌, refl, arith}
-use Rattle.page_ways.specs.Frame.{frame_in}
-use Rattle.metadata_loading.proofs.Brought.{brings_none, brings_then, members_stay}
+use Rattle.domain_faults.specs.page_ways.Frame.{frame_in}
+use Rattle.image_loading.proofs.Brought.{brings_none, brings_then, members_stay}
 use Rattle.domain_bringing.proofs.Runs.{all_below, one_below}
 use Rattle.domain_bringing.proofs.files.load_run.Goals as goal
 

@@ -1,6 +1,6 @@
 use Rattle.std.proofs.Common.{◌∙◌, refl}
-use Rattle.page_ways.specs.Frame.{frame_in}
-use Rattle.metadata_loading.proofs.Brought.{brings_none, brings_then, members_stay}
+use Rattle.domain_faults.specs.page_ways.Frame.{frame_in}
+use Rattle.image_loading.proofs.Brought.{brings_none, brings_then, members_stay}
 use Rattle.image_loading.proofs.Listed.{hold_next, hold_none}
 use Rattle.domain_bringing.specs.Files.{HasPagesOf}
 use Rattle.domain_bringing.proofs.Runs.{all_runs, run_stays}

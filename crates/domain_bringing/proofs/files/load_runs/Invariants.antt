@@ -1,6 +1,6 @@
 use Rattle.std.proofs.Common.{◌≡◌}
-use Rattle.page_ways.specs.Frame.{frame_in}
-use Rattle.metadata_loading.specs.Loading.{Brings}
+use Rattle.domain_faults.specs.page_ways.Frame.{frame_in}
+use Rattle.image_loading.specs.Loading.{Brings}
 use Rattle.image_loading.proofs.Listed.{HoldBelow}
 use Rattle.domain_bringing.specs.Files.{HasPagesOf}
 use Rattle.domain_bringing.proofs.files.load_runs.Given as goal

@@ -1,6 +1,6 @@
-use Rattle.page_ways.specs.Frame.{frame_in}
-use Rattle.image_loading.proofs.FilesFound.{file_pages}
-use Rattle.image_loading.proofs.OneMaps.{have_one_map}
+use Rattle.domain_faults.specs.page_ways.Frame.{frame_in}
+use Rattle.domain_faults.proofs.OfPageFaults.FilesFound.{file_pages}
+use Rattle.domain_faults.proofs.OfPageFaults.OneMaps.{have_one_map}
 use Rattle.domain_bringing.proofs.Held.{good_cells}
 use Rattle.domain_bringing.proofs.files.runs_of.Goals as goal
 

@@ -1,6 +1,6 @@
 use Rattle.std.proofs.Common.{◌≡◌, take}
-use Rattle.domain_base.specs.declared.place.Home.{Home}
-use Rattle.page_change.specs.Images.{overlaid}
+use Rattle.domain_faults.specs.domain_base.declared.place.Home.{Home}
+use Rattle.domain_faults.specs.log_ring.Images.{overlaid}
 use Rattle.domain_bringing.proofs.images.lay_images.Given as goal
 
 abbrev pub invariant-loop-image : goal.invariant-loop-image

@@ -1,4 +1,4 @@
-use Rattle.page_ways.specs.Frame.{frame_in}
+use Rattle.domain_faults.specs.page_ways.Frame.{frame_in}
 use Rattle.domain_bringing.specs.Range.{AreSizedBelow}
 use Rattle.domain_bringing.proofs.range.are_sized.Given as goal
 

@@ -1,7 +1,7 @@
 use Rattle.std.proofs.Common.{ap, subst}
-use Rattle.page_ways.specs.Frame.{frame_in}
-use Rattle.row_faults.proofs.Answered.{if_ok}
-use Rattle.table_faults.specs.Read.{IsTableRead}
+use Rattle.slot_files.specs.page_ways.Frame.{frame_in}
+use Rattle.slot_files.proofs.OfFilesetShapes.Answered.{if_ok}
+use Rattle.slot_files.specs.cell_faults.Read.{IsTableRead}
 use Rattle.domain_faults.specs.Rows.{rows_there}
 use Rattle.domain_faults.proofs.ToldFaults.{all_told, told_table, told_unnamed}
 use Rattle.domain_faults.proofs.all.faults_in.Goals as goal

@@ -1,6 +1,6 @@
 use Rattle.std.proofs.Common.{false, true, ◌≡◌, ◌∙◌, ap, sym}
-use Rattle.page_ways.specs.Frame.{frame_in}
-use Rattle.row_faults.proofs.Answered.{if_ok}
+use Rattle.slot_files.specs.page_ways.Frame.{frame_in}
+use Rattle.slot_files.proofs.OfFilesetShapes.Answered.{if_ok}
 use Rattle.domain_faults.specs.Rows.{rows_there}
 use Rattle.domain_faults.proofs.ToldFaults.{named, no_tables_fault, told_files, told_tables}
 use Rattle.domain_faults.proofs.all.rows_behind.Goals as goal

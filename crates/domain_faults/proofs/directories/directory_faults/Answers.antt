@@ -1,8 +1,8 @@
 use Rattle.std.proofs.Common.{◌⊎◌, ◌↔◌, ℕ, subst, arith}
-use Rattle.domain_base.specs.declared.place.Home.{Home}
-use Rattle.home_sets.specs.Members.{IsIn}
-use Rattle.page_ways.specs.Frame.{frame_in}
-use Rattle.tree_faults.specs.Slot.{HasDirectoryFault}
+use Rattle.slot_files.specs.domain_base.declared.place.Home.{Home}
+use Rattle.slot_files.specs.sorted_sets.Members.{IsIn}
+use Rattle.slot_files.specs.page_ways.Frame.{frame_in}
+use Rattle.slot_files.specs.directory_faults.Slot.{HasDirectoryFault}
 use Rattle.domain_faults.proofs.FoundFaults.{all_below, below_more, below_none}
 use Rattle.slot_files.proofs.SlotFiles.{is_table}
 use Rattle.domain_faults.proofs.directories.directory_faults.Goals as goal

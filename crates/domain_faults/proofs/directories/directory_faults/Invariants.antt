@@ -1,5 +1,5 @@
-use Rattle.home_sets.specs.Members.{IsIn}
-use Rattle.page_ways.specs.Frame.{frame_in}
+use Rattle.slot_files.specs.sorted_sets.Members.{IsIn}
+use Rattle.slot_files.specs.page_ways.Frame.{frame_in}
 use Rattle.domain_faults.proofs.FoundFaults.{AreBelow}
 use Rattle.domain_faults.proofs.directories.directory_faults.Given as goal
 

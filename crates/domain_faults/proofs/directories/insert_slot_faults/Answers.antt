@@ -1,8 +1,8 @@
 use Rattle.std.proofs.Common.{List, sym, subst}
-use Rattle.page_ways.specs.Frame.{frame_in}
-use Rattle.row_faults.specs.There.{AreFilesIn}
-use Rattle.row_faults.specs.declared.there.FileThere.{FileThere}
-use Rattle.row_faults.proofs.Answered.{on_ok}
+use Rattle.slot_files.specs.page_ways.Frame.{frame_in}
+use Rattle.slot_files.specs.directory_faults.There.{AreFilesIn}
+use Rattle.slot_files.specs.directory_faults.declared.there.FileThere.{FileThere}
+use Rattle.slot_files.proofs.OfFilesetShapes.Answered.{on_ok}
 use Rattle.domain_faults.proofs.directories.insert_slot_faults.Goals as goal
 
 pub returns : goal.returns

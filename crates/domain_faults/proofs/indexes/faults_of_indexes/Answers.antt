@@ -1,8 +1,8 @@
 use Rattle.std.proofs.Common.{◌⊎◌, ◌↔◌, ℕ, subst, arith}
-use Rattle.domain_base.specs.declared.place.Home.{Home}
-use Rattle.home_sets.specs.Members.{IsIn}
-use Rattle.page_ways.specs.Frame.{frame_in}
-use Rattle.index_row_faults.specs.Wrong.{HasWrongIndex}
+use Rattle.slot_files.specs.domain_base.declared.place.Home.{Home}
+use Rattle.slot_files.specs.sorted_sets.Members.{IsIn}
+use Rattle.slot_files.specs.page_ways.Frame.{frame_in}
+use Rattle.slot_files.specs.index_row_faults.Wrong.{HasWrongIndex}
 use Rattle.slot_files.proofs.SlotFiles.{is_table}
 use Rattle.domain_faults.proofs.FoundIndexes.{all_wrong_below, wrong_more, wrong_none}
 use Rattle.domain_faults.proofs.indexes.faults_of_indexes.Goals as goal

@@ -1,9 +1,9 @@
 use Rattle.std.proofs.Common.{sym, subst}
-use Rattle.page_ways.specs.Frame.{frame_in}
-use Rattle.row_faults.specs.Rows.{AreRowsIn}
-use Rattle.row_faults.specs.There.{AreFilesIn}
-use Rattle.row_faults.proofs.Answered.{on_ok}
-use Rattle.index_row_faults.specs.There.{AreIndexesIn}
+use Rattle.slot_files.specs.page_ways.Frame.{frame_in}
+use Rattle.slot_files.specs.directory_faults.Rows.{AreRowsIn}
+use Rattle.slot_files.specs.directory_faults.There.{AreFilesIn}
+use Rattle.slot_files.proofs.OfFilesetShapes.Answered.{on_ok}
+use Rattle.slot_files.specs.index_row_faults.There.{AreIndexesIn}
 use Rattle.slot_files.proofs.Indexed.{files_whole}
 use Rattle.domain_faults.proofs.indexes.insert_slot_indexes.Goals as goal
 

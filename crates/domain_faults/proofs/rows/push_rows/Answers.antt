@@ -1,9 +1,9 @@
 use Rattle.std.proofs.Common.{◌≡◌, ◌∙◌, ◌++◌, ◌<◌, ℕ, List, get_or, length, sym, ap, subst, arith}
-use Rattle.domain_base.specs.declared.place.Home.{Home}
-use Rattle.home_sets.specs.Members.{entries}
-use Rattle.home_sets.specs.Order.{AreNumbered}
-use Rattle.numbered_values.specs.Rising.{IsRising}
-use Rattle.filesets_reading.proofs.Ways.{map_pushed}
+use Rattle.slot_files.specs.domain_base.declared.place.Home.{Home}
+use Rattle.slot_files.specs.sorted_sets.Members.{entries}
+use Rattle.slot_files.specs.sorted_sets.Order.{AreNumbered}
+use Rattle.slot_files.specs.sorted_sets.Rising.{IsRising}
+use Rattle.slot_files.proofs.OfFilesetsReading.Ways.{map_pushed}
 use Rattle.domain_faults.specs.Rows.{code_of, row_there, rows_of, rows_there}
 use Rattle.domain_faults.proofs.FaultRows.{row_more, take_whole}
 use Rattle.domain_faults.proofs.rows.push_rows.Goals as goal

@@ -1,5 +1,5 @@
 use Rattle.std.proofs.Common.{◌≡◌, ◌++◌, take}
-use Rattle.home_sets.specs.Members.{entries}
+use Rattle.slot_files.specs.sorted_sets.Members.{entries}
 use Rattle.domain_faults.specs.Rows.{code_of, rows_of, rows_there}
 use Rattle.domain_faults.proofs.rows.push_rows.Given as goal
 

@@ -1,6 +1,6 @@
 use Rattle.std.proofs.Common.{◌⊎◌, arith}
-use Rattle.domain_layout.specs.Faults.{IsTablesFault}
-use Rattle.page_ways.specs.Frame.{frame_in}
+use Rattle.slot_files.specs.domain_layout.Faults.{IsTablesFault}
+use Rattle.slot_files.specs.page_ways.Frame.{frame_in}
 use Rattle.domain_faults.specs.Rows.{rows_there}
 use Rattle.domain_faults.proofs.FaultRows.{IsNoRow, IsRowIn, early_none, early_on, rows_begin, rows_put, rows_same}
 use Rattle.domain_faults.proofs.ToldFaults.{IsOfTables, tables_told}

@@ -1,5 +1,5 @@
 use Rattle.std.proofs.Common.{◌∙◌, ◌+◌, ◌<◌, refl, sym, arith, subst}
-use Rattle.page_store.specs.Pages.{Pages}
+use Rattle.domain_layout.specs.page_store.Pages.{Pages}
 use Rattle.domain_making.specs.Making.{new_frame}
 use Rattle.domain_making.specs.Pages.{HasNewBitmaps}
 use Rattle.domain_making.proofs.Brought.{bitmaps_next, new_bitmap_page}

@@ -1,6 +1,6 @@
 use Rattle.std.proofs.Common.{◌∙◌, ap}
 use Rattle.std.specs.FinSet.{contains}
-use Rattle.storage_bitmap.specs.VolumePages.{VolumePages}
+use Rattle.domain_layout.specs.free_space.VolumePages.{VolumePages}
 use Rattle.domain_making.proofs.NewBits.{used_more, used_none}
 use Rattle.domain_making.proofs.pages.new_bitmap.Goals as goal
 

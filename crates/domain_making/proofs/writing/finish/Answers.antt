@@ -1,9 +1,9 @@
 use Rattle.std.proofs.Common.{◌∙◌, ◌≤◌, ℕ, List, Option, sym, subst}
 use Rattle.std.proofs.lemmas.Result.{on_ok_weaker}
-use Rattle.volume_disk.specs.Disk.{volume_pages}
-use Rattle.disk_label.specs.Anchor.{IsAnchor, IsNext}
-use Rattle.disk_label.specs.Slot.{HasWritten, WritesAnchor}
-use Rattle.disk_label.specs.declared.anchor.Anchor.{Anchor}
+use Rattle.domain_layout.specs.volume_disk.Disk.{volume_pages}
+use Rattle.domain_layout.specs.disk_label.Anchor.{IsAnchor, IsNext}
+use Rattle.domain_layout.specs.disk_label.Slot.{HasWritten, WritesAnchor}
+use Rattle.domain_layout.specs.disk_label.declared.anchor.Anchor.{Anchor}
 use Rattle.domain_making.proofs.Finished.{anchor_since_pages, both_writes, is_made, label_1, may_follow, none_or_empty, pages_writes, ready_1, since_both}
 use Rattle.domain_making.proofs.writing.finish.Goals as goal
 

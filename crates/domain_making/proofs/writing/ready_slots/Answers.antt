@@ -1,6 +1,6 @@
 use Rattle.std.proofs.Common.{ℕ, subst, arith}
 use Rattle.std.proofs.lemmas.Result.{on_ok_weaker}
-use Rattle.disk_label.specs.Slot.{HasReadied, ReadiesSlot}
+use Rattle.domain_layout.specs.disk_label.Slot.{HasReadied, ReadiesSlot}
 use Rattle.domain_making.proofs.Slots.{both_ready, both_since, both_within, slot_since, slot_within}
 use Rattle.domain_making.proofs.writing.ready_slots.Goals as goal
 

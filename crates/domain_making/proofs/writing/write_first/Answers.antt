@@ -1,8 +1,8 @@
 use Rattle.std.proofs.Common.{ℕ, subst}
 use Rattle.std.proofs.lemmas.Result.{on_ok_weaker}
-use Rattle.volume_disk.specs.Image.{IsIn}
-use Rattle.volume_disk.specs.Run.{OnlyWrites}
-use Rattle.disk_label.specs.Slot.{HasNoAnchorOn, IsGateOf}
+use Rattle.domain_layout.specs.volume_disk.Image.{IsIn}
+use Rattle.domain_layout.specs.volume_disk.Run.{OnlyWrites}
+use Rattle.domain_layout.specs.disk_label.Slot.{HasNoAnchorOn, IsGateOf}
 use Rattle.domain_making.proofs.First.{both_in_front, both_since, first_in_front, gates_since, none_then}
 use Rattle.domain_making.proofs.writing.write_first.Goals as goal
 

@@ -1,7 +1,7 @@
 use Rattle.std.proofs.Common.{◌*◌, ℕ, length, sym, subst}
-use Rattle.volume_disk.specs.Disk.{AreBlocks}
-use Rattle.volume_disk.specs.Image.{IsIn}
-use Rattle.volume_disk.specs.Run.{OnlyWrites}
+use Rattle.domain_layout.specs.volume_disk.Disk.{AreBlocks}
+use Rattle.domain_layout.specs.volume_disk.Image.{IsIn}
+use Rattle.domain_layout.specs.volume_disk.Run.{OnlyWrites}
 use Rattle.domain_making.proofs.Regions.{are_blocks, on_pages}
 use Rattle.domain_making.proofs.writing.write_page.Goals as goal
 

@@ -1,10 +1,10 @@
 use Rattle.std.proofs.Common.{◌∙◌, ℕ, length, ap, sym, subst, arith}
 use Rattle.std.proofs.lemmas.Result.{on_ok_weaker}
-use Rattle.volume_disk.specs.Disk.{Syncs}
-use Rattle.volume_disk.specs.Run.{OnlyWrites}
-use Rattle.volume_disk.proofs.Laws.{only_writes-synced, only_writes-then}
-use Rattle.disk_label.specs.FirstPages.{first_pages}
-use Rattle.disk_label.specs.declared.first_pages.FirstPages.{FirstPages}
+use Rattle.domain_layout.specs.volume_disk.Disk.{Syncs}
+use Rattle.domain_layout.specs.volume_disk.Run.{OnlyWrites}
+use Rattle.domain_layout.proofs.OfVolumeDisk.Laws.{only_writes-synced, only_writes-then}
+use Rattle.domain_layout.specs.disk_label.FirstPages.{first_pages}
+use Rattle.domain_layout.specs.disk_label.declared.first_pages.FirstPages.{FirstPages}
 use Rattle.domain_making.specs.Written.{IsOnPages}
 use Rattle.domain_making.proofs.NewBits.{bits_length}
 use Rattle.domain_making.proofs.Regions.{new_pages_there, written_as}

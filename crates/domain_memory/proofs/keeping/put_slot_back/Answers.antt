@@ -1,6 +1,6 @@
 use Rattle.std.proofs.Common.{◌∙◌, Option, sym, subst}
 use Rattle.std.proofs.Math.Logic.{∥∥₁_elim}
-use Rattle.fileset_table.specs.Table.{IsTable}
+use Rattle.standing_laws.specs.fileset_table.Table.{IsTable}
 use Rattle.domain_memory.specs.Memory.{with_was}
 use Rattle.domain_memory.specs.declared.memory.ReplacedSlot.{ReplacedSlot}
 use Rattle.domain_memory.proofs.keeping.put_slot_back.Goals as goal

@@ -1,5 +1,5 @@
 use Rattle.std.proofs.Common.{◌∙◌, ◌-◌, arith, slice_set}
-use Rattle.history_laws.specs.GoingOn.{stamped}
+use Rattle.no_faults.specs.legal_histories.GoingOn.{stamped}
 use Rattle.domain_state.proofs.Stamping.{stamped_set}
 use Rattle.domain_state.proofs.history.stamp_last.Goals as goal
 

@@ -1,6 +1,6 @@
 use Rattle.std.proofs.Common.{◌∙◌, ap}
-use Rattle.page_ways.specs.Frame.{frame_in}
-use Rattle.domain_memory.proofs.KeptStands.{stands_so}
+use Rattle.no_faults.specs.page_ways.Frame.{frame_in}
+use Rattle.no_faults.proofs.OfDomainMemory.KeptStands.{stands_so}
 use Rattle.domain_state.proofs.StaysWithin.{within_kept}
 use Rattle.domain_state.proofs.laws.a_history_goes_on_over_changes.Goals as goal
 

@@ -1,7 +1,7 @@
 use Rattle.std.proofs.Common.{◌∙◌, sym, ap, subst}
 use Rattle.std.specs.FinMap.{empty}
-use Rattle.domain_layout.specs.Reached.{Frame}
-use Rattle.domain_making.specs.Making.{IsMade, pages_in_use}
+use Rattle.no_faults.specs.domain_layout.Reached.{Frame}
+use Rattle.no_faults.specs.domain_making.Making.{IsMade, pages_in_use}
 use Rattle.domain_state.proofs.Resting.{made_rests}
 use Rattle.domain_state.proofs.Unmoved.{none_yet}
 use Rattle.domain_state.proofs.making.make.Goals as goal

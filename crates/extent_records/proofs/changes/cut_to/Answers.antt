@@ -1,7 +1,7 @@
 use Rattle.std.proofs.Common.{◌≡◌, ℕ, cond, ltb, ap, ◌∙◌}
 use Rattle.extent_maps.specs.declared.run.PagePlace.TheVariants.{Absent}
 use Rattle.extent_maps.specs.Runs.{place_of}
-use Rattle.record_table.specs.Records.{kind_of}
+use Rattle.cell_records.specs.Records.{kind_of}
 use Rattle.extent_records.specs.Writing.{places_from, places_in}
 use Rattle.extent_records.proofs.RecordLemmas.{least_same}
 use Rattle.extent_records.proofs.BackLemmas.{back_fits, suits_back}

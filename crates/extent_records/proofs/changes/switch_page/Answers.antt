@@ -1,6 +1,6 @@
 use Rattle.std.proofs.Common.{arith}
 use Rattle.extent_maps.specs.declared.run.PagePlace.TheVariants.{At}
-use Rattle.record_table.specs.Records.{kind_of}
+use Rattle.cell_records.specs.Records.{kind_of}
 use Rattle.extent_records.specs.Writing.{places_in}
 use Rattle.extent_records.proofs.RecordLemmas.{has_home, suits_changed, suits_record}
 use Rattle.extent_records.proofs.changes.switch_page.Goals as goal

@@ -1,5 +1,5 @@
 use Rattle.std.proofs.Common.{◌<◌, length, sym, subst}
-use Rattle.record_table.specs.Records.{kind_of}
+use Rattle.cell_records.specs.Records.{kind_of}
 use Rattle.extent_records.specs.Writing.{AllSuit, HasRows, most_rows, rows_for}
 use Rattle.extent_records.proofs.RecordLemmas.{written, refused, suits_runs}
 use Rattle.extent_records.proofs.changes.write_map.Goals as goal

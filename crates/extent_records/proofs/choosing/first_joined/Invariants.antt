@@ -1,5 +1,5 @@
 use Rattle.std.proofs.Common.{take}
-use Rattle.record_table.specs.declared.record.Record.{Record}
+use Rattle.cell_records.specs.declared.record.Record.{Record}
 use Rattle.extent_records.specs.Chains.{IsNone, Joins, Takes}
 use Rattle.extent_records.proofs.choosing.first_joined.Given as goal
 

@@ -1,7 +1,7 @@
 use Rattle.std.proofs.Common.{sym, subst}
 use Rattle.extent_maps.specs.declared.run.Run.{Run}
 use Rattle.std.specs.Prelude.{List, ◌≤◌, length}
-use Rattle.record_table.specs.Records.{kind_of}
+use Rattle.cell_records.specs.Records.{kind_of}
 use Rattle.extent_records.specs.Listing.{HoldsRuns}
 use Rattle.extent_records.specs.Writing.{AllSuit, IsLeastRecord, dense_kind, most_rows, places_in}
 use Rattle.extent_records.proofs.DenseLemmas.{dense_fits, dense_least, dense_suits}

@@ -1,5 +1,5 @@
 use Rattle.std.proofs.Common.{arith}
-use Rattle.record_table.specs.Records.{kind_of}
+use Rattle.cell_records.specs.Records.{kind_of}
 use Rattle.extent_records.proofs.ListingLemmas.{few_rows, holds_runs}
 use Rattle.extent_records.proofs.listing.holding.Goals as goal
 

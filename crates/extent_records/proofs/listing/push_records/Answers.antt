@@ -1,5 +1,5 @@
 use Rattle.std.proofs.Common.{◌-◌, drop, arith}
-use Rattle.record_table.specs.Records.{kind_of}
+use Rattle.cell_records.specs.Records.{kind_of}
 use Rattle.extent_maps.proofs.EditLemmas.{drop_runs, take_runs}
 use Rattle.extent_records.proofs.ListingLemmas.{adds_all, adds_min}
 use Rattle.extent_records.proofs.listing.push_records.Goals as goal

@@ -1,5 +1,5 @@
 use Rattle.std.proofs.Common.{◌-◌, ◌/◌, length, drop, subst}
-use Rattle.record_table.specs.Records.{kind_of}
+use Rattle.cell_records.specs.Records.{kind_of}
 use Rattle.extent_maps.proofs.EditLemmas.{drop_runs, take_runs}
 use Rattle.extent_records.specs.Listing.{HoldsRuns}
 use Rattle.extent_records.proofs.HalfLemmas.{all_others, parts_for}

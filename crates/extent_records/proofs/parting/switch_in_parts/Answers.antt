@@ -1,7 +1,7 @@
 use Rattle.std.proofs.Common.{◌≡◌, ◌∙◌, false, arith, ap, length, subst, sym}
 use Rattle.extent_maps.specs.declared.run.PagePlace.TheVariants.{At}
 use Rattle.extent_maps.specs.Runs.{place_of}
-use Rattle.record_table.specs.Records.{kind_of}
+use Rattle.cell_records.specs.Records.{kind_of}
 use Rattle.extent_records.specs.Writing.{AllSuit, is_of_holes, places_in}
 use Rattle.extent_records.proofs.HalfLemmas.{chain_extents, suits_other, switched_few}
 use Rattle.extent_records.proofs.RecordLemmas.{has_home, suits_changed, suits_record, suits_runs}

@@ -1,5 +1,5 @@
 use Rattle.std.proofs.Common.{sym, subst}
-use Rattle.record_table.specs.declared.record.Record.TheVariants.{DenseExtents}
+use Rattle.cell_records.specs.declared.record.Record.TheVariants.{DenseExtents}
 use Rattle.extent_records.specs.Writing.{HasRows}
 use Rattle.extent_records.proofs.WritingLemmas.{dense_extents_are}
 use Rattle.extent_records.proofs.writing.dense_extents.Goals as goal

@@ -1,5 +1,5 @@
 use Rattle.std.proofs.Common.{sym, subst}
-use Rattle.record_table.specs.declared.record.Record.TheVariants.{Extents}
+use Rattle.cell_records.specs.declared.record.Record.TheVariants.{Extents}
 use Rattle.extent_records.specs.Writing.{HasRows}
 use Rattle.extent_records.proofs.WritingLemmas.{extents_are}
 use Rattle.extent_records.proofs.writing.extents.Goals as goal

@@ -1,5 +1,5 @@
 use Rattle.std.proofs.Common.{sym, subst}
-use Rattle.record_table.specs.declared.record.Record.TheVariants.{ShortDense}
+use Rattle.cell_records.specs.declared.record.Record.TheVariants.{ShortDense}
 use Rattle.extent_records.specs.Writing.{HasRows}
 use Rattle.extent_records.proofs.WritingLemmas.{short_dense_are}
 use Rattle.extent_records.proofs.writing.short_dense.Goals as goal

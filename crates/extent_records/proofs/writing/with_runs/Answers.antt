@@ -1,5 +1,5 @@
 use Rattle.std.proofs.Common.{sym, subst}
-use Rattle.record_table.specs.Records.{kind_of}
+use Rattle.cell_records.specs.Records.{kind_of}
 use Rattle.extent_records.specs.Writing.{AreRowsFrom}
 use Rattle.extent_records.proofs.WritingLemmas.{rows_of_runs}
 use Rattle.extent_records.proofs.writing.with_runs.Goals as goal

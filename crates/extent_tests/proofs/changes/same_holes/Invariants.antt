@@ -1,5 +1,5 @@
 use Rattle.std.proofs.Common.{◌≡◌}
-use Rattle.record_table.specs.Records.{kind_of}
+use Rattle.extent_records.specs.cell_records.Records.{kind_of}
 use Rattle.extent_records.specs.Writing.{IsMapRecord, hole_kind}
 use Rattle.extent_tests.proofs.changes.same_holes.Given as goal
 

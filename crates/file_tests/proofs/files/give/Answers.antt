@@ -1,5 +1,5 @@
-use Rattle.memory_store.specs.Homes.{pages_of}
-use Rattle.domain_base.specs.declared.version.Version.TheVariants.{Four}
+use Rattle.index_pages.specs.page_store.Homes.{pages_of}
+use Rattle.index_pages.specs.domain_base.declared.version.Version.TheVariants.{Four}
 use Rattle.file_tests.proofs.Kept.{given_or_kept}
 use Rattle.file_tests.proofs.files.give.Goals as goal
 

@@ -1,7 +1,7 @@
 use Rattle.std.proofs.Common.{◌∙◌, ◌≤◌, IsSome, ap, rules, subst}
-use Rattle.extent_maps.specs.Runs.{home_at}
-use Rattle.memory_store.specs.Homes.{pages_of}
-use Rattle.domain_base.specs.declared.version.Version.TheVariants.{Four}
+use Rattle.index_pages.specs.extent_maps.Runs.{home_at}
+use Rattle.index_pages.specs.page_store.Homes.{pages_of}
+use Rattle.index_pages.specs.domain_base.declared.version.Version.TheVariants.{Four}
 use Rattle.file_tests.proofs.Kept.{held, may_move, moved_or_kept, together}
 use Rattle.file_tests.proofs.moves.move_page.Goals as goal
 

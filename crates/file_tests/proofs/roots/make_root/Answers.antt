@@ -1,7 +1,7 @@
 use Rattle.std.proofs.Common.{ap}
-use Rattle.memory_store.specs.Homes.{pages_of}
-use Rattle.bitfile_core.specs.declared.bitfiles.Bitfiles.{Bitfiles}
-use Rattle.bitfile_core.specs.Creation.{root_tag}
+use Rattle.index_pages.specs.page_store.Homes.{pages_of}
+use Rattle.index_pages.specs.fileset_files.declared.bitfiles.Bitfiles.{Bitfiles}
+use Rattle.index_pages.specs.fileset_files.Creation.{root_tag}
 use Rattle.file_tests.proofs.Kept.{created}
 use Rattle.file_tests.proofs.roots.make_root.Goals as goal
 

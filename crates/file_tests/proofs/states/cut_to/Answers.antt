@@ -1,4 +1,4 @@
-use Rattle.memory_store.specs.Homes.{pages_of}
+use Rattle.index_pages.specs.page_store.Homes.{pages_of}
 use Rattle.file_tests.proofs.states.cut_to.Goals as goal
 
 pub returns : goal.returns

@@ -1,6 +1,6 @@
 use Rattle.std.proofs.Common.{Option, Some, IsSomeAnd, ◌≡◌, ◌∙◌, subst, sym}
-use Rattle.memory_store.specs.Homes.{pages_of}
-use Rattle.bitfile_core.specs.declared.attributes.Attributes.{Attributes}
+use Rattle.index_pages.specs.page_store.Homes.{pages_of}
+use Rattle.index_pages.specs.fileset_files.declared.attributes.Attributes.{Attributes}
 use Rattle.file_tests.proofs.states.describe.Goals as goal
 
 pub returns-clause-world : goal.returns-clause-world

@@ -1,6 +1,6 @@
-use Rattle.memory_store.specs.Homes.{pages_of}
-use Rattle.domain_base.specs.declared.version.Version.TheVariants.{Four}
-use Rattle.extent_maps.specs.declared.run.PagePlace.TheVariants.{At}
+use Rattle.index_pages.specs.page_store.Homes.{pages_of}
+use Rattle.index_pages.specs.domain_base.declared.version.Version.TheVariants.{Four}
+use Rattle.index_pages.specs.extent_maps.declared.run.PagePlace.TheVariants.{At}
 use Rattle.file_tests.proofs.states.give_one.Goals as goal
 
 pub returns : goal.returns

@@ -1,8 +1,8 @@
 use Rattle.std.proofs.Common.{ℕ, subst, sym}
-use Rattle.domain_base.specs.declared.version.Version.TheVariants.{Four}
-use Rattle.memory_store.specs.Homes.{pages_of}
-use Rattle.bitfile_core.specs.State.{with_state}
-use Rattle.bitfile_laws.specs.States.{HaveStates, new_state}
+use Rattle.index_pages.specs.domain_base.declared.version.Version.TheVariants.{Four}
+use Rattle.index_pages.specs.page_store.Homes.{pages_of}
+use Rattle.index_pages.specs.fileset_files.State.{with_state}
+use Rattle.index_pages.specs.fileset_files.States.{HaveStates, new_state}
 use Rattle.file_tests.proofs.Kept.{created}
 use Rattle.file_tests.specs.Worlds.{new_directory}
 use Rattle.file_tests.proofs.states.make_directory.Goals as goal

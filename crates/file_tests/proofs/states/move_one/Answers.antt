@@ -1,8 +1,8 @@
 use Rattle.std.proofs.Common.{◌∙◌, ◌≤◌, IsSome, ap, rules, subst}
-use Rattle.extent_maps.specs.Runs.{home_at}
-use Rattle.extent_maps.specs.declared.run.PagePlace.TheVariants.{At}
-use Rattle.memory_store.specs.Homes.{pages_of}
-use Rattle.domain_base.specs.declared.version.Version.TheVariants.{Four}
+use Rattle.index_pages.specs.extent_maps.Runs.{home_at}
+use Rattle.index_pages.specs.extent_maps.declared.run.PagePlace.TheVariants.{At}
+use Rattle.index_pages.specs.page_store.Homes.{pages_of}
+use Rattle.index_pages.specs.domain_base.declared.version.Version.TheVariants.{Four}
 use Rattle.file_tests.proofs.Kept.{held, may_move, together}
 use Rattle.file_tests.proofs.states.move_one.Goals as goal
 

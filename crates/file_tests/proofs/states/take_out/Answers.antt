@@ -1,10 +1,10 @@
 use Rattle.std.proofs.Common.{subst, sym}
-use Rattle.memory_store.specs.Homes.{pages_of}
-use Rattle.bitfile_core.specs.declared.bitfiles.Bitfiles.{Bitfiles}
-use Rattle.bitfile_core.specs.Changes.{without_chain}
-use Rattle.bitfile_core.specs.State.{without_state}
-use Rattle.bitfile_core.specs.Together.{AreTogether}
-use Rattle.bitfile_laws.specs.States.{HaveStates}
+use Rattle.index_pages.specs.page_store.Homes.{pages_of}
+use Rattle.index_pages.specs.fileset_files.declared.bitfiles.Bitfiles.{Bitfiles}
+use Rattle.index_pages.specs.fileset_files.Changes.{without_chain}
+use Rattle.index_pages.specs.fileset_files.State.{without_state}
+use Rattle.index_pages.specs.fileset_files.Together.{AreTogether}
+use Rattle.index_pages.specs.fileset_files.States.{HaveStates}
 use Rattle.file_tests.proofs.states.take_out.Goals as goal
 
 pub returns-clause-world : goal.returns-clause-world

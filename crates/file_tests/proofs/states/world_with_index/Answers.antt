@@ -1,5 +1,5 @@
 use Rattle.std.proofs.Common.{None, refl}
-use Rattle.memory_store.specs.Homes.{pages_of}
+use Rattle.index_pages.specs.page_store.Homes.{pages_of}
 use Rattle.file_tests.proofs.states.world_with_index.Goals as goal
 
 pub returns : goal.returns

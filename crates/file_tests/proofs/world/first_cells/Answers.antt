@@ -1,10 +1,10 @@
 use Rattle.std.proofs.Common.{◌≡◌, ◌∙◌, ℕ, ◌-◌, Bool, cond, nat_eq, List, [], ◌∷◌, ◌++◌, length, slice_index, Option, Some, None, IsSomeAnd, ap, subst, sym, ⊎_elim}
 use Rattle.std.proofs.lemmas.Bool.{cases_Bool, eqb-true}
-use Rattle.domain_base.specs.declared.place.Home.{Home}
-use Rattle.memory_store.specs.Homes.{pages_of}
-use Rattle.bmt_mcells.specs.CellPage.{next_of}
-use Rattle.free_cells.specs.Cells.{Cells, JoinsPage, is_closed, table_of, with_page_last}
-use Rattle.free_cells.proofs.Belongs.{last_leads, some_and}
+use Rattle.index_pages.specs.domain_base.declared.place.Home.{Home}
+use Rattle.index_pages.specs.page_store.Homes.{pages_of}
+use Rattle.index_pages.specs.metadata_cells.CellPage.{next_of}
+use Rattle.index_pages.specs.free_cells.Cells.{Cells, JoinsPage, is_closed, table_of, with_page_last}
+use Rattle.index_pages.proofs.OfFreeCells.Belongs.{last_leads, some_and}
 use Rattle.file_tests.specs.First.{home_at}
 use Rattle.file_tests.proofs.world.first_cells.Goals as goal
 

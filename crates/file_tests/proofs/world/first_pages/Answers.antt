@@ -1,8 +1,8 @@
 use Rattle.std.proofs.Common.{IsSomeAnd, subst, sym}
-use Rattle.domain_base.specs.declared.place.Home.{Home}
-use Rattle.memory_store.specs.Homes.{pages_of}
-use Rattle.bmt_mcells.specs.CellPage.{IsEmptyPage}
-use Rattle.free_cells.proofs.PutThere.{there}
+use Rattle.index_pages.specs.domain_base.declared.place.Home.{Home}
+use Rattle.index_pages.specs.page_store.Homes.{pages_of}
+use Rattle.index_pages.specs.metadata_cells.CellPage.{IsEmptyPage}
+use Rattle.index_pages.proofs.OfFreeCells.PutThere.{there}
 use Rattle.file_tests.proofs.world.first_pages.Goals as goal
 
 pub returns : goal.returns

@@ -1,12 +1,12 @@
 use Rattle.std.proofs.Common.{◌∙◌, ◌++◌, ◌∷◌, [], List, ap, subst, sym}
-use Rattle.domain_base.specs.declared.place.Home.{Home}
-use Rattle.memory_store.specs.Homes.{pages_of}
-use Rattle.tag_dirs.specs.declared.dir.TagPlace.{TagPlace}
-use Rattle.tag_dirs.specs.Directory.{AddsPage}
-use Rattle.free_space.specs.Spaces.{Spaces}
-use Rattle.bitfile_core.specs.Creation.{IsNewDirectory}
-use Rattle.bitfile_core.specs.Together.{HasTogether}
-use Rattle.bitfile_core.proofs.NewDirectory.{first_new}
+use Rattle.index_pages.specs.domain_base.declared.place.Home.{Home}
+use Rattle.index_pages.specs.page_store.Homes.{pages_of}
+use Rattle.index_pages.specs.tag_dirs.declared.dir.TagPlace.{TagPlace}
+use Rattle.index_pages.specs.tag_dirs.Directory.{AddsPage}
+use Rattle.index_pages.specs.free_space.Spaces.{Spaces}
+use Rattle.index_pages.specs.fileset_files.Creation.{IsNewDirectory}
+use Rattle.index_pages.specs.fileset_files.Together.{HasTogether}
+use Rattle.index_pages.proofs.OfFilesetFiles.NewDirectory.{first_new}
 use Rattle.file_tests.specs.First.{IsEmpty}
 use Rattle.file_tests.proofs.FirstFiles.{first_empty, first_together}
 use Rattle.file_tests.proofs.world.new_world.Goals as goal

@@ -1,7 +1,7 @@
 use Rattle.std.proofs.Common.{◌≡◌, ℕ, ◌+◌, ◌-◌, ◌<◌, Bool, true, false, not, List, length, drop, IsTrue, refl, sym, ap, subst, ◌∙◌, arith}
 use Rattle.std.specs.FinMap.{entries}
 use Rattle.std.specs.FinMap.Entries.{is_sorted, put}
-use Rattle.fileset_model.specs.Orders.{Path, path_cmp}
+use Rattle.fileset_values.specs.Orders.{Path, path_cmp}
 use Rattle.fileset_model.specs.Paths.{same_path}
 use Rattle.fileset_model.specs.Apply.{moved_path}
 use Rattle.fileset_model.proofs.MoveLemmas.{moved_map, moved_map-none, moved_map-skip, moved_map-step, sorted_entries}

@@ -2,7 +2,7 @@ use Rattle.std.proofs.Common.{◌≡◌, ℕ, List, ◌+◌, ◌-◌, ◌%◌, �
 use Rattle.std.proofs.lemmas.List.FromFn.{length-map-range_with_len}
 use Rattle.std.specs.List.{range_with_len}
 use Rattle.std.specs.FinMap.{from_sorted, get}
-use Rattle.domain_base.specs.Page.{zero_bytes}
+use Rattle.fileset_values.specs.domain_base.Page.{zero_bytes}
 use Rattle.fileset_model.specs.Pages.{Pages, byte_at}
 use Rattle.fileset_model.proofs.PageLemmas.{byte_at-page, run-range_with_len}
 use Rattle.fileset_model.proofs.page_map.bytes_in_page.Goals as goal

@@ -2,7 +2,7 @@ use Rattle.std.proofs.Common.{◌≡◌, IsTrue, rules, subst, sym}
 use Rattle.std.proofs.lemmas.Fn.{filter_same}
 use Rattle.std.specs.Ordering.{nat_cmp}
 use Rattle.std.specs.FinMap.Entries.{is_sorted, where_key}
-use Rattle.sorted_entries.proofs.EntryLemmas.{is_sorted_where}
+use Rattle.sorted_sets.proofs.EntryLemmas.{is_sorted_where}
 use Rattle.fileset_model.proofs.ChangeLemmas.{begins_below}
 use Rattle.fileset_model.proofs.page_map.keep_below.Goals as goal
 

@@ -1,5 +1,5 @@
 use Rattle.std.specs.Ordering.{nat_cmp}
-use Rattle.sorted_entries.proofs.EntryLemmas.{get-from_sorted}
+use Rattle.sorted_sets.proofs.EntryLemmas.{get-from_sorted}
 use Rattle.fileset_model.proofs.page_map.page_or.Goals as goal
 
 pub returns-in-Some : goal.returns-in-Some

@@ -1,7 +1,7 @@
 use Rattle.std.proofs.Common.{arith}
 use Rattle.std.proofs.lemmas.Grind.{common_steps}
 use Rattle.std.specs.Ordering.{nat_cmp}
-use Rattle.sorted_entries.proofs.EntryLemmas.{put_each-append}
+use Rattle.sorted_sets.proofs.EntryLemmas.{put_each-append}
 use Rattle.fileset_model.proofs.page_map.put_pages.Goals as goal
 
 pub loop-q-preserved : goal.loop-q-preserved

@@ -1,7 +1,7 @@
 use Rattle.std.proofs.Common.{◌≡◌, ◌+◌, ◌≤◌, length, vec_len, vec_capacity, IsTrue}
 use Rattle.std.specs.Ordering.{nat_cmp}
 use Rattle.std.specs.FinMap.Entries.{is_sorted}
-use Rattle.sorted_entries.specs.Entries.{put_each}
+use Rattle.sorted_sets.specs.Entries.{put_each}
 use Rattle.fileset_model.proofs.page_map.put_pages.Given as goal
 
 abbrev pub invariant-loop-q : goal.invariant-loop-q

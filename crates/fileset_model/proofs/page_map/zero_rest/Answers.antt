@@ -3,9 +3,9 @@ use Rattle.std.specs.Option.{option_map_or}
 use Rattle.std.specs.Ordering.{nat_cmp}
 use Rattle.std.specs.Cmp.{nat_cmp_total}
 use Rattle.std.specs.FinMap.Entries.{put}
-use Rattle.domain_base.specs.Page.{overwritten}
-use Rattle.sorted_entries.specs.Entries.{IsPlaceOf}
-use Rattle.sorted_entries.proofs.EntryLemmas.{find_at_place, put_at_place, sorted_at_place}
+use Rattle.fileset_values.specs.domain_base.Page.{overwritten}
+use Rattle.sorted_sets.specs.Entries.{IsPlaceOf}
+use Rattle.sorted_sets.proofs.EntryLemmas.{find_at_place, put_at_place, sorted_at_place}
 use Rattle.fileset_model.proofs.ChangeLemmas.{cut_page, drop-zero_bytes, take-rest}
 use Rattle.fileset_model.proofs.page_map.zero_rest.Goals as goal
 

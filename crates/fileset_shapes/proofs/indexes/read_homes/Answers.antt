@@ -1,9 +1,9 @@
 use Rattle.std.proofs.Common.{◌≡◌, ◌∙◌, List, None, Some, sym, ap, subst}
 use Rattle.std.specs.Option.{option_copied}
-use Rattle.domain_base.specs.declared.place.Home.{Home}
-use Rattle.tag_dirs.specs.TagPage.{next_of}
-use Rattle.bitfile_core.specs.Shown.{AreIndexPages}
-use Rattle.domain_layout.specs.Reached.{index_way, on_volume}
+use Rattle.filesets_reading.specs.domain_base.declared.place.Home.{Home}
+use Rattle.filesets_reading.specs.tag_dirs.TagPage.{next_of}
+use Rattle.filesets_reading.specs.fileset_files.Shown.{AreIndexPages}
+use Rattle.filesets_reading.specs.domain_layout.Reached.{index_way, on_volume}
 use Rattle.filesets_reading.proofs.Ways.{IsWayTo}
 use Rattle.fileset_shapes.specs.Found.{index_shown}
 use Rattle.fileset_shapes.proofs.IndexPages.{index_begins, index_comes, index_ends, index_on}

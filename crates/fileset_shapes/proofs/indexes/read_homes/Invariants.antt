@@ -1,4 +1,4 @@
-use Rattle.domain_layout.specs.Reached.{index_way}
+use Rattle.filesets_reading.specs.domain_layout.Reached.{index_way}
 use Rattle.fileset_shapes.specs.Indexes.{IsWholeIndex}
 use Rattle.filesets_reading.proofs.Ways.{IsWayTo}
 use Rattle.fileset_shapes.proofs.indexes.read_homes.Given as goal

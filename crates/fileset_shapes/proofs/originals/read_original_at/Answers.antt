@@ -1,7 +1,7 @@
 use Rattle.std.proofs.Common.{◌∙◌, refl, sym, subst}
 use Rattle.std.specs.Prelude.{IfSome}
 use Rattle.std.specs.Option.{option_and_then}
-use Rattle.domain_layout.specs.Seen.{seen_in}
+use Rattle.filesets_reading.specs.domain_layout.Seen.{seen_in}
 use Rattle.filesets_reading.specs.Seen.{HasFewHomes, IsSeenThere}
 use Rattle.fileset_shapes.proofs.ReadOriginals.{index_whole, leads_there, original_none, original_some}
 use Rattle.fileset_shapes.proofs.originals.read_original_at.Goals as goal

@@ -1,8 +1,8 @@
 use Rattle.std.proofs.Common.{◌≡◌, ◌∙◌, Some, false, true, refl, ap}
-use Rattle.fileset_table.specs.Table.{is_original}
-use Rattle.fileset_table.specs.declared.slot.SlotItem.{SlotItem}
-use Rattle.fileset_table.specs.declared.slot.FilesetEntry.{FilesetEntry}
-use Rattle.fileset_table.specs.declared.slot.SlotItem.TheVariants as slot
+use Rattle.filesets_reading.specs.fileset_table.Table.{is_original}
+use Rattle.filesets_reading.specs.fileset_table.declared.slot.SlotItem.{SlotItem}
+use Rattle.filesets_reading.specs.fileset_table.declared.slot.FilesetEntry.{FilesetEntry}
+use Rattle.filesets_reading.specs.fileset_table.declared.slot.SlotItem.TheVariants as slot
 use Rattle.page_ways.specs.Frame.{frame_in}
 use Rattle.fileset_shapes.proofs.SeenShapes.{clones, in_slot, of_original, sees_clone}
 use Rattle.fileset_shapes.proofs.shapes.read_clone_in.Goals as goal

@@ -1,5 +1,5 @@
 use Rattle.std.proofs.Common.{None, refl}
-use Rattle.fileset_table.specs.declared.slot.SlotItem.TheVariants as slot
+use Rattle.filesets_reading.specs.fileset_table.declared.slot.SlotItem.TheVariants as slot
 use Rattle.page_ways.specs.Frame.{frame_in}
 use Rattle.fileset_shapes.proofs.SeenShapes.{in_slot, originals, sees_original}
 use Rattle.fileset_shapes.proofs.shapes.read_original_in.Goals as goal

@@ -1,7 +1,7 @@
 use Rattle.std.proofs.Common.{◌≡◌, ℕ, ◌+◌, ◌<◌, List, Some, slice_get, refl, sym, subst, arith, length, Vec, Global}
 use Rattle.std.proofs.lemmas.Option.{slice_get_read}
-use Rattle.domain_base.specs.declared.place.Tag.{Tag}
-use Rattle.tag_dirs.specs.declared.dir.TagPlace.{TagPlace}
+use Rattle.filesets_reading.specs.domain_base.declared.place.Tag.{Tag}
+use Rattle.filesets_reading.specs.tag_dirs.declared.dir.TagPlace.{TagPlace}
 use Rattle.fileset_shapes.specs.Tags.{IsUsedOnFirstEntries, ListsOnce}
 use Rattle.fileset_shapes.proofs.UsedTags.{entries_end, entry_more, entry_none}
 use Rattle.fileset_shapes.proofs.tags.push_tags.Goals as goal

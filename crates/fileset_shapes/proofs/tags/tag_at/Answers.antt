@@ -1,6 +1,6 @@
 use Rattle.std.proofs.Common.{◌≡◌, ◌∙◌, ◌+◌, ◌*◌, Some, sym, ap, arith}
 use Rattle.std.specs.Option.{option_copied}
-use Rattle.record_table.specs.Fields.{number_at}
+use Rattle.filesets_reading.specs.cell_records.Fields.{number_at}
 use Rattle.fileset_shapes.proofs.UsedTags.{unused_slot}
 use Rattle.fileset_shapes.proofs.tags.tag_at.Goals as goal
 

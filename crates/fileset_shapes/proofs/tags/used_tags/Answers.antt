@@ -1,5 +1,5 @@
 use Rattle.std.proofs.Common.{◌≡◌, ℕ, length, ap, subst, arith}
-use Rattle.tag_dirs.specs.declared.dir.TagPlace.{TagPlace}
+use Rattle.filesets_reading.specs.tag_dirs.declared.dir.TagPlace.{TagPlace}
 use Rattle.fileset_shapes.specs.Tags.{IsUsedOnFirst, ListsOnce}
 use Rattle.fileset_shapes.proofs.UsedTags.{pages_end}
 use Rattle.fileset_shapes.proofs.tags.used_tags.Goals as goal

@@ -1,6 +1,6 @@
 use Rattle.std.proofs.Common.{◌∙◌, [], ◌∷◌, ◌++◌, drop, rules, ap, subst, sym, length}
-use Rattle.record_table.specs.Fields.{Fit, number_at}
-use Rattle.record_table.specs.Records.{spelled}
+use Rattle.metadata_cells.specs.cell_records.Fields.{Fit, number_at}
+use Rattle.metadata_cells.specs.cell_records.Records.{spelled}
 use Rattle.fileset_table.specs.Page.{HasHeader}
 use Rattle.fileset_table.proofs.Slots.{header_numbers, header_there, header_widths, made_there, rest_stays}
 use Rattle.fileset_table.proofs.writing.put_header.Goals as goal

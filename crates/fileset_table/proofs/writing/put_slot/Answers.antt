@@ -1,5 +1,5 @@
 use Rattle.std.proofs.Common.{◌∙◌, ◌+◌, ◌*◌, ap, length, refl, subst, sym, arith}
-use Rattle.domain_base.specs.Page.{zero_bytes}
+use Rattle.metadata_cells.specs.domain_base.Page.{zero_bytes}
 use Rattle.fileset_table.specs.Writing.{SetsSlot}
 use Rattle.fileset_table.proofs.Slots.{sets_slot, whole_before}
 use Rattle.fileset_table.proofs.writing.put_slot.Goals as goal

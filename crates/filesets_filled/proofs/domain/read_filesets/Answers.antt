@@ -1,6 +1,6 @@
-use Rattle.dir_rows.proofs.Parts.{if_ok_weaker}
-use Rattle.domain_layout.proofs.NoTables.{none_of_extents}
-use Rattle.filesets_reading.specs.Good.{frame_at}
+use Rattle.fileset_shapes.proofs.OfDirectoryRows.Parts.{if_ok_weaker}
+use Rattle.fileset_shapes.proofs.OfDomainLayout.NoTables.{none_of_extents}
+use Rattle.fileset_shapes.specs.filesets_reading.Good.{frame_at}
 use Rattle.fileset_shapes.specs.Shapes.{IsDomain}
 use Rattle.filesets_filled.specs.Slots.{IsLaidOut}
 use Rattle.filesets_filled.proofs.FilledSlots.{reads_from}

@@ -1,8 +1,8 @@
 use Rattle.std.proofs.Common.{◌≡◌, ◌∙◌, Option, Some, None, IsSomeAnd, option_copied, refl, sym, ap, subst}
-use Rattle.page_ways.specs.Frame.{frame_in}
-use Rattle.fileset_table.specs.Table.{entry_of}
-use Rattle.fileset_table.specs.declared.slot.FilesetEntry.{FilesetEntry}
-use Rattle.fileset_table.specs.declared.slot.SlotItem.{SlotItem}
+use Rattle.fileset_shapes.specs.page_ways.Frame.{frame_in}
+use Rattle.fileset_shapes.specs.fileset_table.Table.{entry_of}
+use Rattle.fileset_shapes.specs.fileset_table.declared.slot.FilesetEntry.{FilesetEntry}
+use Rattle.fileset_shapes.specs.fileset_table.declared.slot.SlotItem.{SlotItem}
 use Rattle.fileset_shapes.specs.Found.{SeesFileset}
 use Rattle.fileset_shapes.specs.declared.found.FilesetSeen.{FilesetSeen}
 use Rattle.filesets_filled.specs.Slots.{FillsEntry}

@@ -1,6 +1,6 @@
 use Rattle.std.proofs.Common.{◌≡◌, ◌∙◌, ◌^◌, ◌≤◌, [], List, ℕ, sym, ap, subst}
-use Rattle.disk_label.specs.FirstPages.{first_pages}
-use Rattle.disk_label.specs.declared.anchor.Member.{Member}
+use Rattle.domain_layout.specs.disk_label.FirstPages.{first_pages}
+use Rattle.domain_layout.specs.disk_label.declared.anchor.Member.{Member}
 use Rattle.domain_layout.specs.Layout.{IsCellTable}
 use Rattle.domain_layout.specs.Reached.{first_cells}
 use Rattle.filesets_reading.specs.Good.{frame_at}

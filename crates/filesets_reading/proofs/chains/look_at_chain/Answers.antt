@@ -1,4 +1,4 @@
-use Rattle.bmt_mcells.proofs.Linked.{linked}
+use Rattle.domain_layout.proofs.OfMetadataCells.Linked.{linked}
 use Rattle.filesets_reading.proofs.chains.look_at_chain.Goals as goal
 
 pub returns-in-Ok : goal.returns-in-Ok

@@ -1,6 +1,6 @@
 use Rattle.std.proofs.Common.{◌≡◌, ◌∙◌, ◌+◌, ◌*◌, None, Some, sym, ap, arith}
 use Rattle.std.specs.Option.{option_copied}
-use Rattle.record_table.specs.Fields.{number_at}
+use Rattle.domain_layout.specs.cell_records.Fields.{number_at}
 use Rattle.filesets_reading.specs.Chains.{HasLinks, HasLinksAt}
 use Rattle.filesets_reading.proofs.EntryLinks.{at_ok, entry_links}
 use Rattle.filesets_reading.proofs.chains.look_at_entry.Goals as goal

@@ -1,9 +1,9 @@
 use Rattle.std.proofs.Common.{◌≡◌, ◌∙◌, length, List, Some, slice_get, refl, sym, ap, subst, arith, ⊎_elim}
 use Rattle.std.proofs.lemmas.Bool.{cases_lt}
 use Rattle.std.proofs.lemmas.Option.{slice_get_read, slice_get_within}
-use Rattle.tag_dirs.specs.declared.dir.TagPlace.{TagPlace}
+use Rattle.domain_layout.specs.tag_dirs.declared.dir.TagPlace.{TagPlace}
 use Rattle.filesets_reading.specs.Chains.{HaveLinksOn}
-use Rattle.layout_laws.proofs.OnePage.{some_same}
+use Rattle.domain_layout.proofs.OnePage.{some_same}
 use Rattle.filesets_reading.proofs.EntryLinks.{all_links}
 use Rattle.filesets_reading.proofs.FilesThere.{are_unbroken, have_files}
 use Rattle.filesets_reading.proofs.chains.look_at_files.Goals as goal

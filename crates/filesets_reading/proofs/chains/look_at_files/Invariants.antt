@@ -1,5 +1,5 @@
 use Rattle.std.proofs.Common.{◌≡◌, ℕ, ◌<◌, Some, slice_get}
-use Rattle.tag_dirs.specs.declared.dir.TagPlace.{TagPlace}
+use Rattle.domain_layout.specs.tag_dirs.declared.dir.TagPlace.{TagPlace}
 use Rattle.filesets_reading.specs.Chains.{HaveLinksOn}
 use Rattle.filesets_reading.proofs.chains.look_at_files.Given as goal
 

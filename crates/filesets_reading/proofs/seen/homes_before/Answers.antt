@@ -1,7 +1,7 @@
 use Rattle.std.proofs.Common.{◌≡◌, List, subst, arith}
-use Rattle.extent_maps.specs.Runs.{place_of}
-use Rattle.extent_maps.specs.declared.run.PagePlace.TheVariants.{Absent}
-use Rattle.extent_maps.specs.declared.run.Run.{Run}
+use Rattle.domain_layout.specs.extent_maps.Runs.{place_of}
+use Rattle.domain_layout.specs.extent_maps.declared.run.PagePlace.TheVariants.{Absent}
+use Rattle.domain_layout.specs.extent_maps.declared.run.Run.{Run}
 use Rattle.filesets_reading.proofs.Originals.{list_ends, none_behind}
 use Rattle.filesets_reading.proofs.seen.homes_before.Goals as goal
 

@@ -1,4 +1,4 @@
-use Rattle.extent_maps.specs.Runs.{place_of}
+use Rattle.domain_layout.specs.extent_maps.Runs.{place_of}
 use Rattle.filesets_reading.proofs.Originals.{ListsUpTo}
 use Rattle.filesets_reading.proofs.seen.homes_before.Given as goal
 

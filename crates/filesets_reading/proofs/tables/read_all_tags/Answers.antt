@@ -1,6 +1,6 @@
 use Rattle.std.proofs.Common.{◌≡◌, ◌∙◌, ℕ, ◌++◌, ◌∷◌, [], length, List, IsSomeAnd, slice_get, sym, ap, subst, arith, ⊎_elim}
 use Rattle.std.proofs.lemmas.Bool.{cases_lt}
-use Rattle.tag_dirs.specs.declared.dir.TagPlace.{TagPlace}
+use Rattle.domain_layout.specs.tag_dirs.declared.dir.TagPlace.{TagPlace}
 use Rattle.filesets_reading.specs.Tables.{HasTagsOf}
 use Rattle.filesets_reading.proofs.Ways.{get_front, get_seam, pushed}
 use Rattle.filesets_reading.proofs.tables.read_all_tags.Goals as goal

@@ -1,8 +1,8 @@
 use Rattle.std.proofs.Common.{◌≡◌, ◌∙◌, Err, None, Some, IsSomeAnd, sym, ap, subst}
 use Rattle.std.specs.Option.{option_copied}
-use Rattle.fileset_table.specs.Page.{IsTablePage}
-use Rattle.fileset_table.specs.Reading.{Reads}
-use Rattle.fileset_table.specs.Table.{Table}
+use Rattle.domain_layout.specs.fileset_table.Page.{IsTablePage}
+use Rattle.domain_layout.specs.fileset_table.Reading.{Reads}
+use Rattle.domain_layout.specs.fileset_table.Table.{Table}
 use Rattle.filesets_reading.proofs.Layouts.{no_table_page}
 use Rattle.filesets_reading.proofs.tables.read_filesets_table.Goals as goal
 

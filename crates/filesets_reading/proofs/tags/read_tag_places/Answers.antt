@@ -1,10 +1,10 @@
 use Rattle.std.proofs.Common.{◌≡◌, ◌∙◌, ◌++◌, ◌∷◌, [], ℕ, List, None, Some, sym, ap, subst}
 use Rattle.std.specs.Option.{option_copied}
-use Rattle.tag_dirs.specs.declared.dir.TagPlace.{TagPlace}
-use Rattle.tag_dirs.specs.Directory.{IsDirectoryAt}
-use Rattle.domain_base.specs.declared.place.Home.{Home}
-use Rattle.record_table.specs.Fields.{number_at}
-use Rattle.tag_dirs.specs.TagPage.{index_of, next_of}
+use Rattle.domain_layout.specs.tag_dirs.declared.dir.TagPlace.{TagPlace}
+use Rattle.domain_layout.specs.tag_dirs.Directory.{IsDirectoryAt}
+use Rattle.domain_layout.specs.domain_base.declared.place.Home.{Home}
+use Rattle.domain_layout.specs.cell_records.Fields.{number_at}
+use Rattle.domain_layout.specs.tag_dirs.TagPage.{index_of, next_of}
 use Rattle.domain_layout.specs.Reached.{on_volume}
 use Rattle.filesets_reading.specs.Good.{frame_at}
 use Rattle.filesets_reading.proofs.TagPlaces.{TagWalk, tags_begin, tags_come, tags_end, tags_on}

@@ -1,7 +1,7 @@
 use Rattle.std.proofs.Common.{◌<◌, get_or, ap, sym, ◌∙◌, subst}
 use Rattle.std.specs.FinSet.{remove}
-use Rattle.storage_bitmap.specs.VolumePages.{VolumePages}
-use Rattle.storage_bitmap.proofs.Used.{with_used}
+use Rattle.free_space.specs.VolumePages.{VolumePages}
+use Rattle.free_space.proofs.Used.{with_used}
 use Rattle.free_space.proofs.Changing.{clear_none, clear_more, one_at}
 use Rattle.free_space.proofs.volume.clear_each.Goals as goal
 

@@ -1,5 +1,5 @@
 use Rattle.std.proofs.Common.{◌<◌, get_or, sym, ◌∙◌, subst}
-use Rattle.storage_bitmap.specs.VolumePages.{VolumePages}
+use Rattle.free_space.specs.VolumePages.{VolumePages}
 use Rattle.free_space.specs.declared.waiting.PageUse.TheVariants.{Data}
 use Rattle.free_space.proofs.Apart.{among_at}
 use Rattle.free_space.proofs.Freeing.{free_none, free_more}

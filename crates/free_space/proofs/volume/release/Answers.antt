@@ -1,6 +1,6 @@
 use Rattle.std.proofs.Common.{◌<◌, get_or, rules, sym, ◌∙◌, subst}
 use Rattle.std.proofs.lemmas.Fn.{filter_same}
-use Rattle.storage_bitmap.specs.VolumePages.{VolumePages}
+use Rattle.free_space.specs.VolumePages.{VolumePages}
 use Rattle.free_space.specs.declared.waiting.PageUse.TheVariants.{Data}
 use Rattle.free_space.proofs.Apart.{among_at}
 use Rattle.free_space.proofs.Releasing.{release_none, release_more, release_less}

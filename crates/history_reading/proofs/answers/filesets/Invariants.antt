@@ -1,7 +1,7 @@
 use Rattle.std.proofs.Common.{◌≡◌, map, drop}
 use Rattle.history_reading.specs.Reading.{fileset_item_of}
-use Rattle.word_forms.specs.Forms.{each}
-use Rattle.word_forms.proofs.EachLemmas.{behind}
+use Rattle.script_text.specs.word_forms.Forms.{each}
+use Rattle.script_text.proofs.OfWordForms.EachLemmas.{behind}
 use Rattle.history_reading.proofs.answers.filesets.Given as goal
 
 -- the rows so far, and those that the other words say

@@ -1,9 +1,9 @@
 use Rattle.std.proofs.Common.{◌==◌, refl, sym, ◌∙◌}
 use Rattle.std.proofs.lemmas.Bool.{eq-eqb}
-use Rattle.history_text.specs.History.{refusal_number}
+use Rattle.script_text.specs.History.{refusal_number}
 use Rattle.history_reading.specs.Reading.{refusal_at, refusals}
-use Rattle.command_text.proofs.FindLemmas.{find-here, find-next}
-use Rattle.fileset_model.specs.declared.reply.Refusal.TheVariants.{NoFileset}
+use Rattle.script_text.proofs.OfCommandText.FindLemmas.{find-here, find-next}
+use Rattle.script_text.specs.fileset_values.declared.reply.Refusal.TheVariants.{NoFileset}
 use Rattle.history_reading.proofs.Steps.{differs}
 use Rattle.history_reading.proofs.refusals.refusal_at.Goals as goal
 

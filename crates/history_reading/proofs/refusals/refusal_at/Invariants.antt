@@ -1,6 +1,6 @@
 use Rattle.std.proofs.Common.{◌≡◌, ◌==◌, drop}
 use Rattle.std.specs.List.{find}
-use Rattle.history_text.specs.History.{refusal_number}
+use Rattle.script_text.specs.History.{refusal_number}
 use Rattle.history_reading.specs.Reading.{refusal_at}
 use Rattle.history_reading.proofs.refusals.refusal_at.Given as goal
 

@@ -1,7 +1,7 @@
 use Rattle.std.proofs.lemmas.Result.{on_ok_weaker}
-use Rattle.page_ways.specs.Frame.{frame_in}
-use Rattle.metadata_loading.proofs.Brought.{brings_then, fault_then, members_stay}
-use Rattle.metadata_loading.proofs.Image.{brought_agree}
+use Rattle.slot_files.specs.page_ways.Frame.{frame_in}
+use Rattle.image_loading.proofs.Brought.{brings_then, fault_then, members_stay}
+use Rattle.image_loading.proofs.Image.{brought_agree}
 use Rattle.image_loading.proofs.AllThere.{all_there}
 use Rattle.image_loading.proofs.all.load.Goals as goal
 

@@ -1,6 +1,6 @@
 use Rattle.std.proofs.Common.{◌≡◌, Some, None, subst}
-use Rattle.page_ways.specs.Frame.{frame_in}
-use Rattle.table_faults.specs.Read.{IsTableRead}
+use Rattle.slot_files.specs.page_ways.Frame.{frame_in}
+use Rattle.slot_files.specs.cell_faults.Read.{IsTableRead}
 use Rattle.image_loading.proofs.AllThere.{no_files}
 use Rattle.image_loading.proofs.all.load_behind.Goals as goal
 

@@ -1,6 +1,6 @@
 use Rattle.std.proofs.lemmas.Result.{on_ok_weaker}
-use Rattle.page_ways.specs.Frame.{frame_in}
-use Rattle.metadata_loading.proofs.Brought.{brings_then, fault_then, members_stay}
+use Rattle.slot_files.specs.page_ways.Frame.{frame_in}
+use Rattle.image_loading.proofs.Brought.{brings_then, fault_then, members_stay}
 use Rattle.image_loading.proofs.AllThere.{cells_stay, directory_held, indexes_stay, laid_out}
 use Rattle.image_loading.proofs.all.load_files.Goals as goal
 

@@ -1,6 +1,6 @@
 use Rattle.std.proofs.Common.{◌≡◌, ◌∙◌, true, false, sym}
 use Rattle.std.proofs.lemmas.Result.{on_ok_weaker}
-use Rattle.page_ways.specs.Frame.{frame_in}
+use Rattle.slot_files.specs.page_ways.Frame.{frame_in}
 use Rattle.image_loading.proofs.AllThere.{cells_there}
 use Rattle.image_loading.proofs.all.load_said.Goals as goal
 

@@ -1,4 +1,4 @@
-use Rattle.page_ways.specs.Frame.{frame_in}
+use Rattle.slot_files.specs.page_ways.Frame.{frame_in}
 use Rattle.image_loading.proofs.NoneBroken.{some_told, tags_told}
 use Rattle.image_loading.proofs.broken.has_tables_fault.Goals as goal
 

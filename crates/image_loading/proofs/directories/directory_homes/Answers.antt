@@ -1,7 +1,7 @@
 use Rattle.std.proofs.Common.{◌≡◌, ℕ, subst, arith, ⊎_elim}
 use Rattle.std.proofs.lemmas.Bool.{cases_lt}
 use Rattle.std.proofs.lemmas.Option.{slice_get_within}
-use Rattle.page_ways.specs.Frame.{frame_in}
+use Rattle.slot_files.specs.page_ways.Frame.{frame_in}
 use Rattle.slot_files.proofs.SlotFiles.{is_table}
 use Rattle.image_loading.specs.Loaded.{HoldsDirectories}
 use Rattle.image_loading.proofs.directories.directory_homes.Goals as goal

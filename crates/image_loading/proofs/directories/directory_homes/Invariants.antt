@@ -1,5 +1,5 @@
 use Rattle.std.proofs.Common.{ℕ, ◌<◌}
-use Rattle.page_ways.specs.Frame.{frame_in}
+use Rattle.slot_files.specs.page_ways.Frame.{frame_in}
 use Rattle.image_loading.specs.Loaded.{HoldsDirectories}
 use Rattle.image_loading.proofs.directories.directory_homes.Given as goal
 

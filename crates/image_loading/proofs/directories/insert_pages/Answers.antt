@@ -1,6 +1,6 @@
 use Rattle.std.proofs.Common.{◌≡◌, Option, Some, refl, arith}
-use Rattle.domain_base.specs.declared.place.Home.{Home}
-use Rattle.home_sets.specs.Members.{IsIn}
+use Rattle.slot_files.specs.domain_base.declared.place.Home.{Home}
+use Rattle.slot_files.specs.sorted_sets.Members.{IsIn}
 use Rattle.image_loading.proofs.Listed.{hold_all, hold_next, hold_none, place_of}
 use Rattle.image_loading.proofs.directories.insert_pages.Goals as goal
 

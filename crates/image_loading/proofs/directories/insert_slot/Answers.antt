@@ -1,9 +1,9 @@
 use Rattle.std.proofs.Common.{◌≡◌, ℕ, Some, length, refl, sym, arith}
 use Rattle.std.proofs.lemmas.Option.{slice_get_read}
-use Rattle.domain_base.specs.declared.place.Home.{Home}
-use Rattle.filesets_reading.specs.Seen.{home_in}
-use Rattle.home_sets.specs.Members.{IsIn}
-use Rattle.row_faults.specs.declared.there.FileThere.{FileThere}
+use Rattle.slot_files.specs.domain_base.declared.place.Home.{Home}
+use Rattle.slot_files.specs.filesets_reading.Seen.{home_in}
+use Rattle.slot_files.specs.sorted_sets.Members.{IsIn}
+use Rattle.slot_files.specs.directory_faults.declared.there.FileThere.{FileThere}
 use Rattle.image_loading.proofs.Listed.{hold_all, hold_next, hold_none}
 use Rattle.image_loading.proofs.directories.insert_slot.Goals as goal
 

@@ -1,8 +1,8 @@
 use Rattle.std.proofs.Common.{◌≡◌, ℕ, Some}
-use Rattle.domain_base.specs.declared.place.Home.{Home}
-use Rattle.filesets_reading.specs.Seen.{home_in}
-use Rattle.home_sets.specs.Members.{IsIn}
-use Rattle.row_faults.specs.declared.there.FileThere.{FileThere}
+use Rattle.slot_files.specs.domain_base.declared.place.Home.{Home}
+use Rattle.slot_files.specs.filesets_reading.Seen.{home_in}
+use Rattle.slot_files.specs.sorted_sets.Members.{IsIn}
+use Rattle.slot_files.specs.directory_faults.declared.there.FileThere.{FileThere}
 use Rattle.image_loading.specs.Loaded.{Grows}
 use Rattle.image_loading.proofs.Listed.{HoldBelow}
 use Rattle.image_loading.proofs.directories.insert_slot.Given as goal

@@ -1,11 +1,11 @@
 use Rattle.std.proofs.Common.{◌≡◌, ◌∙◌, ℕ, IsSome, refl, arith}
-use Rattle.domain_base.specs.declared.place.Home.{Home}
-use Rattle.domain_layout.specs.Reached.{IsWithin}
-use Rattle.home_sets.specs.Members.{entries}
-use Rattle.numbered_values.specs.Homes.{number_of}
-use Rattle.page_ways.specs.Frame.{frame_in}
-use Rattle.metadata_loading.proofs.Brought.{brings_none, brings_then, members_stay}
-use Rattle.metadata_loading.proofs.Walking.{page_stays}
+use Rattle.slot_files.specs.domain_base.declared.place.Home.{Home}
+use Rattle.slot_files.specs.domain_layout.Reached.{IsWithin}
+use Rattle.slot_files.specs.sorted_sets.Members.{entries}
+use Rattle.slot_files.specs.sorted_sets.Homes.{number_of}
+use Rattle.slot_files.specs.page_ways.Frame.{frame_in}
+use Rattle.image_loading.proofs.Brought.{brings_none, brings_then, members_stay}
+use Rattle.image_loading.proofs.Walking.{page_stays}
 use Rattle.image_loading.proofs.Listed.{entry_of, hold_all, hold_next, hold_none}
 use Rattle.image_loading.proofs.homes.load_homes.Goals as goal
 

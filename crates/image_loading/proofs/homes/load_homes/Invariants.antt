@@ -1,8 +1,8 @@
 use Rattle.std.proofs.Common.{◌≡◌, ℕ, IsSome}
-use Rattle.domain_base.specs.declared.place.Home.{Home}
-use Rattle.domain_layout.specs.Reached.{IsWithin}
-use Rattle.page_ways.specs.Frame.{frame_in}
-use Rattle.metadata_loading.specs.Loading.{Brings}
+use Rattle.slot_files.specs.domain_base.declared.place.Home.{Home}
+use Rattle.slot_files.specs.domain_layout.Reached.{IsWithin}
+use Rattle.slot_files.specs.page_ways.Frame.{frame_in}
+use Rattle.image_loading.specs.Loading.{Brings}
 use Rattle.image_loading.proofs.Listed.{HoldBelow}
 use Rattle.image_loading.proofs.homes.load_homes.Given as goal
 

@@ -1,8 +1,8 @@
 use Rattle.std.proofs.Common.{subst, sym}
-use Rattle.domain_layout.specs.Faults.{HasNoFault}
-use Rattle.attached_list.specs.Found.{HasAllPages}
-use Rattle.page_store.specs.Pages.{Pages}
-use Rattle.page_ways.specs.Frame.{frame_in}
+use Rattle.domain_attaching.specs.domain_layout.Faults.{HasNoFault}
+use Rattle.domain_attaching.specs.fileset_shapes.Found.{HasAllPages}
+use Rattle.domain_attaching.specs.page_store.Pages.{Pages}
+use Rattle.domain_attaching.specs.page_ways.Frame.{frame_in}
 use Rattle.image_tests.proofs.fetched.tell_brought.Goals as goal
 
 pub read_filesets-requires : goal.read_filesets-requires

@@ -1,7 +1,7 @@
 use Rattle.std.proofs.Common.{◌≡◌, ◌∙◌, ◌++◌, [], ◌∷◌, List, length, ap, arith, append_assoc}
-use Rattle.dir_index.specs.Index.{entries_from}
-use Rattle.dir_index.specs.declared.entry.IndexEntry.{IndexEntry}
-use Rattle.domain_layout.specs.DirectoryRules.{entries_in}
+use Rattle.page_faults.specs.directory_pages.Index.{entries_from}
+use Rattle.page_faults.specs.directory_pages.declared.entry.IndexEntry.{IndexEntry}
+use Rattle.page_faults.specs.domain_layout.DirectoryRules.{entries_in}
 use Rattle.index_row_faults.specs.Entries.{placed}
 use Rattle.index_row_faults.specs.declared.entries.EntryAt.{EntryAt}
 use Rattle.index_row_faults.proofs.Read.{entries_whole, placed_more}

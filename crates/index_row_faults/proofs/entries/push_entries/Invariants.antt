@@ -1,5 +1,5 @@
 use Rattle.std.proofs.Common.{◌≡◌, ◌++◌}
-use Rattle.dir_index.specs.Index.{entries_from}
+use Rattle.page_faults.specs.directory_pages.Index.{entries_from}
 use Rattle.index_row_faults.specs.Entries.{placed}
 use Rattle.index_row_faults.proofs.entries.push_entries.Given as goal
 

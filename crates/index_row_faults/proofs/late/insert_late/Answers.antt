@@ -1,8 +1,8 @@
 use Rattle.std.proofs.Common.{◌≡◌, ◌∙◌, ◌+◌, length, refl, sym, subst}
 use Rattle.std.proofs.lemmas.Option.{slice_get_read}
-use Rattle.home_sets.specs.Members.{IsIn}
-use Rattle.home_sets.specs.declared.set.HomeSet.{HomeSet}
-use Rattle.dir_index.specs.declared.entry.IndexEntry.{IndexEntry}
+use Rattle.page_faults.specs.sorted_sets.Members.{IsIn}
+use Rattle.page_faults.specs.sorted_sets.declared.home_set.HomeSet.{HomeSet}
+use Rattle.page_faults.specs.directory_pages.declared.entry.IndexEntry.{IndexEntry}
 use Rattle.std.specs.Prelude.{Option}
 use Rattle.index_row_faults.proofs.Lates.{AreLate, IsTop, is_top, late_put, none_put, stays_top}
 use Rattle.index_row_faults.proofs.late.insert_late.Goals as goal

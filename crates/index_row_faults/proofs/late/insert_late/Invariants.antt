@@ -1,5 +1,5 @@
 use Rattle.std.proofs.Common.{◌≡◌}
-use Rattle.home_sets.specs.Members.{IsIn}
+use Rattle.page_faults.specs.sorted_sets.Members.{IsIn}
 use Rattle.index_row_faults.proofs.Lates.{AreLate, IsTop}
 use Rattle.index_row_faults.proofs.late.insert_late.Given as goal
 

@@ -1,7 +1,7 @@
 use Rattle.std.proofs.Common.{◌∙◌, ap}
 use Rattle.std.specs.List.{count_by}
 use Rattle.std.proofs.lemmas.List.{take_all}
-use Rattle.dir_index.specs.Entries.{hash_of}
+use Rattle.page_faults.specs.directory_pages.Entries.{hash_of}
 use Rattle.index_row_faults.specs.Keys.{has_key, keys_in}
 use Rattle.index_row_faults.proofs.RowsKeyed.{row_keyed}
 use Rattle.index_row_faults.proofs.rows.read_keys.Goals as goal

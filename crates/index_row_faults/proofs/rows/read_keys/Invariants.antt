@@ -1,6 +1,6 @@
 use Rattle.std.proofs.Common.{◌≡◌, ℕ, take}
 use Rattle.std.specs.List.{count_by}
-use Rattle.domain_base.specs.declared.place.Tag.{Tag}
+use Rattle.page_faults.specs.domain_base.declared.place.Tag.{Tag}
 use Rattle.index_row_faults.specs.Counts.{is_key}
 use Rattle.index_row_faults.specs.Keys.{has_key, keys_in}
 use Rattle.index_row_faults.proofs.rows.read_keys.Given as goal

@@ -1,7 +1,7 @@
 use Rattle.std.proofs.Common.{length, refl}
 use Rattle.std.proofs.lemmas.Option.{slice_get_read}
-use Rattle.home_sets.specs.Members.{IsIn}
-use Rattle.row_faults.proofs.Inserted.{all_in, none_in, one_in}
+use Rattle.page_faults.specs.sorted_sets.Members.{IsIn}
+use Rattle.directory_faults.proofs.Inserted.{all_in, none_in, one_in}
 use Rattle.index_row_faults.specs.Totals.{IsSurplusAt}
 use Rattle.index_row_faults.proofs.totals.insert_surplus.Goals as goal
 

@@ -1,5 +1,5 @@
-use Rattle.home_sets.specs.Members.{IsIn}
-use Rattle.row_faults.proofs.Inserted.{AreIn}
+use Rattle.page_faults.specs.sorted_sets.Members.{IsIn}
+use Rattle.directory_faults.proofs.Inserted.{AreIn}
 use Rattle.index_row_faults.specs.Totals.{IsSurplusAt}
 use Rattle.index_row_faults.proofs.totals.insert_surplus.Given as goal
 

@@ -2,7 +2,7 @@ use Rattle.std.proofs.Common.{◌≡◌, ◌+◌, ◌<◌, ◌≤◌, ℕ, List,
 use Rattle.std.specs.BTreeMap.{BTreeMap}
 use Rattle.std.proofs.lemmas.Option.{slice_get-get_or}
 use mathlib.Core.Bool.{false≢true}
-use Rattle.row_faults.proofs.Inserted.{at_among}
+use Rattle.directory_faults.proofs.Inserted.{at_among}
 use Rattle.index_row_faults.specs.Counts.{count_in}
 use Rattle.index_row_faults.specs.Totals.{IsLacking}
 use Rattle.index_row_faults.proofs.Items.{AreSo, so_all, so_more}

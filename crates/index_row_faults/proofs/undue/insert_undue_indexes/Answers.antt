@@ -1,7 +1,7 @@
 use Rattle.std.proofs.Common.{length, refl}
 use Rattle.std.proofs.lemmas.Option.{slice_get_read}
-use Rattle.home_sets.specs.Members.{IsIn}
-use Rattle.row_faults.proofs.Inserted.{none_in, one_in}
+use Rattle.page_faults.specs.sorted_sets.Members.{IsIn}
+use Rattle.directory_faults.proofs.Inserted.{none_in, one_in}
 use Rattle.index_row_faults.specs.Undue.{IsUndueAt}
 use Rattle.index_row_faults.proofs.Undues.{all_undue}
 use Rattle.index_row_faults.proofs.undue.insert_undue_indexes.Goals as goal

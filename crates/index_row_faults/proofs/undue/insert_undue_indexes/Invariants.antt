@@ -1,5 +1,5 @@
-use Rattle.home_sets.specs.Members.{IsIn}
-use Rattle.row_faults.proofs.Inserted.{AreIn}
+use Rattle.page_faults.specs.sorted_sets.Members.{IsIn}
+use Rattle.directory_faults.proofs.Inserted.{AreIn}
 use Rattle.index_row_faults.specs.Undue.{IsUndueAt}
 use Rattle.index_row_faults.proofs.undue.insert_undue_indexes.Given as goal
 

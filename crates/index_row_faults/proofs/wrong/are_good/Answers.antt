@@ -1,7 +1,7 @@
 use Rattle.std.proofs.Common.{◌≡◌, ◌∙◌, length, refl, sym}
 use Rattle.std.proofs.lemmas.Option.{slice_get_read}
 use mathlib.Core.Bool.{false≢true}
-use Rattle.row_faults.proofs.Inserted.{at_among}
+use Rattle.directory_faults.proofs.Inserted.{at_among}
 use Rattle.index_row_faults.specs.Totals.{IsGoodAt}
 use Rattle.index_row_faults.proofs.Items.{so_all, so_more}
 use Rattle.index_row_faults.proofs.wrong.are_good.Goals as goal

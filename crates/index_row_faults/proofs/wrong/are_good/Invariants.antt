@@ -1,4 +1,4 @@
-use Rattle.domain_base.specs.declared.place.Home.{Home}
+use Rattle.page_faults.specs.domain_base.declared.place.Home.{Home}
 use Rattle.index_row_faults.specs.Totals.{IsGoodAt}
 use Rattle.index_row_faults.proofs.Items.{AreSo}
 use Rattle.index_row_faults.proofs.wrong.are_good.Given as goal

@@ -1,9 +1,9 @@
 use Rattle.std.proofs.Common.{◌≡◌, ◌∙◌, ◌⊎◌, ◌↔◌, ℕ, List, None, Contains, IsTrue, length, map, nat_eq, sym, ap, subst, arith}
 use Rattle.std.proofs.lemmas.Bool.{both_ways, eqb-true, false_from_ne_true, not_from_false}
-use Rattle.domain_base.specs.declared.place.Home.{Home}
-use Rattle.home_sets.specs.Members.{IsIn}
-use Rattle.home_sets.specs.declared.set.HomeSet.{HomeSet}
-use Rattle.page_ways.specs.Frame.{frame_in}
+use Rattle.page_faults.specs.domain_base.declared.place.Home.{Home}
+use Rattle.page_faults.specs.sorted_sets.Members.{IsIn}
+use Rattle.page_faults.specs.sorted_sets.declared.home_set.HomeSet.{HomeSet}
+use Rattle.page_faults.specs.page_ways.Frame.{frame_in}
 use Rattle.index_row_faults.specs.Counts.{AreCounts}
 use Rattle.index_row_faults.specs.Entries.{IsLateBefore, entries_on}
 use Rattle.index_row_faults.specs.Totals.{IsShort, IsSurplusAt, IsWrongBy, key_of}

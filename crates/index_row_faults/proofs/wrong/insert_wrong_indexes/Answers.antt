@@ -1,9 +1,9 @@
 use Rattle.std.proofs.Common.{◌≡◌, ◌⊎◌, ◌↔◌, ℕ, List, length, refl, subst, arith}
 use Rattle.std.proofs.lemmas.Option.{slice_get_read}
-use Rattle.domain_base.specs.declared.place.Home.{Home}
-use Rattle.home_sets.specs.Members.{IsIn}
-use Rattle.page_ways.specs.Frame.{frame_in}
-use Rattle.row_faults.proofs.Inserted.{all_in, none_in, one_in}
+use Rattle.page_faults.specs.domain_base.declared.place.Home.{Home}
+use Rattle.page_faults.specs.sorted_sets.Members.{IsIn}
+use Rattle.page_faults.specs.page_ways.Frame.{frame_in}
+use Rattle.directory_faults.proofs.Inserted.{all_in, none_in, one_in}
 use Rattle.index_row_faults.specs.Keys.{keys_in}
 use Rattle.index_row_faults.specs.Totals.{IsIndexRead, IsWrongBy}
 use Rattle.index_row_faults.specs.declared.there.IndexThere.{IndexThere}

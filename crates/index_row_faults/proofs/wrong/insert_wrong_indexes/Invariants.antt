@@ -1,7 +1,7 @@
 use Rattle.std.proofs.Common.{ℕ}
-use Rattle.home_sets.specs.Members.{IsIn}
-use Rattle.page_ways.specs.Frame.{frame_in}
-use Rattle.row_faults.proofs.Inserted.{AreIn}
+use Rattle.page_faults.specs.sorted_sets.Members.{IsIn}
+use Rattle.page_faults.specs.page_ways.Frame.{frame_in}
+use Rattle.directory_faults.proofs.Inserted.{AreIn}
 use Rattle.index_row_faults.specs.Keys.{keys_in}
 use Rattle.index_row_faults.specs.Totals.{IsIndexRead, IsWrongBy}
 use Rattle.index_row_faults.specs.declared.there.IndexThere.{IndexThere}

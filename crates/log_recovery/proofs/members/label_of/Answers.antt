@@ -1,9 +1,9 @@
 use Rattle.std.proofs.Common.{◌≤◌, ap, subst, arith}
-use Rattle.volume_disk.specs.Disk.{volume_pages}
+use Rattle.log_ring.specs.volume_disk.Disk.{volume_pages}
 use Rattle.log_ring.specs.Homes.{member_of}
-use Rattle.disk_label.specs.declared.anchor.Member.{Member}
-use Rattle.disk_label.specs.Label.{IsLabel, IsLabelOf, label_block}
-use Rattle.disk_label.specs.declared.label.Label.{Label}
+use Rattle.log_ring.specs.disk_label.declared.anchor.Member.{Member}
+use Rattle.log_ring.specs.disk_label.Label.{IsLabel, IsLabelOf, label_block}
+use Rattle.log_ring.specs.disk_label.declared.label.Label.{Label}
 use Rattle.log_recovery.specs.Members.{IsThere, label_wanted}
 use Rattle.log_recovery.proofs.Labels.{in_either, volume_there}
 use Rattle.log_recovery.proofs.members.label_of.Goals as goal

@@ -1,6 +1,6 @@
 use Rattle.std.proofs.Common.{◌≡◌, ◌+◌, ℕ, List, length-set, subst, ◌∙◌, arith}
-use Rattle.volume_disk.specs.Disk.{Tells}
-use Rattle.volume_disk.proofs.Laws.{only_reads-then}
+use Rattle.log_ring.specs.volume_disk.Disk.{Tells}
+use Rattle.log_ring.proofs.OfVolumeDisk.Laws.{only_reads-then}
 use Rattle.log_ring.specs.Homes.{IsMember}
 use Rattle.log_recovery.specs.Members.{IsLabelled, IsThere, label_version}
 use Rattle.log_recovery.proofs.Labels.{labelled_more, there_more, versions_more}

@@ -1,6 +1,6 @@
 use Rattle.std.proofs.Common.{◌≡◌, length}
-use Rattle.volume_disk.specs.Disk.{Tells}
-use Rattle.volume_disk.specs.Run.{OnlyReads}
+use Rattle.log_ring.specs.volume_disk.Disk.{Tells}
+use Rattle.log_ring.specs.volume_disk.Run.{OnlyReads}
 use Rattle.log_recovery.specs.Members.{AreLabelledBelow, AreThereBelow, AreVersionsBelow}
 use Rattle.log_recovery.proofs.members.read_labels.Given as goal
 

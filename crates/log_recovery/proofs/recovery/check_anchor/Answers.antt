@@ -1,7 +1,7 @@
 use Rattle.std.proofs.Common.{Some, sym, subst}
 use Rattle.std.proofs.lemmas.Bool.{false≢true}
-use Rattle.volume_disk.specs.Disk.{Tells}
-use Rattle.disk_label.specs.Anchor.{IsAnchor}
+use Rattle.log_ring.specs.volume_disk.Disk.{Tells}
+use Rattle.log_ring.specs.disk_label.Anchor.{IsAnchor}
 use Rattle.log_recovery.specs.Fault.{IfNotADomain}
 use Rattle.log_recovery.specs.Outcome.{IsFirstFault}
 use Rattle.log_recovery.specs.declared.fault.RecoverFault.{RecoverFault}

@@ -1,8 +1,8 @@
 use Rattle.std.proofs.Common.{ℕ, List, Some}
-use Rattle.volume_disk.specs.Disk.{Tells}
-use Rattle.volume_disk.specs.Image.{Image}
-use Rattle.volume_disk.proofs.Laws.{only_reads-then}
-use Rattle.disk_label.specs.Anchor.{IsAnchor}
+use Rattle.log_ring.specs.volume_disk.Disk.{Tells}
+use Rattle.log_ring.specs.volume_disk.Image.{Image}
+use Rattle.log_ring.proofs.OfVolumeDisk.Laws.{only_reads-then}
+use Rattle.log_ring.specs.disk_label.Anchor.{IsAnchor}
 use Rattle.log_recovery.specs.Outcome.{IsFirstFault}
 use Rattle.log_recovery.proofs.Reading.{held_before, held_now, not_a_domain, told_on}
 use Rattle.log_recovery.proofs.recovery.good_anchor.Goals as goal

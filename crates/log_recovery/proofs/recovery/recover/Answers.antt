@@ -1,7 +1,7 @@
 use Rattle.std.proofs.Common.{ℕ, List}
-use Rattle.volume_disk.specs.Disk.{Tells}
-use Rattle.volume_disk.specs.Image.{Image}
-use Rattle.volume_disk.proofs.Laws.{only_reads-then}
+use Rattle.log_ring.specs.volume_disk.Disk.{Tells}
+use Rattle.log_ring.specs.volume_disk.Image.{Image}
+use Rattle.log_ring.proofs.OfVolumeDisk.Laws.{only_reads-then}
 use Rattle.log_recovery.specs.Groups.{HasScannedAll, IsFirstNoGroup}
 use Rattle.log_recovery.specs.Outcome.{IsFirstFault}
 use Rattle.log_recovery.proofs.Outcomes.{no_group_there, recovered}

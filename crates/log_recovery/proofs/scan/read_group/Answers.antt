@@ -1,9 +1,9 @@
 use Rattle.std.proofs.Common.{◌≡◌, ◌+◌, ◌++◌, ◌∷◌, [], ℕ, List, refl, sym, subst}
-use Rattle.volume_disk.specs.Disk.{Tells}
-use Rattle.volume_disk.specs.Image.{Image}
-use Rattle.volume_disk.proofs.Laws.{only_reads-then}
-use Rattle.page_change.specs.Header.{IsRead}
-use Rattle.page_change.specs.declared.header.HeaderRead.TheVariants.{Group as AGroup}
+use Rattle.log_ring.specs.volume_disk.Disk.{Tells}
+use Rattle.log_ring.specs.volume_disk.Image.{Image}
+use Rattle.log_ring.proofs.OfVolumeDisk.Laws.{only_reads-then}
+use Rattle.log_ring.specs.Header.{IsRead}
+use Rattle.log_ring.specs.declared.header.HeaderRead.TheVariants.{Group as AGroup}
 use Rattle.log_ring.specs.Ring.{place_at, ring_page}
 use Rattle.log_recovery.specs.Fault.{IfNotADomain}
 use Rattle.log_recovery.specs.Groups.{HasScanned, IsNoGroup, MayBeNext}

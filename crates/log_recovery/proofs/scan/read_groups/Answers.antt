@@ -1,6 +1,6 @@
 use Rattle.std.proofs.Common.{◌++◌, ◌∷◌, [], ℕ, List, subst, ◌∙◌}
-use Rattle.volume_disk.specs.Image.{Image}
-use Rattle.volume_disk.proofs.Laws.{only_reads-then}
+use Rattle.log_ring.specs.volume_disk.Image.{Image}
+use Rattle.log_ring.proofs.OfVolumeDisk.Laws.{only_reads-then}
 use Rattle.log_recovery.specs.Groups.{HasScanned, IsOneMore}
 use Rattle.log_recovery.proofs.Reading.{held_before, held_now, told_on}
 use Rattle.log_recovery.proofs.scan.read_groups.Goals as goal

@@ -1,6 +1,6 @@
 use Rattle.std.proofs.Common.{◌≡◌, ◌<◌, ◌-◌, List}
-use Rattle.volume_disk.specs.Disk.{Tells}
-use Rattle.volume_disk.specs.Run.{OnlyReads}
+use Rattle.log_ring.specs.volume_disk.Disk.{Tells}
+use Rattle.log_ring.specs.volume_disk.Run.{OnlyReads}
 use Rattle.log_ring.specs.Groups.{Group}
 use Rattle.log_ring.specs.Homes.{AreLoggable}
 use Rattle.log_recovery.specs.Groups.{HasScanned}

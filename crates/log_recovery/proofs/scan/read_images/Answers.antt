@@ -1,7 +1,7 @@
 use Rattle.std.proofs.Common.{◌≡◌, ◌+◌, ℕ, List, refl, ◌∙◌}
-use Rattle.volume_disk.specs.Disk.{Tells}
-use Rattle.volume_disk.specs.Image.{Image}
-use Rattle.volume_disk.proofs.Laws.{only_reads-none, only_reads-then}
+use Rattle.log_ring.specs.volume_disk.Disk.{Tells}
+use Rattle.log_ring.specs.volume_disk.Image.{Image}
+use Rattle.log_ring.proofs.OfVolumeDisk.Laws.{only_reads-none, only_reads-then}
 use Rattle.log_ring.specs.Ring.{place_at}
 use Rattle.log_recovery.proofs.Reading.{held_before, told_on}
 use Rattle.log_recovery.proofs.Scanning.{adds_more, adds_none}

@@ -1,5 +1,5 @@
 use Rattle.std.proofs.Common.{◌≡◌, take}
-use Rattle.volume_disk.specs.Run.{OnlyReads}
+use Rattle.log_ring.specs.volume_disk.Run.{OnlyReads}
 use Rattle.log_recovery.specs.Groups.{AddsImages}
 use Rattle.log_recovery.proofs.scan.read_images.Given as goal
 

@@ -1,7 +1,7 @@
 use Rattle.std.proofs.Common.{List, Some, sym, subst}
-use Rattle.disk_label.specs.Anchor.{IsNext}
-use Rattle.disk_label.specs.declared.anchor.Anchor.{Anchor}
-use Rattle.page_change.specs.declared.image.PageImage.{PageImage}
+use Rattle.log_ring.specs.disk_label.Anchor.{IsNext}
+use Rattle.log_ring.specs.disk_label.declared.anchor.Anchor.{Anchor}
+use Rattle.log_ring.specs.declared.image.PageImage.{PageImage}
 use Rattle.log_ring.specs.Settling.{BringsHome}
 use Rattle.log_recovery.proofs.GoodAnchors.{settles_readably}
 use Rattle.log_recovery.proofs.SettledAnchors.{is_next}

@@ -1,7 +1,7 @@
 use Rattle.std.proofs.Common.{sym, ◌∙◌}
 use Rattle.std.proofs.lemmas.Result.{on_ok_weaker}
-use Rattle.volume_disk.specs.Disk.{Tells}
-use Rattle.volume_disk.proofs.Laws.{only_writes-synced}
+use Rattle.disk_label.specs.volume_disk.Disk.{Tells}
+use Rattle.disk_label.proofs.OfVolumeDisk.Laws.{only_writes-synced}
 use Rattle.log_ring.specs.Settling.{IsAtHomes}
 use Rattle.log_ring.proofs.Homeward.{anchor_stays, anchor_written, brought_home, home_after_syncs, homes_written}
 use Rattle.log_ring.proofs.settling.bring_home.Goals as goal

@@ -1,4 +1,4 @@
-use Rattle.page_change.proofs.Places.{has-place}
+use Rattle.log_ring.proofs.Places.{has-place}
 use Rattle.std.proofs.Common.{sym}
 use Rattle.log_ring.proofs.settling.has_home_of.Goals as goal
 

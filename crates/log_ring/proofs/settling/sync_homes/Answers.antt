@@ -1,6 +1,6 @@
 use Rattle.std.proofs.Common.{ℕ, ◌+◌, refl, sym, ◌∙◌, subst, arith}
-use Rattle.volume_disk.specs.Image.{NoPlace}
-use Rattle.volume_disk.proofs.Laws.{only_writes-then, touches-none}
+use Rattle.disk_label.specs.volume_disk.Image.{NoPlace}
+use Rattle.disk_label.proofs.OfVolumeDisk.Laws.{only_writes-then, touches-none}
 use Rattle.log_ring.specs.Homes.{IsHomeOf}
 use Rattle.log_ring.specs.Settling.{AreSyncedBelow}
 use Rattle.log_ring.proofs.HomePages.{each_home}

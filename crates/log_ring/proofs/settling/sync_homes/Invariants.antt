@@ -1,7 +1,7 @@
 use Rattle.std.proofs.Common.{◌≡◌}
-use Rattle.volume_disk.specs.Disk.{Tells}
-use Rattle.volume_disk.specs.Image.{NoPlace}
-use Rattle.volume_disk.specs.Run.{OnlyWrites}
+use Rattle.disk_label.specs.volume_disk.Disk.{Tells}
+use Rattle.disk_label.specs.volume_disk.Image.{NoPlace}
+use Rattle.disk_label.specs.volume_disk.Run.{OnlyWrites}
 use Rattle.log_ring.specs.Settling.{AreSyncedBelow}
 use Rattle.log_ring.proofs.settling.sync_homes.Given as goal
 

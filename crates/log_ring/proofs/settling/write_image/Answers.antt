@@ -1,6 +1,6 @@
 use Rattle.std.proofs.Common.{◌≡◌, ℕ, List, ◌*◌, arith, subst}
 use Rattle.std.proofs.lemmas.Result.{on_ok_weaker}
-use Rattle.volume_disk.specs.Image.{HasBytes, bytes_at}
+use Rattle.disk_label.specs.volume_disk.Image.{HasBytes, bytes_at}
 use Rattle.log_ring.proofs.HomePages.{bytes_there}
 use Rattle.log_ring.proofs.settling.write_image.Goals as goal
 

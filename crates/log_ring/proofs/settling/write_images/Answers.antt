@@ -1,6 +1,6 @@
 use Rattle.std.proofs.Common.{◌≡◌, ℕ, ◌+◌, ◌-◌, ◌<◌, length, drop, ◌∙◌, subst, arith}
-use Rattle.volume_disk.proofs.Laws.{only_writes-then}
-use Rattle.log_ring.specs.Laws.{AreHome}
+use Rattle.disk_label.proofs.OfVolumeDisk.Laws.{only_writes-then}
+use Rattle.log_ring.specs.LogLaws.{AreHome}
 use Rattle.log_ring.specs.Settling.{IsAtHomes}
 use Rattle.log_ring.proofs.settling.write_images.Goals as goal
 

@@ -1,7 +1,7 @@
 use Rattle.std.proofs.Common.{◌≡◌, ◌-◌, drop, length}
-use Rattle.volume_disk.specs.Disk.{Tells}
-use Rattle.volume_disk.specs.Run.{OnlyWrites}
-use Rattle.log_ring.specs.Laws.{AreHome}
+use Rattle.disk_label.specs.volume_disk.Disk.{Tells}
+use Rattle.disk_label.specs.volume_disk.Run.{OnlyWrites}
+use Rattle.log_ring.specs.LogLaws.{AreHome}
 use Rattle.log_ring.specs.Settling.{IsAtHomes}
 use Rattle.log_ring.proofs.settling.write_images.Given as goal
 

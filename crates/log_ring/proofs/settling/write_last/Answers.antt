@@ -3,11 +3,11 @@ use Rattle.std.proofs.lemmas.Slice.{between_to_end}
 use Rattle.std.specs.List.{list_any}
 use Rattle.page_store.specs.Pages.{same_home}
 use Rattle.std.proofs.lemmas.Result.{on_ok_weaker}
-use Rattle.volume_disk.proofs.Laws.{only_writes-wider}
-use Rattle.page_change.specs.Images.{homes_of, image_at}
-use Rattle.page_change.proofs.Overlays.{is_some-image_at}
-use Rattle.page_change.specs.declared.image.PageImage.{PageImage}
-use Rattle.log_ring.specs.Laws.{AreHome}
+use Rattle.disk_label.proofs.OfVolumeDisk.Laws.{only_writes-wider}
+use Rattle.log_ring.specs.Images.{homes_of, image_at}
+use Rattle.log_ring.proofs.Overlays.{is_some-image_at}
+use Rattle.log_ring.specs.declared.image.PageImage.{PageImage}
+use Rattle.log_ring.specs.LogLaws.{AreHome}
 use Rattle.log_ring.specs.Settling.{HasHome, IsAtHomes, IsOnPage}
 use Rattle.log_ring.proofs.HomePages.{drop_is, has_at, home-shadowed, home-written, none_found}
 use Rattle.log_ring.proofs.settling.write_last.Goals as goal

@@ -1,8 +1,8 @@
 use Rattle.std.proofs.Common.{List, subst}
 use Rattle.std.proofs.lemmas.List.{take_all}
 use Rattle.std.proofs.lemmas.List.Elements.{All-more}
-use Rattle.page_change.specs.declared.image.PageImage.{PageImage}
-use Rattle.log_ring.specs.Homes.{AreLoggable, IsLoggable}
+use Rattle.log_recovery.specs.log_ring.declared.image.PageImage.{PageImage}
+use Rattle.log_recovery.specs.log_ring.Homes.{AreLoggable, IsLoggable}
 use Rattle.log_tests.proofs.logs.are_loggable.Goals as goal
 
 pub loop-image-preserved : goal.loop-image-preserved

@@ -1,5 +1,5 @@
 use Rattle.std.proofs.Common.{take}
-use Rattle.log_ring.specs.Homes.{AreLoggable}
+use Rattle.log_recovery.specs.log_ring.Homes.{AreLoggable}
 use Rattle.log_tests.proofs.logs.are_loggable.Given as goal
 
 abbrev pub invariant-loop-image : goal.invariant-loop-image

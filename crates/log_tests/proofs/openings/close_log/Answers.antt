@@ -1,5 +1,5 @@
 use Rattle.std.proofs.Common.{◌∙◌, ap, arith}
-use Rattle.disk_label.specs.declared.anchor.Anchor.{Anchor}
+use Rattle.log_recovery.specs.disk_label.declared.anchor.Anchor.{Anchor}
 use Rattle.meta_log.specs.Checkpoint.{next_anchor}
 use Rattle.meta_log.specs.Log.{new_log}
 use Rattle.log_tests.proofs.AtRest.{closed, closed_home, closing, nothing_closed}

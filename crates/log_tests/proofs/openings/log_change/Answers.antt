@@ -1,6 +1,6 @@
 use Rattle.std.proofs.Common.{inl, refl, subst}
-use Rattle.volume_disk.proofs.Laws.{touches-none}
-use Rattle.log_ring.specs.Ring.{IsOnLog}
+use Rattle.log_recovery.proofs.OfVolumeDisk.Laws.{touches-none}
+use Rattle.log_recovery.specs.log_ring.Ring.{IsOnLog}
 use Rattle.meta_log.specs.Force.{Forces, HasForced}
 use Rattle.meta_log.specs.Log.{Log}
 use Rattle.log_tests.proofs.AtRest.{added, adds_or_not, full_alone, logged, nothing_logged, touches_ring}

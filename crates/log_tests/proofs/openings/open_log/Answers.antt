@@ -1,5 +1,5 @@
 use Rattle.std.proofs.Common.{◌∙◌, ap}
-use Rattle.disk_label.specs.declared.anchor.Anchor.{Anchor}
+use Rattle.log_recovery.specs.disk_label.declared.anchor.Anchor.{Anchor}
 use Rattle.meta_log.specs.Log.{new_log}
 use Rattle.log_tests.proofs.AtRest.{opened, read_still, readied_still, settled_home, settled_still, still_counts}
 use Rattle.log_tests.proofs.openings.open_log.Goals as goal

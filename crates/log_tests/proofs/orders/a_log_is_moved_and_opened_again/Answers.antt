@@ -1,5 +1,5 @@
 use Rattle.std.proofs.Common.{ap}
-use Rattle.volume_disk.specs.Disk.{Disk}
+use Rattle.log_recovery.specs.volume_disk.Disk.{Disk}
 use Rattle.log_tests.proofs.orders.a_log_is_moved_and_opened_again.Goals as goal
 
 pub moving_steps-steps-requires : goal.moving_steps-steps-requires

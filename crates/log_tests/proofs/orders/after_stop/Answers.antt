@@ -1,5 +1,5 @@
 use Rattle.std.proofs.Common.{ap}
-use Rattle.volume_disk.specs.Disk.{Disk}
+use Rattle.log_recovery.specs.volume_disk.Disk.{Disk}
 use Rattle.log_tests.proofs.orders.after_stop.Goals as goal
 
 pub steps_of-requires : goal.steps_of-requires

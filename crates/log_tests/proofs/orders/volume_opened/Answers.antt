@@ -1,5 +1,5 @@
 use Rattle.std.proofs.Common.{ap}
-use Rattle.volume_disk.specs.Disk.{Disk}
+use Rattle.log_recovery.specs.volume_disk.Disk.{Disk}
 use Rattle.log_tests.proofs.orders.volume_opened.Goals as goal
 
 pub open_log-requires : goal.open_log-requires

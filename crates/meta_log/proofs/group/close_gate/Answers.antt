@@ -1,6 +1,6 @@
 use Rattle.std.proofs.Common.{◌*◌}
 use Rattle.std.proofs.lemmas.Result.{on_ok_weaker}
-use Rattle.domain_base.specs.Gate.{closed}
+use Rattle.log_ring.specs.domain_base.Gate.{closed}
 use Rattle.log_ring.specs.Ring.{ring_byte}
 use Rattle.meta_log.proofs.Bodies.{bytes-moved, written_closed}
 use Rattle.meta_log.proofs.group.close_gate.Goals as goal

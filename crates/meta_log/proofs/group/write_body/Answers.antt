@@ -1,7 +1,7 @@
 use Rattle.std.proofs.Common.{ℕ, ◌+◌, ◌∙◌, length, inl, inr, subst}
 use Rattle.std.proofs.lemmas.Result.{on_ok_weaker}
-use Rattle.volume_disk.specs.Disk.{Syncs}
-use Rattle.volume_disk.proofs.Laws.{only_writes-then, only_writes-wider}
+use Rattle.log_ring.specs.volume_disk.Disk.{Syncs}
+use Rattle.log_ring.proofs.OfVolumeDisk.Laws.{only_writes-then, only_writes-wider}
 use Rattle.log_ring.specs.Ring.{IsOnPlaces}
 use Rattle.meta_log.specs.Force.{IsGroupBody, IsHeaderBody}
 use Rattle.meta_log.proofs.Bodies.{all_written, ready_to_open, three_written}

@@ -1,9 +1,9 @@
 use Rattle.std.proofs.Common.{◌≡◌, ℕ, ◌+◌, ◌<◌, List, [], ◌∷◌, ◌++◌, length, take, sym, ◌∙◌, ap, subst, arith}
 use Rattle.std.proofs.lemmas.List.{length-take-le, take_more}
-use Rattle.volume_disk.specs.Image.{IsIn}
-use Rattle.volume_disk.specs.Run.{OnlyWrites}
-use Rattle.volume_disk.proofs.Laws.{only_writes-then, only_writes-wider}
-use Rattle.page_change.specs.declared.image.PageImage.{PageImage}
+use Rattle.log_ring.specs.volume_disk.Image.{IsIn}
+use Rattle.log_ring.specs.volume_disk.Run.{OnlyWrites}
+use Rattle.log_ring.proofs.OfVolumeDisk.Laws.{only_writes-then, only_writes-wider}
+use Rattle.log_ring.specs.declared.image.PageImage.{PageImage}
 use Rattle.log_ring.specs.Groups.{AreImagesAt}
 use Rattle.log_ring.specs.Ring.{IsOnPlaces, place_at, ring_byte}
 use Rattle.log_ring.proofs.RingPlaces.{one_place}

@@ -1,6 +1,6 @@
 use Rattle.std.proofs.Common.{◌≡◌, length, take}
-use Rattle.volume_disk.specs.Disk.{Tells}
-use Rattle.volume_disk.specs.Run.{OnlyWrites}
+use Rattle.log_ring.specs.volume_disk.Disk.{Tells}
+use Rattle.log_ring.specs.volume_disk.Run.{OnlyWrites}
 use Rattle.log_ring.specs.Groups.{AreImagesAt}
 use Rattle.log_ring.specs.Ring.{IsOnPlaces}
 use Rattle.meta_log.proofs.group.write_images.Given as goal

@@ -1,9 +1,9 @@
 use Rattle.std.proofs.Common.{◌≡◌, ◌+◌, cond, Bool, false, length, take, sym, ◌∙◌, ap, arith}
 use Rattle.std.specs.List.{list_any}
-use Rattle.page_store.specs.Pages.{same_home}
-use Rattle.page_change.specs.Images.{homes_of, joined}
-use Rattle.page_change.specs.declared.image.PageImage.{PageImage}
-use Rattle.page_change.proofs.Overlays.{JoinsWell-joined}
+use Rattle.log_ring.specs.page_store.Pages.{same_home}
+use Rattle.log_ring.specs.Images.{homes_of, joined}
+use Rattle.log_ring.specs.declared.image.PageImage.{PageImage}
+use Rattle.log_ring.proofs.Overlays.{JoinsWell-joined}
 use Rattle.meta_log.proofs.Joining.{counted_more, joined-shorter}
 use Rattle.meta_log.proofs.slots.count_joined.Goals.{then-not-has_home_of, else-not-has_home_of}
 use Rattle.meta_log.proofs.slots.count_joined.Goals as goal

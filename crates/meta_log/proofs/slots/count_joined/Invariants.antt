@@ -1,5 +1,5 @@
 use Rattle.std.proofs.Common.{◌≡◌, length, take}
-use Rattle.page_change.specs.Images.{joined}
+use Rattle.log_ring.specs.Images.{joined}
 use Rattle.meta_log.proofs.slots.count_joined.Given as goal
 
 abbrev pub invariant-loop-image : goal.invariant-loop-image

@@ -1,8 +1,8 @@
 use Rattle.std.proofs.Common.{◌≡◌, ◌-◌, ◌<◌, List, length, take, drop, sym, ◌∙◌, ap, subst, arith}
 use Rattle.std.proofs.lemmas.List.{length-drop, length-take-le}
-use Rattle.page_change.specs.Images.{AreDistinctHomes, joined, with_image}
-use Rattle.page_change.specs.declared.image.PageImage.{PageImage}
-use Rattle.page_change.proofs.Overlays.{AreDistinctHomes-joined}
+use Rattle.log_ring.specs.Images.{AreDistinctHomes, joined, with_image}
+use Rattle.log_ring.specs.declared.image.PageImage.{PageImage}
+use Rattle.log_ring.proofs.Overlays.{AreDistinctHomes-joined}
 use Rattle.meta_log.proofs.Joining.{joined-shorter, joined_more}
 use Rattle.meta_log.proofs.slots.join.Goals as goal
 

@@ -1,5 +1,5 @@
 use Rattle.std.proofs.Common.{◌≡◌, ◌≤◌, drop, take, length}
-use Rattle.page_change.specs.Images.{joined}
+use Rattle.log_ring.specs.Images.{joined}
 use Rattle.meta_log.proofs.slots.join.Given as goal
 
 abbrev pub invariant-loop-image : goal.invariant-loop-image

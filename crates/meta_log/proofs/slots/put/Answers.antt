@@ -1,7 +1,7 @@
 use Rattle.std.proofs.Common.{◌≡◌, ◌-◌, ◌<◌, ◌∷◌, [], ◌++◌, length, set, take, drop, sym, ◌∙◌, ap, arith}
 use Rattle.std.proofs.lemmas.List.{length-drop, length-take-le}
-use Rattle.page_change.specs.declared.image.PageImage.{PageImage}
-use Rattle.page_change.proofs.Places.{with_image-new, with_image-place}
+use Rattle.log_ring.specs.declared.image.PageImage.{PageImage}
+use Rattle.log_ring.proofs.Places.{with_image-new, with_image-place}
 use Rattle.meta_log.proofs.SlotLists.{set_behind, set_within}
 use Rattle.meta_log.proofs.slots.put.Goals as goal
 

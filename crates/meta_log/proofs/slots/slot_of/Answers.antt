@@ -1,9 +1,9 @@
 use Rattle.std.proofs.Common.{◌≡◌, List, false, subst}
 use Rattle.std.proofs.lemmas.Slice.{between_is}
 use Rattle.std.specs.List.{list_any}
-use Rattle.page_store.specs.Pages.{same_home}
-use Rattle.page_change.specs.Images.{homes_of}
-use Rattle.page_change.specs.declared.image.PageImage.{PageImage}
+use Rattle.log_ring.specs.page_store.Pages.{same_home}
+use Rattle.log_ring.specs.Images.{homes_of}
+use Rattle.log_ring.specs.declared.image.PageImage.{PageImage}
 use Rattle.meta_log.proofs.slots.slot_of.Goals as goal
 
 pub returns-in-None-clause-none : goal.returns-in-None-clause-none

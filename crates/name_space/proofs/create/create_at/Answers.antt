@@ -1,5 +1,5 @@
 use Rattle.std.proofs.Common.{◌≡◌, rules, ◌^◌, ◌<◌, subst}
-use Rattle.page_store.specs.Bitfiles.{new_file}
+use Rattle.directory_rows.specs.page_store.Bitfiles.{new_file}
 use Rattle.name_space.specs.Changes.{IsMade, free_checks}
 use Rattle.name_space.proofs.CreatedNames.{creates}
 use Rattle.name_space.proofs.Faults.{faulted, unrefused}

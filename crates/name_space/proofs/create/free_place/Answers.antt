@@ -1,7 +1,7 @@
 use Rattle.std.proofs.Common.{◌∙◌, ap, sym, [], length, ◌-◌, arith}
 use Rattle.std.proofs.lemmas.List.{get_or_default}
-use Rattle.dir_pages.specs.Rows.{found}
-use Rattle.dir_rows.specs.Directory.{rows_in}
+use Rattle.directory_rows.specs.directory_pages.Rows.{found}
+use Rattle.directory_rows.specs.Directory.{rows_in}
 use Rattle.name_space.specs.Changes.{last_name}
 use Rattle.name_space.proofs.Targets.{free_checked}
 use Rattle.name_space.proofs.create.free_place.Goals as goal

@@ -1,7 +1,7 @@
 use Rattle.std.proofs.Common.{◌≡◌, false, sym, subst}
-use Rattle.page_store.specs.Bitfiles.{new_file}
-use Rattle.dir_pages.specs.Rows.{is_named}
-use Rattle.dir_rows.specs.Directory.{rows_in}
+use Rattle.directory_rows.specs.page_store.Bitfiles.{new_file}
+use Rattle.directory_rows.specs.directory_pages.Rows.{is_named}
+use Rattle.directory_rows.specs.Directory.{rows_in}
 use Rattle.name_space.proofs.CreatedNames.{free_before}
 use Rattle.name_space.proofs.create.make_row.Goals as goal
 

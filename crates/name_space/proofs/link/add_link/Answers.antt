@@ -1,6 +1,6 @@
 use Rattle.std.proofs.Common.{◌∙◌, is_some, ap}
-use Rattle.dir_rows.specs.Directory.{rows_in}
-use Rattle.dir_rows.proofs.Entered.{named_found}
+use Rattle.directory_rows.specs.Directory.{rows_in}
+use Rattle.directory_rows.proofs.Entered.{named_found}
 use Rattle.name_space.proofs.link.add_link.Goals as goal
 
 pub add_row-requires-clause-fresh : goal.add_row-requires-clause-fresh

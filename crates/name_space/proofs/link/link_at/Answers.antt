@@ -1,6 +1,6 @@
 use Rattle.std.proofs.Common.{◌≡◌, is_some, ap, subst}
-use Rattle.domain_base.specs.declared.place.Kind.TheVariants.{File}
-use Rattle.fileset_model.specs.Apply.{link_checks}
+use Rattle.plain_program.specs.domain_base.declared.place.Kind.TheVariants.{File}
+use Rattle.plain_program.specs.fileset_model.Apply.{link_checks}
 use Rattle.name_space.specs.Changes.{AddsLink}
 use Rattle.name_space.proofs.Faults.{faulted, unrefused}
 use Rattle.name_space.proofs.LinkedNames.{links}

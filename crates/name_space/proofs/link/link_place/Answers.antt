@@ -1,7 +1,7 @@
 use Rattle.std.proofs.Common.{◌≡◌, ◌∙◌, ◌<◌, Some, ap, subst, arith}
-use Rattle.domain_base.specs.Limits.{max_links}
-use Rattle.domain_base.specs.declared.place.Kind.TheVariants.{File}
-use Rattle.page_store.specs.Bitfiles.{links_at}
+use Rattle.plain_program.specs.domain_base.Limits.{max_links}
+use Rattle.plain_program.specs.domain_base.declared.place.Kind.TheVariants.{File}
+use Rattle.directory_rows.specs.page_store.Bitfiles.{links_at}
 use Rattle.name_space.specs.Names.{led_to}
 use Rattle.name_space.proofs.LinkChecks.{link_allowed, link_full, place_refused, source_refused}
 use Rattle.name_space.proofs.Spots.{has_names, led_path}

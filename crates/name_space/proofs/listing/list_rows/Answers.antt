@@ -1,5 +1,5 @@
 use Rattle.std.proofs.Common.{◌≡◌, ◌∙◌, IfOk, Ok, Err, map}
-use Rattle.fileset_model.specs.declared.fileset.FilesetSlot.{FilesetSlot}
+use Rattle.plain_program.specs.fileset_model.declared.fileset.FilesetSlot.{FilesetSlot}
 use Rattle.name_space.specs.Lists.{AreRowsOf, item_of}
 use Rattle.name_space.specs.Names.{Names}
 use Rattle.name_space.proofs.Listed.{are_rows}

@@ -1,7 +1,7 @@
 use Rattle.std.proofs.Common.{◌≡◌, ◌==◌, ◌∙◌, false, length, sym, subst}
-use Rattle.dir_rows.specs.Directory.{rows_in}
-use Rattle.fileset_model.specs.Paths.{begins_with}
-use Rattle.plain_filesets.specs.Stops.{Refuses}
+use Rattle.directory_rows.specs.Directory.{rows_in}
+use Rattle.plain_program.specs.fileset_model.Paths.{begins_with}
+use Rattle.plain_program.specs.Stops.{Refuses}
 use Rattle.name_space.specs.Changes.{leaf_refusal}
 use Rattle.name_space.proofs.LeafChecks.{leaf_checked, leaf_good, leaf_rows}
 use Rattle.name_space.proofs.RenameChecks.{begins_is, on_passed, replaced_checks, taken_led}

@@ -1,6 +1,6 @@
 use Rattle.std.proofs.Common.{◌∙◌, is_some, ap}
-use Rattle.dir_rows.specs.Directory.{rows_in}
-use Rattle.dir_rows.proofs.Entered.{named_found}
+use Rattle.directory_rows.specs.Directory.{rows_in}
+use Rattle.directory_rows.proofs.Entered.{named_found}
 use Rattle.name_space.proofs.RenamedNames.{still_free}
 use Rattle.name_space.proofs.rename.move_row.Goals as goal
 

@@ -1,6 +1,6 @@
 use Rattle.std.proofs.Common.{◌≡◌, true, false, refl}
-use Rattle.fileset_model.specs.Apply.{rename_checks}
-use Rattle.fileset_model.specs.Paths.{begins_with}
+use Rattle.plain_program.specs.fileset_model.Apply.{rename_checks}
+use Rattle.plain_program.specs.fileset_model.Paths.{begins_with}
 use Rattle.name_space.proofs.Faults.{faulted, unrefused}
 use Rattle.name_space.proofs.RenameChecks.{begins_is, free_checks_are, free_into_itself}
 use Rattle.name_space.proofs.RenamedNames.{moves_of, renames_free}

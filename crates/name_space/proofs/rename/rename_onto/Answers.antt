@@ -1,5 +1,5 @@
 use Rattle.std.proofs.Common.{◌≡◌, rules, ◌∙◌, refl, sym}
-use Rattle.fileset_model.specs.Apply.{rename_checks}
+use Rattle.plain_program.specs.fileset_model.Apply.{rename_checks}
 use Rattle.name_space.proofs.Faults.{faulted, unrefused}
 use Rattle.name_space.proofs.Originals.{tags_differ}
 use Rattle.name_space.proofs.RenameChecks.{two_checks_are}

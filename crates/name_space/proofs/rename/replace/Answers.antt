@@ -1,6 +1,6 @@
 use Rattle.std.proofs.Common.{◌∙◌, cond, is_some, Some, None, ap, sym}
-use Rattle.dir_pages.specs.Rows.{found, is_row_name}
-use Rattle.dir_rows.specs.Directory.{rows_in}
+use Rattle.directory_rows.specs.directory_pages.Rows.{found, is_row_name}
+use Rattle.directory_rows.specs.Directory.{rows_in}
 use Rattle.name_space.proofs.Originals.{is_in}
 use Rattle.name_space.proofs.RenameChecks.{taken_led}
 use Rattle.name_space.proofs.RenamedNames.{cleared_of, onto_of}

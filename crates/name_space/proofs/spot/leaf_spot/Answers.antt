@@ -1,6 +1,6 @@
 use Rattle.std.proofs.Common.{◌==◌, ◌∙◌, [], ◌∷◌, length}
-use Rattle.dir_rows.specs.Directory.{rows_in}
-use Rattle.fileset_model.specs.Paths.{target_refusal}
+use Rattle.directory_rows.specs.Directory.{rows_in}
+use Rattle.plain_program.specs.fileset_model.Paths.{target_refusal}
 use Rattle.name_space.specs.Changes.{leaf_checks}
 use Rattle.name_space.proofs.LeafChecks.{leaf_checked, leaf_good, leaf_kind, leaf_rows}
 use Rattle.name_space.proofs.Spots.{led_path, passed_more}

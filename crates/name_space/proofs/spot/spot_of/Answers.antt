@@ -1,6 +1,6 @@
 use Rattle.std.proofs.Common.{◌∙◌, ap, sym}
-use Rattle.dir_pages.specs.Rows.{found}
-use Rattle.dir_rows.specs.Directory.{rows_in}
+use Rattle.directory_rows.specs.directory_pages.Rows.{found}
+use Rattle.directory_rows.specs.Directory.{rows_in}
 use Rattle.name_space.proofs.Spots.{has_names, spot_lost, spot_there}
 use Rattle.name_space.proofs.spot.spot_of.Goals as goal
 

@@ -1,6 +1,6 @@
 use Rattle.std.proofs.Common.{◌∙◌, is_some, ap}
-use Rattle.dir_rows.specs.Directory.{rows_in}
-use Rattle.dir_rows.proofs.Entered.{named_found}
+use Rattle.directory_rows.specs.Directory.{rows_in}
+use Rattle.directory_rows.proofs.Entered.{named_found}
 use Rattle.name_space.proofs.unlink.take_name.Goals as goal
 
 pub remove_row-requires-clause-there : goal.remove_row-requires-clause-there

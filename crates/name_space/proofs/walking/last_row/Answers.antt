@@ -1,7 +1,7 @@
 use Rattle.std.proofs.Common.{◌≡◌, ◌∙◌, ap, sym, get_or}
-use Rattle.dir_pages.specs.Rows.{found}
-use Rattle.dir_rows.specs.Directory.{rows_in}
-use Rattle.fileset_model.specs.Orders.{Name}
+use Rattle.directory_rows.specs.directory_pages.Rows.{found}
+use Rattle.directory_rows.specs.Directory.{rows_in}
+use Rattle.plain_program.specs.fileset_values.Orders.{Name}
 use Rattle.name_space.proofs.Targets.{target_lost, target_there}
 use Rattle.name_space.proofs.walking.last_row.Goals as goal
 

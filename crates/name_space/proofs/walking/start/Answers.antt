@@ -1,5 +1,5 @@
 use Rattle.std.proofs.Common.{◌∙◌, ap, sym}
-use Rattle.domain_base.specs.declared.place.Kind.TheVariants.{Directory}
+use Rattle.plain_program.specs.domain_base.declared.place.Kind.TheVariants.{Directory}
 use Rattle.name_space.specs.Names.{root_tag}
 use Rattle.name_space.proofs.Ways.{has_kind, has_none, refusal_there, root_refusal, root_way}
 use Rattle.name_space.proofs.walking.start.Goals as goal

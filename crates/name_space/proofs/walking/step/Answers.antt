@@ -1,8 +1,8 @@
 use Rattle.std.proofs.Common.{rules, ◌≡◌, ◌∙◌, ap, sym, get_or}
-use Rattle.domain_base.specs.declared.place.Kind.TheVariants.{Directory}
-use Rattle.dir_pages.specs.Rows.{found}
-use Rattle.dir_rows.specs.Directory.{rows_in}
-use Rattle.fileset_model.specs.Orders.{Name}
+use Rattle.plain_program.specs.domain_base.declared.place.Kind.TheVariants.{Directory}
+use Rattle.directory_rows.specs.directory_pages.Rows.{found}
+use Rattle.directory_rows.specs.Directory.{rows_in}
+use Rattle.plain_program.specs.fileset_values.Orders.{Name}
 use Rattle.name_space.proofs.Ways.{has_kind, has_none, next_led, next_lost, next_way, refusal_there}
 use Rattle.name_space.proofs.walking.step.Goals as goal
 

@@ -1,5 +1,5 @@
 use Rattle.std.proofs.Common.{◌≡◌, ◌+◌, ◌-◌, ◌<◌, ℕ, length, sym, subst, arith}
-use Rattle.fileset_model.specs.Orders.{Path}
+use Rattle.plain_program.specs.fileset_values.Orders.{Path}
 use Rattle.name_space.specs.Walks.{IsClear, IsWayTo}
 use Rattle.name_space.proofs.Walked.{clear_more, walk_clear, walk_refused}
 use Rattle.name_space.proofs.walking.walk.Goals as goal

@@ -1,4 +1,4 @@
-use Rattle.fileset_model.specs.declared.fileset.FilesetSlot.{FilesetSlot}
+use Rattle.plain_program.specs.fileset_model.declared.fileset.FilesetSlot.{FilesetSlot}
 use Rattle.name_space.specs.Names.{Names}
 use Rattle.name_space.specs.Walks.{IsClear, IsWayTo}
 use Rattle.name_space.proofs.walking.walk.Given as goal

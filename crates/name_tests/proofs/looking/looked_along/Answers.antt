@@ -1,5 +1,5 @@
-use Rattle.memory_store.specs.Tags.{files_of}
-use Rattle.name_space.proofs.Spots.{has_names}
+use Rattle.fileset_lending.specs.page_store.Tags.{files_of}
+use Rattle.fileset_lending.proofs.OfNameSpace.Spots.{has_names}
 use Rattle.name_tests.proofs.looking.looked_along.Goals as goal
 
 pub looks_along-requires-clause-names : goal.looks_along-requires-clause-names

@@ -1,5 +1,5 @@
 use Rattle.std.proofs.Common.{sym, subst}
-use Rattle.name_space.specs.Names.{HasNames}
+use Rattle.fileset_lending.specs.name_space.Names.{HasNames}
 use Rattle.name_tests.proofs.looking.looks_along.Goals as goal
 
 pub walk-requires-clause-names : goal.walk-requires-clause-names

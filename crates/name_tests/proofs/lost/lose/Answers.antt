@@ -1,7 +1,7 @@
 use Rattle.std.proofs.Common.{is_some, ap, sym, subst}
-use Rattle.name_space.specs.Names.{HasNames}
-use Rattle.name_space.proofs.Originals.{is_in}
-use Rattle.name_space.proofs.Spots.{has_names}
+use Rattle.fileset_lending.specs.name_space.Names.{HasNames}
+use Rattle.fileset_lending.proofs.OfNameSpace.Originals.{is_in}
+use Rattle.fileset_lending.proofs.OfNameSpace.Spots.{has_names}
 use Rattle.name_tests.proofs.Losses.{lost_names}
 use Rattle.name_tests.proofs.lost.lose.Goals as goal
 

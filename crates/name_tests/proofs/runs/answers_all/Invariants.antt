@@ -1,4 +1,4 @@
-use Rattle.name_space.specs.Changes.{HasOriginal}
+use Rattle.fileset_lending.specs.name_space.Changes.{HasOriginal}
 use Rattle.name_tests.proofs.runs.answers_all.Given as goal
 
 abbrev pub invariant-loop-row : goal.invariant-loop-row

@@ -1,4 +1,4 @@
-use Rattle.name_space.specs.Changes.{free_checks}
+use Rattle.fileset_lending.specs.name_space.Changes.{free_checks}
 use Rattle.name_tests.proofs.Kept.{original_of, refusal_keeps}
 use Rattle.name_tests.proofs.steps.create.Goals as goal
 

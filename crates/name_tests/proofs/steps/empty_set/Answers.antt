@@ -1,9 +1,9 @@
 use Rattle.std.proofs.Common.{refl, sym, subst}
-use Rattle.page_store.specs.Bitfiles.{Bitfiles}
-use Rattle.dir_rows.proofs.Parts.{if_ok_weaker}
-use Rattle.name_space.specs.Changes.{HasOriginal}
-use Rattle.memory_store.specs.Tags.{root_alone}
-use Rattle.name_space.proofs.Roots.{root_original_lem}
+use Rattle.fileset_lending.specs.page_store.Bitfiles.{Bitfiles}
+use Rattle.fileset_lending.proofs.OfDirectoryRows.Parts.{if_ok_weaker}
+use Rattle.fileset_lending.specs.name_space.Changes.{HasOriginal}
+use Rattle.fileset_lending.specs.page_store.Tags.{root_alone}
+use Rattle.fileset_lending.proofs.OfNameSpace.Roots.{root_original_lem}
 use Rattle.name_tests.proofs.Kept.{original_of}
 use Rattle.name_tests.proofs.steps.empty_set.Goals as goal
 

@@ -1,4 +1,4 @@
-use Rattle.fileset_model.specs.Apply.{link_checks}
+use Rattle.fileset_lending.specs.fileset_model.Apply.{link_checks}
 use Rattle.name_tests.proofs.Kept.{original_of, refusal_keeps}
 use Rattle.name_tests.proofs.steps.link.Goals as goal
 

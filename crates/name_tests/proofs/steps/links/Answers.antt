@@ -1,4 +1,4 @@
-use Rattle.name_space.proofs.Spots.{has_names}
+use Rattle.fileset_lending.proofs.OfNameSpace.Spots.{has_names}
 use Rattle.name_tests.proofs.steps.links.Goals as goal
 
 pub target-requires : goal.target-requires

@@ -1,5 +1,5 @@
 use Rattle.std.proofs.Common.{rules}
-use Rattle.name_space.proofs.Spots.{has_names}
+use Rattle.fileset_lending.proofs.OfNameSpace.Spots.{has_names}
 use Rattle.name_tests.proofs.Kept.{directory_there}
 use Rattle.name_tests.proofs.steps.list.Goals as goal
 

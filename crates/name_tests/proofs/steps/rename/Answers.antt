@@ -1,4 +1,4 @@
-use Rattle.fileset_model.specs.Apply.{rename_checks}
+use Rattle.fileset_lending.specs.fileset_model.Apply.{rename_checks}
 use Rattle.name_tests.proofs.Kept.{original_of, refusal_keeps}
 use Rattle.name_tests.proofs.steps.rename.Goals as goal
 

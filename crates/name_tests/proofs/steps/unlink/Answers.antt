@@ -1,4 +1,4 @@
-use Rattle.name_space.specs.Changes.{unlink_checks}
+use Rattle.fileset_lending.specs.name_space.Changes.{unlink_checks}
 use Rattle.name_tests.proofs.Kept.{original_of, refusal_keeps}
 use Rattle.name_tests.proofs.steps.unlink.Goals as goal
 

@@ -1,6 +1,6 @@
 use Rattle.std.proofs.Common.{rules}
 use Rattle.std.proofs.lemmas.List.Sorted.{answers_always}
-use Rattle.numbered_values.proofs.Search.{searched}
+use Rattle.page_store.proofs.OfSortedSets.Search.{searched}
 use Rattle.page_cache.proofs.queue.index_of.Goals as goal
 
 pub returns-clause-place : goal.returns-clause-place

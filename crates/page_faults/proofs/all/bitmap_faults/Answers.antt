@@ -1,8 +1,8 @@
 use Rattle.std.proofs.Common.{◌↔◌, List, subst}
-use Rattle.domain_base.specs.declared.place.Home.{Home}
-use Rattle.home_sets.specs.Members.{IsIn}
-use Rattle.page_ways.specs.Frame.{frame_in}
-use Rattle.file_runs.specs.declared.run.FileRun.{FileRun}
+use Rattle.tag_faults.specs.domain_base.declared.place.Home.{Home}
+use Rattle.tag_faults.specs.sorted_sets.Members.{IsIn}
+use Rattle.tag_faults.specs.page_ways.Frame.{frame_in}
+use Rattle.tag_faults.specs.cell_chains.declared.run.FileRun.{FileRun}
 use Rattle.page_faults.specs.Wrong.{IsWrongBitmap}
 use Rattle.page_faults.proofs.FilesFound.{bits_all}
 use Rattle.page_faults.proofs.all.bitmap_faults.Goals as goal

@@ -1,9 +1,9 @@
 use Rattle.std.proofs.Common.{◌↔◌, List, subst}
-use Rattle.domain_base.specs.declared.place.Home.{Home}
-use Rattle.home_sets.specs.Members.{IsIn}
-use Rattle.page_ways.specs.Frame.{frame_in}
-use Rattle.file_runs.specs.Runs.{AreApart}
-use Rattle.file_runs.specs.declared.run.FileRun.{FileRun}
+use Rattle.tag_faults.specs.domain_base.declared.place.Home.{Home}
+use Rattle.tag_faults.specs.sorted_sets.Members.{IsIn}
+use Rattle.tag_faults.specs.page_ways.Frame.{frame_in}
+use Rattle.tag_faults.specs.cell_chains.Runs.{AreApart}
+use Rattle.tag_faults.specs.cell_chains.declared.run.FileRun.{FileRun}
 use Rattle.page_faults.specs.Wrong.{HasRun, IsWrongRun}
 use Rattle.page_faults.proofs.FilesFound.{pages_all}
 use Rattle.page_faults.proofs.all.extent_faults.Goals as goal

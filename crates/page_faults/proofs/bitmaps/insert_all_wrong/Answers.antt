@@ -1,6 +1,6 @@
 use Rattle.std.proofs.Common.{inl, inr, arith, ⊎_elim}
-use Rattle.page_ways.specs.Frame.{frame_in}
-use Rattle.span_sets.specs.Members.{HasNumber}
+use Rattle.tag_faults.specs.page_ways.Frame.{frame_in}
+use Rattle.tag_faults.specs.sorted_sets.SpanMembers.{HasNumber}
 use Rattle.tag_faults.proofs.Counted.{number_more}
 use Rattle.page_faults.specs.Wrong.{HasWrongBits}
 use Rattle.page_faults.proofs.bitmaps.insert_all_wrong.Goals as goal

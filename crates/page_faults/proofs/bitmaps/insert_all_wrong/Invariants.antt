@@ -1,8 +1,8 @@
 use Rattle.std.proofs.Common.{◌↔◌, ◌⊎◌}
-use Rattle.domain_base.specs.declared.place.Home.{Home}
-use Rattle.page_ways.specs.Frame.{frame_in}
-use Rattle.home_sets.specs.Members.{IsIn}
-use Rattle.span_sets.specs.Members.{HasNumber}
+use Rattle.tag_faults.specs.domain_base.declared.place.Home.{Home}
+use Rattle.tag_faults.specs.page_ways.Frame.{frame_in}
+use Rattle.tag_faults.specs.sorted_sets.Members.{IsIn}
+use Rattle.tag_faults.specs.sorted_sets.SpanMembers.{HasNumber}
 use Rattle.tag_faults.proofs.Counted.{IsBelow}
 use Rattle.page_faults.specs.Wrong.{HasWrongBits}
 use Rattle.page_faults.proofs.bitmaps.insert_all_wrong.Given as goal

@@ -1,10 +1,10 @@
 use Rattle.std.proofs.Common.{◌∙◌, ◌*◌, ◌↔◌, inl, inr, IsTrue, sym, ap, subst, ⊎_elim}
 use Rattle.std.specs.Option.{option_copied}
-use Rattle.disk_label.specs.declared.anchor.Member.{Member}
-use Rattle.log_ring.specs.Homes.{member_of}
-use Rattle.bitmap_checks.specs.Bits.{IsWrongPage}
-use Rattle.page_ways.specs.Frame.{frame_in}
-use Rattle.span_sets.specs.Members.{HasNumber}
+use Rattle.tag_faults.specs.disk_label.declared.anchor.Member.{Member}
+use Rattle.tag_faults.specs.log_ring.Homes.{member_of}
+use Rattle.tag_faults.specs.free_space.CheckBits.{IsWrongPage}
+use Rattle.tag_faults.specs.page_ways.Frame.{frame_in}
+use Rattle.tag_faults.specs.sorted_sets.SpanMembers.{HasNumber}
 use Rattle.page_faults.proofs.BitmapsFound.{no_page, page_wrong}
 use Rattle.page_faults.proofs.bitmaps.insert_wrong.Goals as goal
 

@@ -1,7 +1,7 @@
 use Rattle.std.proofs.Common.{◌↔◌, inl, inr, ℕ, subst, ⊎_elim}
-use Rattle.page_ways.specs.Frame.{frame_in}
-use Rattle.span_sets.specs.Members.{HasNumber}
-use Rattle.file_runs.specs.Runs.{on}
+use Rattle.tag_faults.specs.page_ways.Frame.{frame_in}
+use Rattle.tag_faults.specs.sorted_sets.SpanMembers.{HasNumber}
+use Rattle.tag_faults.specs.cell_chains.Runs.{on}
 use Rattle.page_faults.specs.Wrong.{HasWrongBitmap, IsOwnedBy, IsWrongBitmapOf}
 use Rattle.page_faults.proofs.BitmapsFound.{bitmaps_by}
 use Rattle.page_faults.proofs.bitmaps.look_at_volume.Goals as goal

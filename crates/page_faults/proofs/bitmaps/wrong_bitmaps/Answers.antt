@@ -1,5 +1,5 @@
 use Rattle.std.proofs.Common.{inl, inr, arith, ⊎_elim}
-use Rattle.page_ways.specs.Frame.{frame_in}
+use Rattle.tag_faults.specs.page_ways.Frame.{frame_in}
 use Rattle.tag_faults.proofs.Counted.{number_more}
 use Rattle.page_faults.specs.Wrong.{IsWrongBitmapOf}
 use Rattle.page_faults.proofs.BitmapsFound.{bitmaps_all}

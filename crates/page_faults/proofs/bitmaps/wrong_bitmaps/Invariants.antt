@@ -1,7 +1,7 @@
 use Rattle.std.proofs.Common.{◌↔◌}
-use Rattle.domain_base.specs.declared.place.Home.{Home}
-use Rattle.page_ways.specs.Frame.{frame_in}
-use Rattle.home_sets.specs.Members.{IsIn}
+use Rattle.tag_faults.specs.domain_base.declared.place.Home.{Home}
+use Rattle.tag_faults.specs.page_ways.Frame.{frame_in}
+use Rattle.tag_faults.specs.sorted_sets.Members.{IsIn}
 use Rattle.tag_faults.proofs.Counted.{IsBelow}
 use Rattle.page_faults.specs.Wrong.{IsWrongBitmapOf}
 use Rattle.page_faults.proofs.bitmaps.wrong_bitmaps.Given as goal

@@ -1,6 +1,6 @@
 use Rattle.std.proofs.Common.{◌∙◌, Some, sym, ap}
 use mathlib.Core.Bool.{false≢true}
-use Rattle.record_table.specs.declared.record.Record.{Record}
+use Rattle.tag_faults.specs.cell_records.declared.record.Record.{Record}
 use Rattle.page_faults.proofs.HomesFound.{on_volume}
 use Rattle.page_faults.proofs.homes.first_of_index.Goals as goal
 

@@ -1,6 +1,6 @@
 use Rattle.std.proofs.Common.{◌≡◌, ◌∙◌, ◌↔◌, IfNone, IfSome, None, Some, sym, subst}
-use Rattle.bmt_mcells.specs.Cell.{Cell}
-use Rattle.bmt_mcells.specs.Chain.{StandsAt}
+use Rattle.tag_faults.specs.metadata_cells.Cell.{Cell}
+use Rattle.tag_faults.specs.metadata_cells.Chain.{StandsAt}
 use Rattle.page_faults.proofs.HomesFound.{named_by, none_named}
 use Rattle.page_faults.proofs.homes.index_at.Goals as goal
 

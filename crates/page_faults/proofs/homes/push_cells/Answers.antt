@@ -1,7 +1,7 @@
 use Rattle.std.proofs.Common.{◌≡◌, inl, inr, refl, ⊎_elim}
-use Rattle.cell_faults.specs.declared.tables.CellsPage.{CellsPage}
-use Rattle.home_sets.proofs.Items.{item_of}
-use Rattle.span_sets.proofs.Below.{below_all, below_more}
+use Rattle.tag_faults.specs.cell_faults.declared.tables.CellsPage.{CellsPage}
+use Rattle.tag_faults.proofs.OfSortedSets.Items.{item_of}
+use Rattle.tag_faults.proofs.OfSortedSets.Below.{below_all, below_more}
 use Rattle.page_faults.proofs.homes.push_cells.Goals as goal
 
 pub loop-page-preserved : goal.loop-page-preserved

@@ -1,7 +1,7 @@
 use Rattle.std.proofs.Common.{◌≡◌, ◌↔◌, ◌⊎◌, Contains}
-use Rattle.domain_base.specs.declared.place.Home.{Home}
-use Rattle.cell_faults.specs.declared.tables.CellsPage.{CellsPage}
-use Rattle.span_sets.proofs.Below.{IsBelow}
+use Rattle.tag_faults.specs.domain_base.declared.place.Home.{Home}
+use Rattle.tag_faults.specs.cell_faults.declared.tables.CellsPage.{CellsPage}
+use Rattle.tag_faults.proofs.OfSortedSets.Below.{IsBelow}
 use Rattle.page_faults.proofs.homes.push_cells.Given as goal
 
 abbrev pub invariant-loop-page : goal.invariant-loop-page

@@ -1,7 +1,7 @@
 use Rattle.std.proofs.Common.{◌≡◌, inl, inr, Contains, refl, subst, ⊎_elim}
-use Rattle.domain_base.specs.declared.place.Home.{Home}
-use Rattle.home_sets.proofs.Items.{item_of}
-use Rattle.span_sets.proofs.Below.{below_all, below_more}
+use Rattle.tag_faults.specs.domain_base.declared.place.Home.{Home}
+use Rattle.tag_faults.proofs.OfSortedSets.Items.{item_of}
+use Rattle.tag_faults.proofs.OfSortedSets.Below.{below_all, below_more}
 use Rattle.page_faults.proofs.homes.push_homes.Goals as goal
 
 pub loop-one-preserved : goal.loop-one-preserved

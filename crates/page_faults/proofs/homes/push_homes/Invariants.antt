@@ -1,6 +1,6 @@
 use Rattle.std.proofs.Common.{◌≡◌, ◌↔◌, ◌⊎◌, Contains}
-use Rattle.domain_base.specs.declared.place.Home.{Home}
-use Rattle.span_sets.proofs.Below.{IsBelow}
+use Rattle.tag_faults.specs.domain_base.declared.place.Home.{Home}
+use Rattle.tag_faults.proofs.OfSortedSets.Below.{IsBelow}
 use Rattle.page_faults.proofs.homes.push_homes.Given as goal
 
 abbrev pub invariant-loop-one : goal.invariant-loop-one

@@ -1,5 +1,5 @@
 use Rattle.std.proofs.Common.{inl, inr, ⊎_elim}
-use Rattle.page_ways.specs.Frame.{frame_in}
+use Rattle.tag_faults.specs.page_ways.Frame.{frame_in}
 use Rattle.page_faults.proofs.HomesFound.{no_pages, pages_of}
 use Rattle.page_faults.proofs.homes.push_index.Goals as goal
 

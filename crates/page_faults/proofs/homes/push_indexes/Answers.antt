@@ -1,11 +1,11 @@
 use Rattle.std.proofs.Common.{inl, inr, refl, ⊎_elim}
-use Rattle.domain_base.specs.declared.place.Home.{Home}
-use Rattle.page_ways.specs.Frame.{frame_in}
-use Rattle.home_sets.proofs.Items.{item_of}
-use Rattle.cell_links.specs.Links.{cells_of}
-use Rattle.chain_faults.proofs.Walks.{is_link}
-use Rattle.chain_leads.proofs.Each.{Entry, SomeBelow, all_found, below_more}
-use Rattle.file_runs.proofs.ReadRuns.{used_at}
+use Rattle.tag_faults.specs.domain_base.declared.place.Home.{Home}
+use Rattle.tag_faults.specs.page_ways.Frame.{frame_in}
+use Rattle.tag_faults.proofs.OfSortedSets.Items.{item_of}
+use Rattle.tag_faults.specs.cell_chains.Links.{cells_of}
+use Rattle.tag_faults.proofs.OfCellFaults.Walks.{is_link}
+use Rattle.tag_faults.proofs.OfCellChains.Each.{Entry, SomeBelow, all_found, below_more}
+use Rattle.tag_faults.proofs.OfCellChains.ReadRuns.{used_at}
 use Rattle.tag_faults.proofs.UsedCells.{used_link}
 use Rattle.page_faults.specs.Owned.{IsIndexOf}
 use Rattle.page_faults.proofs.homes.push_indexes.Goals as goal

@@ -1,8 +1,8 @@
 use Rattle.std.proofs.Common.{◌↔◌, ◌⊎◌, Contains}
-use Rattle.domain_base.specs.declared.place.Home.{Home}
-use Rattle.page_ways.specs.Frame.{frame_in}
-use Rattle.cell_links.specs.Links.{cells_of}
-use Rattle.chain_leads.proofs.Each.{SomeBelow}
+use Rattle.tag_faults.specs.domain_base.declared.place.Home.{Home}
+use Rattle.tag_faults.specs.page_ways.Frame.{frame_in}
+use Rattle.tag_faults.specs.cell_chains.Links.{cells_of}
+use Rattle.tag_faults.proofs.OfCellChains.Each.{SomeBelow}
 use Rattle.page_faults.specs.Owned.{IsIndexOf}
 use Rattle.page_faults.proofs.homes.push_indexes.Given as goal
 

@@ -1,5 +1,5 @@
 use Rattle.std.proofs.Common.{◌≡◌, ◌∙◌, inl, inr, Some, sym, ap, ⊎_elim}
-use Rattle.domain_base.specs.declared.place.Home.{Home}
+use Rattle.tag_faults.specs.domain_base.declared.place.Home.{Home}
 use Rattle.page_faults.proofs.homes.push_one.Goals as goal
 
 some_same : {X : Type 0} (a b : X) → Some a ≡ Some b → a ≡ b

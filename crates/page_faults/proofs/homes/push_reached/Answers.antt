@@ -1,7 +1,7 @@
 use Rattle.std.proofs.Common.{inl, inr, List, Contains, subst, sym, ⊎_elim}
-use Rattle.domain_base.specs.declared.place.Home.{Home}
-use Rattle.domain_layout.specs.Reached.{index_way}
-use Rattle.page_ways.specs.Frame.{frame_in}
+use Rattle.tag_faults.specs.domain_base.declared.place.Home.{Home}
+use Rattle.tag_faults.specs.domain_layout.Reached.{index_way}
+use Rattle.tag_faults.specs.page_ways.Frame.{frame_in}
 use Rattle.page_faults.proofs.HomesFound.{reached_all}
 use Rattle.page_faults.proofs.homes.push_reached.Goals as goal
 

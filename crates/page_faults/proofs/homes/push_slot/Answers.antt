@@ -1,6 +1,6 @@
 use Rattle.std.proofs.Common.{inl, inr, Contains, List, sym, subst, ⊎_elim}
-use Rattle.domain_base.specs.declared.place.Home.{Home}
-use Rattle.page_ways.specs.Frame.{frame_in}
+use Rattle.tag_faults.specs.domain_base.declared.place.Home.{Home}
+use Rattle.tag_faults.specs.page_ways.Frame.{frame_in}
 use Rattle.tag_faults.proofs.SlotPages.{has_page}
 use Rattle.page_faults.proofs.homes.push_slot.Goals as goal
 

@@ -1,5 +1,5 @@
 use Rattle.std.proofs.Common.{◌↔◌, ◌⊎◌, inl, inr, Contains, subst, arith, ⊎_elim}
-use Rattle.page_ways.specs.Frame.{frame_in}
+use Rattle.tag_faults.specs.page_ways.Frame.{frame_in}
 use Rattle.tag_faults.specs.Directories.{HasPage}
 use Rattle.tag_faults.proofs.Counted.{number_more, within_of}
 use Rattle.page_faults.proofs.homes.push_tags.Goals as goal

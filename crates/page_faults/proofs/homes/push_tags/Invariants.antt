@@ -1,6 +1,6 @@
 use Rattle.std.proofs.Common.{◌↔◌, ◌⊎◌, Contains}
-use Rattle.domain_base.specs.declared.place.Home.{Home}
-use Rattle.page_ways.specs.Frame.{frame_in}
+use Rattle.tag_faults.specs.domain_base.declared.place.Home.{Home}
+use Rattle.tag_faults.specs.page_ways.Frame.{frame_in}
 use Rattle.tag_faults.specs.Directories.{HasPage}
 use Rattle.tag_faults.proofs.Counted.{IsBelow}
 use Rattle.page_faults.proofs.homes.push_tags.Given as goal

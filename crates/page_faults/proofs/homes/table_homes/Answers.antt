@@ -1,7 +1,7 @@
 use Rattle.std.proofs.Common.{inl, inr, Contains, List, arith, sym, subst, ⊎_elim}
-use Rattle.domain_base.specs.declared.place.Home.{Home}
-use Rattle.cell_faults.specs.declared.tables.CellsPage.{CellsPage}
-use Rattle.page_ways.specs.Frame.{frame_in}
+use Rattle.tag_faults.specs.domain_base.declared.place.Home.{Home}
+use Rattle.tag_faults.specs.cell_faults.declared.tables.CellsPage.{CellsPage}
+use Rattle.tag_faults.specs.page_ways.Frame.{frame_in}
 use Rattle.page_faults.specs.Owned.{IsListed}
 use Rattle.page_faults.proofs.HomesFound.{cells_listed}
 use Rattle.page_faults.proofs.homes.table_homes.Goals as goal

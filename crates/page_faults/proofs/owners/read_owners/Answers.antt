@@ -1,4 +1,4 @@
-use Rattle.page_ways.specs.Frame.{frame_in}
+use Rattle.tag_faults.specs.page_ways.Frame.{frame_in}
 use Rattle.page_faults.proofs.FilesFound.{file_pages}
 use Rattle.page_faults.proofs.OneMaps.{have_one_map}
 use Rattle.page_faults.proofs.owners.read_owners.Goals as goal

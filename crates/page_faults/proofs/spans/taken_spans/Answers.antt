@@ -1,6 +1,6 @@
 use Rattle.std.proofs.Common.{inl, inr, List, arith, subst, ⊎_elim}
-use Rattle.span_sets.specs.Members.{HasAnyOf}
-use Rattle.span_sets.specs.declared.span.Span.{Span}
+use Rattle.tag_faults.specs.sorted_sets.SpanMembers.{HasAnyOf}
+use Rattle.tag_faults.specs.sorted_sets.declared.span.Span.{Span}
 use Rattle.page_faults.proofs.spans.taken_spans.Goals as goal
 
 pub returns : goal.returns

@@ -1,10 +1,10 @@
 use Rattle.std.proofs.Common.{◌≡◌, inl, inr, refl, ⊎_elim}
-use Rattle.bmt_mcells.specs.CellPage.{home_of}
-use Rattle.file_runs.specs.declared.run.FileRun.{FileRun}
-use Rattle.span_sets.specs.Members.{HasNumber}
+use Rattle.tag_faults.specs.metadata_cells.CellPage.{home_of}
+use Rattle.tag_faults.specs.cell_chains.declared.run.FileRun.{FileRun}
+use Rattle.tag_faults.specs.sorted_sets.SpanMembers.{HasNumber}
 use Rattle.page_faults.specs.Wrong.{IsMet}
-use Rattle.home_sets.proofs.Items.{item_of}
-use Rattle.span_sets.proofs.Below.{below_all, below_more}
+use Rattle.tag_faults.proofs.OfSortedSets.Items.{item_of}
+use Rattle.tag_faults.proofs.OfSortedSets.Below.{below_all, below_more}
 use Rattle.page_faults.proofs.wrong.insert_all_met.Goals as goal
 
 pub loop-run-preserved : goal.loop-run-preserved

@@ -1,10 +1,10 @@
 use Rattle.std.proofs.Common.{◌≡◌, ◌↔◌, ◌⊎◌}
-use Rattle.domain_base.specs.declared.place.Home.{Home}
-use Rattle.bmt_mcells.specs.CellPage.{home_of}
-use Rattle.home_sets.specs.Members.{IsIn}
-use Rattle.span_sets.specs.Members.{HasNumber}
-use Rattle.span_sets.proofs.Below.{IsBelow}
-use Rattle.file_runs.specs.declared.run.FileRun.{FileRun}
+use Rattle.tag_faults.specs.domain_base.declared.place.Home.{Home}
+use Rattle.tag_faults.specs.metadata_cells.CellPage.{home_of}
+use Rattle.tag_faults.specs.sorted_sets.Members.{IsIn}
+use Rattle.tag_faults.specs.sorted_sets.SpanMembers.{HasNumber}
+use Rattle.tag_faults.proofs.OfSortedSets.Below.{IsBelow}
+use Rattle.tag_faults.specs.cell_chains.declared.run.FileRun.{FileRun}
 use Rattle.page_faults.specs.Wrong.{IsMet}
 use Rattle.page_faults.proofs.wrong.insert_all_met.Given as goal
 

@@ -1,7 +1,7 @@
 use Rattle.std.proofs.Common.{inl, inr, ⊎_elim}
-use Rattle.page_ways.specs.Frame.{frame_in}
-use Rattle.span_sets.specs.Members.{HasNumber}
-use Rattle.file_runs.specs.Runs.{page_in}
+use Rattle.tag_faults.specs.page_ways.Frame.{frame_in}
+use Rattle.tag_faults.specs.sorted_sets.SpanMembers.{HasNumber}
+use Rattle.tag_faults.specs.cell_chains.Runs.{page_in}
 use Rattle.page_faults.proofs.RunsOutside.{met_all}
 use Rattle.page_faults.proofs.wrong.look_at_member.Goals as goal
 

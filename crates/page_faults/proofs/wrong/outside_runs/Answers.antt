@@ -1,9 +1,9 @@
 use Rattle.std.proofs.Common.{◌≡◌, inl, inr, refl, ⊎_elim}
-use Rattle.bmt_mcells.specs.CellPage.{home_of}
-use Rattle.page_ways.specs.Frame.{frame_in}
-use Rattle.home_sets.proofs.Items.{item_of}
-use Rattle.span_sets.proofs.Below.{below_all, below_more, none_below}
-use Rattle.file_runs.specs.declared.run.FileRun.{FileRun}
+use Rattle.tag_faults.specs.metadata_cells.CellPage.{home_of}
+use Rattle.tag_faults.specs.page_ways.Frame.{frame_in}
+use Rattle.tag_faults.proofs.OfSortedSets.Items.{item_of}
+use Rattle.tag_faults.proofs.OfSortedSets.Below.{below_all, below_more, none_below}
+use Rattle.tag_faults.specs.cell_chains.declared.run.FileRun.{FileRun}
 use Rattle.page_faults.specs.Wrong.{IsOutside}
 use Rattle.page_faults.proofs.wrong.outside_runs.Goals as goal
 

@@ -1,10 +1,10 @@
 use Rattle.std.proofs.Common.{◌≡◌, ◌↔◌}
-use Rattle.domain_base.specs.declared.place.Home.{Home}
-use Rattle.bmt_mcells.specs.CellPage.{home_of}
-use Rattle.page_ways.specs.Frame.{frame_in}
-use Rattle.home_sets.specs.Members.{IsIn}
-use Rattle.span_sets.proofs.Below.{IsBelow}
-use Rattle.file_runs.specs.declared.run.FileRun.{FileRun}
+use Rattle.tag_faults.specs.domain_base.declared.place.Home.{Home}
+use Rattle.tag_faults.specs.metadata_cells.CellPage.{home_of}
+use Rattle.tag_faults.specs.page_ways.Frame.{frame_in}
+use Rattle.tag_faults.specs.sorted_sets.Members.{IsIn}
+use Rattle.tag_faults.proofs.OfSortedSets.Below.{IsBelow}
+use Rattle.tag_faults.specs.cell_chains.declared.run.FileRun.{FileRun}
 use Rattle.page_faults.specs.Wrong.{IsOutside}
 use Rattle.page_faults.proofs.wrong.outside_runs.Given as goal
 

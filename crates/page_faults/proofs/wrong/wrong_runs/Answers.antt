@@ -1,5 +1,5 @@
 use Rattle.std.proofs.Common.{inl, inr, arith, ⊎_elim}
-use Rattle.page_ways.specs.Frame.{frame_in}
+use Rattle.tag_faults.specs.page_ways.Frame.{frame_in}
 use Rattle.page_faults.proofs.RunsOutside.{below_more, none_below, wrong_all}
 use Rattle.page_faults.proofs.wrong.wrong_runs.Goals as goal
 

@@ -1,8 +1,8 @@
 use Rattle.std.proofs.Common.{◌↔◌, ◌⊎◌}
-use Rattle.domain_base.specs.declared.place.Home.{Home}
-use Rattle.page_ways.specs.Frame.{frame_in}
-use Rattle.home_sets.specs.Members.{IsIn}
-use Rattle.file_runs.specs.Runs.{AreApart}
+use Rattle.tag_faults.specs.domain_base.declared.place.Home.{Home}
+use Rattle.tag_faults.specs.page_ways.Frame.{frame_in}
+use Rattle.tag_faults.specs.sorted_sets.Members.{IsIn}
+use Rattle.tag_faults.specs.cell_chains.Runs.{AreApart}
 use Rattle.page_faults.specs.Wrong.{HasRun, IsOutside}
 use Rattle.page_faults.proofs.RunsOutside.{HasBelow}
 use Rattle.page_faults.proofs.wrong.wrong_runs.Given as goal

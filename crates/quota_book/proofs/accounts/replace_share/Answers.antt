@@ -1,6 +1,6 @@
 use Rattle.std.proofs.Common.{◌∙◌, ap, subst, sym, arith, refl, length}
 use Rattle.std.specs.FinMap.Entries.{put}
-use Rattle.fileset_model.specs.Orders.{owner_cmp}
+use Rattle.fileset_model.specs.fileset_values.Orders.{owner_cmp}
 use Rattle.quota_book.specs.declared.account.Account.TheVariants.{Changed}
 use Rattle.quota_book.specs.Accounts.{Accounts, AreAccounts, Kept, SetsShare, account_at, is_same, share_on, with_owner}
 use Rattle.quota_book.proofs.Shares.{accounts_put, has_room, length_stays, sets_put}

@@ -1,6 +1,6 @@
 use Rattle.std.proofs.Common.{◌≡◌, ◌∙◌, Some, ap, subst, sym, arith, length, rules}
 use Rattle.std.specs.FinMap.Entries.{find}
-use Rattle.fileset_model.specs.Orders.{owner_cmp}
+use Rattle.fileset_model.specs.fileset_values.Orders.{owner_cmp}
 use Rattle.quota_book.specs.Accounts.{Accounts, SettlesOne}
 use Rattle.quota_book.proofs.Settled.{length_put, settles_put}
 use Rattle.quota_book.proofs.accounts.settle.Goals as goal

@@ -1,6 +1,6 @@
 use Rattle.std.proofs.Common.{[], IsTrue, refl, subst, sym}
 use Rattle.std.specs.FinMap.Entries.{is_sorted}
-use Rattle.fileset_model.specs.Orders.{owner_cmp}
+use Rattle.fileset_model.specs.fileset_values.Orders.{owner_cmp}
 use Rattle.quota_book.specs.QuotaCells.{Seen}
 use Rattle.quota_book.proofs.Once.{NotedSo, comes_twice, noted_all, noted_more, noted_none}
 use Rattle.quota_book.proofs.quota_cells.are_once.Goals as goal

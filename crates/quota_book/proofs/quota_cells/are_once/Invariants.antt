@@ -1,6 +1,6 @@
 use Rattle.std.proofs.Common.{IsTrue, take}
 use Rattle.std.specs.FinMap.Entries.{is_sorted}
-use Rattle.fileset_model.specs.Orders.{owner_cmp}
+use Rattle.fileset_model.specs.fileset_values.Orders.{owner_cmp}
 use Rattle.quota_book.specs.QuotaCells.{said_by}
 use Rattle.quota_book.proofs.Once.{NotedSo}
 use Rattle.quota_book.proofs.quota_cells.are_once.Given as goal

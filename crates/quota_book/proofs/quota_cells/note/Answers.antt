@@ -1,6 +1,6 @@
 use Rattle.std.proofs.Common.{◌∙◌, ap, is_some, sym}
 use Rattle.std.specs.FinMap.Entries.{find}
-use Rattle.fileset_model.specs.Orders.{owner_cmp}
+use Rattle.fileset_model.specs.fileset_values.Orders.{owner_cmp}
 use Rattle.quota_book.specs.QuotaCells.{Seen}
 use Rattle.quota_book.proofs.Once.{put_notes}
 use Rattle.quota_book.proofs.quota_cells.note.Goals as goal

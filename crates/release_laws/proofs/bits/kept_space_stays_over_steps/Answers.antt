@@ -1,4 +1,4 @@
-use Rattle.domain_standing.specs.Domain.{all_of}
+use Rattle.standing_laws.specs.domain_standing.Domain.{all_of}
 use Rattle.release_laws.proofs.Entries.{gives_none}
 use Rattle.release_laws.proofs.SpacesOver.{space_over}
 use Rattle.release_laws.proofs.bits.kept_space_stays_over_steps.Goals as goal

@@ -1,12 +1,12 @@
 use Rattle.std.proofs.Common.{Option, subst, sym, arith}
-use Rattle.chain_release.specs.declared.reader.OwnPages.{OwnPages}
-use Rattle.chain_release.specs.Sharing.{IsKnown}
-use Rattle.deferred_delete.specs.declared.cursor.Cursor.{Cursor}
-use Rattle.deferred_delete.specs.Cursors.{IsAhead}
-use Rattle.deferred_delete.specs.Listing.{Listing}
-use Rattle.deferred_delete.specs.Standing.{Files}
-use Rattle.deferred_delete.specs.Steps.{IsWell, LetsGo, now_of}
-use Rattle.memory_store.specs.Homes.{pages_of}
+use Rattle.release_steps.specs.file_release.declared.reader.OwnPages.{OwnPages}
+use Rattle.release_steps.specs.file_release.Sharing.{IsKnown}
+use Rattle.release_steps.specs.release_list.declared.cursor.Cursor.{Cursor}
+use Rattle.release_steps.specs.release_list.Cursors.{IsAhead}
+use Rattle.release_steps.specs.release_list.Listing.{Listing}
+use Rattle.release_steps.specs.release_list.Standing.{Files}
+use Rattle.release_steps.specs.release_list.Steps.{IsWell, LetsGo, now_of}
+use Rattle.release_steps.specs.page_store.Homes.{pages_of}
 use Rattle.release_tests.specs.Called.{parts_of}
 use Rattle.release_tests.proofs.Agains.{cut_chain, let_go, well}
 use Rattle.release_tests.proofs.again.let_go.Goals as goal

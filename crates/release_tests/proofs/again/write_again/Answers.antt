@@ -1,5 +1,5 @@
 use Rattle.std.proofs.Common.{ℕ, subst, sym}
-use Rattle.deferred_laws.specs.Calls.{StandsWell}
+use Rattle.release_steps.specs.Calls.{StandsWell}
 use Rattle.release_tests.specs.Called.{fileset_in, parts_of}
 use Rattle.release_tests.proofs.Agains.{cut_so, go_on, written_again}
 use Rattle.release_tests.proofs.Callings.{stands_now}

@@ -1,5 +1,5 @@
 use Rattle.std.proofs.Common.{[], refl}
-use Rattle.deferred_delete.specs.Listing.{Listing}
+use Rattle.release_steps.specs.release_list.Listing.{Listing}
 use Rattle.release_tests.proofs.beside.made_in_both.Goals as goal
 
 abbrev nothing : Listing

@@ -1,6 +1,6 @@
 use Rattle.std.proofs.Common.{◌∙◌, ℕ, subst, sym}
-use Rattle.memory_store.specs.Homes.{pages_of}
-use Rattle.deferred_laws.specs.Calls.{StandsWell}
+use Rattle.release_steps.specs.page_store.Homes.{pages_of}
+use Rattle.release_steps.specs.Calls.{StandsWell}
 use Rattle.release_tests.specs.Called.{fileset_in}
 use Rattle.release_tests.proofs.Besides.{made_both}
 use Rattle.release_tests.proofs.beside.make_beside.Goals as goal

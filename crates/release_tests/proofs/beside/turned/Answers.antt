@@ -1,5 +1,5 @@
 use Rattle.std.proofs.Common.{sym}
-use Rattle.memory_store.specs.Homes.{pages_of}
+use Rattle.release_steps.specs.page_store.Homes.{pages_of}
 use Rattle.release_tests.proofs.Besides.{turned_beside, turned_stands}
 use Rattle.release_tests.proofs.beside.turned.Goals as goal
 

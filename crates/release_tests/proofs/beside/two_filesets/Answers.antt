@@ -1,8 +1,8 @@
 use Rattle.std.proofs.Common.{◌∙◌, List, [], subst, sym}
-use Rattle.memory_store.specs.Homes.{pages_of}
-use Rattle.tag_dirs.specs.declared.dir.TagPlace.{TagPlace}
-use Rattle.deferred_laws.specs.Beside.{StandsBeside}
-use Rattle.deferred_laws.specs.Calls.{StandsWell}
+use Rattle.release_steps.specs.page_store.Homes.{pages_of}
+use Rattle.release_steps.specs.tag_dirs.declared.dir.TagPlace.{TagPlace}
+use Rattle.release_steps.specs.Beside.{StandsBeside}
+use Rattle.release_steps.specs.Calls.{StandsWell}
 use Rattle.release_tests.specs.Called.{fileset_in}
 use Rattle.release_tests.proofs.Besides.{no_chains, none_beside}
 use Rattle.release_tests.proofs.Wells.{no_files}

@@ -1,6 +1,6 @@
 use Rattle.std.proofs.Common.{rules, ◌∙◌, Bool, cond, nat_eq, None, Some, inr, ap, arith, refl}
 use Rattle.std.proofs.lemmas.Bool.{eqb-true, false_from_ne_true}
-use Rattle.record_table.specs.Records.{Allowed}
+use Rattle.release_steps.specs.cell_records.Records.{Allowed}
 use Rattle.release_tests.proofs.clones.clone_record.Goals as goal
 
 pub returns : goal.returns

@@ -1,5 +1,5 @@
 use Rattle.std.proofs.Common.{Some}
-use Rattle.memory_store.specs.Homes.{pages_of}
+use Rattle.release_steps.specs.page_store.Homes.{pages_of}
 use Rattle.release_tests.proofs.Pairs.{pair_listed}
 use Rattle.release_tests.proofs.clones.list_first.Goals as goal
 

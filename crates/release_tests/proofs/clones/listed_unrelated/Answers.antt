@@ -1,5 +1,5 @@
 use Rattle.std.proofs.Common.{◌≤◌, rules}
-use Rattle.memory_store.specs.Homes.{pages_of}
+use Rattle.release_steps.specs.page_store.Homes.{pages_of}
 use Rattle.release_tests.proofs.Pairs.{all_listed}
 use Rattle.release_tests.proofs.clones.listed_unrelated.Goals as goal
 

@@ -1,10 +1,10 @@
 use Rattle.std.proofs.Common.{ap}
 use Rattle.std.proofs.lemmas.Bool.{false_from_ne_true}
-use Rattle.domain_base.specs.declared.place.Tag.{Tag}
-use Rattle.page_store.specs.Bitfiles.{same_tag}
-use Rattle.memory_store.specs.Homes.{pages_of}
-use Rattle.bitfile_core.specs.Changes.{without_chain}
-use Rattle.bitfile_core.proofs.OneFile.{tags_same}
+use Rattle.release_steps.specs.domain_base.declared.place.Tag.{Tag}
+use Rattle.release_steps.specs.page_store.Bitfiles.{same_tag}
+use Rattle.release_steps.specs.page_store.Homes.{pages_of}
+use Rattle.release_steps.specs.fileset_files.Changes.{without_chain}
+use Rattle.release_steps.proofs.OfFilesetFiles.OneFile.{tags_same}
 use Rattle.release_tests.proofs.Removals.{two_removed}
 use Rattle.release_tests.proofs.clones.remove_two.Goals as goal
 

@@ -1,5 +1,5 @@
 use Rattle.std.proofs.Common.{IfSome, subst}
-use Rattle.memory_store.specs.Homes.{pages_of}
+use Rattle.release_steps.specs.page_store.Homes.{pages_of}
 use Rattle.release_tests.specs.Pairs.{IsCloneOf}
 use Rattle.release_tests.proofs.Pairs.{pair_room, pair_well}
 use Rattle.release_tests.proofs.clones.unlisted_pair.Goals as goal

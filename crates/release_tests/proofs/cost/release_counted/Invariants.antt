@@ -1,7 +1,7 @@
 use Rattle.std.proofs.Common.{◌*◌, ◌≤◌}
-use Rattle.memory_store.specs.Homes.{pages_of}
-use Rattle.chain_release.specs.Sharing.{IsKnown}
-use Rattle.deferred_delete.specs.Cursors.{IsAhead}
+use Rattle.release_steps.specs.page_store.Homes.{pages_of}
+use Rattle.release_steps.specs.file_release.Sharing.{IsKnown}
+use Rattle.release_steps.specs.release_list.Cursors.{IsAhead}
 use Rattle.release_tests.specs.Going.{HasWellBy}
 use Rattle.release_tests.proofs.cost.release_counted.Given as goal
 

@@ -1,8 +1,8 @@
 use Rattle.std.proofs.Common.{◌≤◌, rules, subst, sym}
-use Rattle.memory_store.specs.Homes.{pages_of}
-use Rattle.free_space.specs.Spaces.{Spaces}
-use Rattle.bitfile_core.specs.Together.{IsHeldApart}
-use Rattle.bitfile_core.proofs.Grown.{apart_now}
+use Rattle.release_steps.specs.page_store.Homes.{pages_of}
+use Rattle.release_steps.specs.free_space.Spaces.{Spaces}
+use Rattle.release_steps.specs.fileset_files.Together.{IsHeldApart}
+use Rattle.release_steps.proofs.OfFilesetFiles.Grown.{apart_now}
 use Rattle.file_tests.proofs.Kept.{together}
 use Rattle.release_tests.proofs.Wells.{page_well}
 use Rattle.release_tests.proofs.going.listed_page.Goals as goal

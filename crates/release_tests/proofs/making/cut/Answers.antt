@@ -1,4 +1,4 @@
-use Rattle.memory_store.specs.Homes.{pages_of}
+use Rattle.release_steps.specs.page_store.Homes.{pages_of}
 use Rattle.release_tests.proofs.Goings.{cut_going}
 use Rattle.release_tests.proofs.Callings.{cut_one, stands_now}
 use Rattle.release_tests.proofs.making.cut.Goals as goal

@@ -1,4 +1,4 @@
-use Rattle.memory_store.specs.Homes.{pages_of}
+use Rattle.release_steps.specs.page_store.Homes.{pages_of}
 use Rattle.file_tests.proofs.Kept.{given_or_kept}
 use Rattle.release_tests.proofs.Callings.{gave, stands_now}
 use Rattle.release_tests.proofs.making.give.Goals as goal

@@ -1,6 +1,6 @@
 use Rattle.std.proofs.Common.{◌≡◌}
-use Rattle.deferred_delete.specs.Listing.{Listing}
-use Rattle.deferred_laws.specs.Calls.{FilesetNow, StandsWell}
+use Rattle.release_steps.specs.release_list.Listing.{Listing}
+use Rattle.release_steps.specs.Calls.{FilesetNow, StandsWell}
 use Rattle.file_tests.specs.Worlds.{IsWorld}
 use Rattle.release_tests.specs.Called.{HasCalled, parts_of}
 use Rattle.release_tests.proofs.making.give_pages.Given as goal

@@ -1,4 +1,4 @@
-use Rattle.memory_store.specs.Homes.{pages_of}
+use Rattle.release_steps.specs.page_store.Homes.{pages_of}
 use Rattle.file_tests.proofs.Kept.{created}
 use Rattle.release_tests.proofs.Callings.{made_one}
 use Rattle.release_tests.proofs.making.make.Goals as goal

@@ -1,4 +1,4 @@
-use Rattle.memory_store.specs.Homes.{pages_of}
+use Rattle.release_steps.specs.page_store.Homes.{pages_of}
 use Rattle.release_tests.proofs.Goings.{removed_going}
 use Rattle.release_tests.proofs.making.remove.Goals as goal
 

@@ -1,5 +1,5 @@
 use Rattle.std.proofs.Common.{subst, sym}
-use Rattle.deferred_delete.specs.Listing.{Listing}
+use Rattle.release_steps.specs.release_list.Listing.{Listing}
 use Rattle.release_tests.specs.Called.{parts_of}
 use Rattle.release_tests.specs.Stood.{IsStood}
 use Rattle.release_tests.proofs.WentOn.{from_start, is_stood}

@@ -1,4 +1,4 @@
-use Rattle.domain_base.specs.declared.version.Version.TheVariants.{Four}
+use Rattle.release_steps.specs.domain_base.declared.version.Version.TheVariants.{Four}
 use Rattle.release_tests.specs.Called.{fileset_in, parts_of}
 use Rattle.release_tests.proofs.Agains.{cut_chain}
 use Rattle.release_tests.proofs.Stoods.{cut_from, cut_stood, itself}

@@ -1,6 +1,6 @@
 use Rattle.std.proofs.Common.{◌≡◌, true, List, arith, get_or, refl, subst}
-use Rattle.tag_dirs.specs.declared.dir.TagPlace.{TagPlace}
-use Rattle.tag_dirs.specs.Directory.{has_home}
+use Rattle.release_steps.specs.tag_dirs.declared.dir.TagPlace.{TagPlace}
+use Rattle.release_steps.specs.tag_dirs.Directory.{has_home}
 use Rattle.release_tests.specs.Called.{fileset_in, parts_of}
 use Rattle.release_tests.proofs.Stoods.{first_home, tags_well}
 use Rattle.release_tests.proofs.removing.list_tag_page.Goals as goal

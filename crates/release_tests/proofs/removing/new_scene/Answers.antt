@@ -1,4 +1,4 @@
-use Rattle.memory_store.specs.Homes.{pages_of}
+use Rattle.release_steps.specs.page_store.Homes.{pages_of}
 use Rattle.release_tests.specs.Called.{parts_of}
 use Rattle.release_tests.proofs.Stoods.{nothing_stood}
 use Rattle.release_tests.proofs.Wells.{none_stands}

@@ -1,9 +1,9 @@
 use Rattle.std.proofs.Common.{subst, sym}
-use Rattle.domain_base.specs.declared.version.Version.TheVariants.{Four}
-use Rattle.memory_store.specs.Homes.{pages_of}
-use Rattle.bitfile_core.specs.declared.bitfiles.Bitfiles.{Bitfiles}
-use Rattle.bitfile_core.specs.Changes.{without_chain}
-use Rattle.bitfile_core.specs.Together.{AreTogether}
+use Rattle.release_steps.specs.domain_base.declared.version.Version.TheVariants.{Four}
+use Rattle.release_steps.specs.page_store.Homes.{pages_of}
+use Rattle.release_steps.specs.fileset_files.declared.bitfiles.Bitfiles.{Bitfiles}
+use Rattle.release_steps.specs.fileset_files.Changes.{without_chain}
+use Rattle.release_steps.specs.fileset_files.Together.{AreTogether}
 use Rattle.release_tests.specs.Stood.{IsStood}
 use Rattle.release_tests.proofs.Stoods.{dropped_stood}
 use Rattle.release_tests.proofs.removing.take_out.Goals as goal

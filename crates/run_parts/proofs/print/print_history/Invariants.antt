@@ -1,5 +1,5 @@
 use Rattle.std.proofs.Common.{take, ◌≤◌}
-use Rattle.history_text.specs.History.{history_text}
+use Rattle.script_text.specs.History.{history_text}
 use Rattle.run_parts.specs.Transfer.{HandsOn}
 use Rattle.run_parts.proofs.print.print_history.Given as goal
 

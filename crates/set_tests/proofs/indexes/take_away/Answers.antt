@@ -1,4 +1,4 @@
-use Rattle.memory_store.specs.Homes.{pages_of}
+use Rattle.release_steps.specs.page_store.Homes.{pages_of}
 use Rattle.set_tests.proofs.Counted.{some_any}
 use Rattle.set_tests.proofs.indexes.take_away.Goals as goal
 

@@ -1,5 +1,5 @@
 use Rattle.std.proofs.Common.{◌∙◌, ◌<◌, subst, sym}
-use Rattle.memory_store.specs.Homes.{pages_of}
+use Rattle.release_steps.specs.page_store.Homes.{pages_of}
 use Rattle.set_tests.proofs.Counted.{directory_any, page_written, pages_any}
 use Rattle.set_tests.proofs.pages.write.Goals as goal
 

@@ -1,5 +1,5 @@
-use Rattle.domain_base.specs.declared.place.Kind.TheVariants.{File}
-use Rattle.memory_store.specs.Homes.{pages_of}
+use Rattle.release_steps.specs.domain_base.declared.place.Kind.TheVariants.{File}
+use Rattle.release_steps.specs.page_store.Homes.{pages_of}
 use Rattle.set_tests.proofs.First.{is_some, linked_there}
 use Rattle.set_tests.specs.Worlds.{only_new}
 use Rattle.set_tests.proofs.sets.link_thrice.Goals as goal

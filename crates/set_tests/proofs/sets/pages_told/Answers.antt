@@ -1,4 +1,4 @@
-use Rattle.memory_store.specs.Homes.{pages_of}
+use Rattle.release_steps.specs.page_store.Homes.{pages_of}
 use Rattle.set_tests.proofs.First.{page_directory}
 use Rattle.set_tests.specs.Worlds.{with_first_page}
 use Rattle.set_tests.proofs.sets.pages_told.Goals as goal

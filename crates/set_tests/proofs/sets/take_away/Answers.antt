@@ -1,5 +1,5 @@
 use Rattle.std.proofs.Common.{IsSome, subst}
-use Rattle.memory_store.specs.Homes.{pages_of}
+use Rattle.release_steps.specs.page_store.Homes.{pages_of}
 use Rattle.set_tests.proofs.sets.take_away.Goals as goal
 
 pub remove-requires-clause-live : goal.remove-requires-clause-live

@@ -1,4 +1,4 @@
-use Rattle.memory_store.specs.Homes.{pages_of}
+use Rattle.release_steps.specs.page_store.Homes.{pages_of}
 use Rattle.set_tests.proofs.First.{first_set, if_ok}
 use Rattle.set_tests.proofs.sets.world_of.Goals as goal
 

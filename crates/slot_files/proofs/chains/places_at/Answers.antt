@@ -1,6 +1,6 @@
 use Rattle.std.proofs.Common.{◌∙◌, ap}
-use Rattle.extent_records.specs.Rows.{runs_of}
-use Rattle.row_faults.proofs.Answered.{if_ok}
+use Rattle.index_row_faults.specs.extent_records.Rows.{runs_of}
+use Rattle.index_row_faults.proofs.OfFilesetShapes.Answered.{if_ok}
 use Rattle.slot_files.specs.Said.{runs_there}
 use Rattle.slot_files.proofs.ReadFiles.{chain_places}
 use Rattle.slot_files.proofs.chains.places_at.Goals as goal

@@ -1,7 +1,7 @@
 use Rattle.std.proofs.Common.{IfSome, sym, subst}
-use Rattle.domain_layout.specs.Seen.{IsSource}
-use Rattle.filesets_reading.specs.Chains.{HasLinks}
-use Rattle.row_faults.proofs.Answered.{if_ok}
+use Rattle.index_row_faults.specs.domain_layout.Seen.{IsSource}
+use Rattle.index_row_faults.specs.filesets_reading.Chains.{HasLinks}
+use Rattle.index_row_faults.proofs.OfFilesetShapes.Answered.{if_ok}
 use Rattle.slot_files.specs.Said.{place_in}
 use Rattle.slot_files.proofs.ReadFiles.{source_there}
 use Rattle.slot_files.proofs.chains.source_places.Goals as goal

@@ -1,8 +1,8 @@
 use Rattle.std.proofs.Common.{◌≡◌, ◌∙◌, false, true, List, Option, sym, subst}
-use Rattle.bitfile_cells.specs.Files.{places_of}
-use Rattle.extent_maps.specs.Runs.{home_at}
-use Rattle.extent_records.specs.Writing.{places_before}
-use Rattle.page_ways.specs.Frame.{frame_in}
+use Rattle.index_row_faults.specs.file_chains.Files.{places_of}
+use Rattle.index_row_faults.specs.extent_maps.Runs.{home_at}
+use Rattle.index_row_faults.specs.extent_records.Writing.{places_before}
+use Rattle.index_row_faults.specs.page_ways.Frame.{frame_in}
 use Rattle.slot_files.specs.Files.{kept_homes}
 use Rattle.slot_files.specs.Said.{ListsPlaces, place_in, said_in}
 use Rattle.slot_files.specs.declared.said.SaidHome.{SaidHome}

@@ -1,8 +1,8 @@
 use Rattle.std.proofs.Common.{◌≡◌, ◌∙◌, false, true, List, Option, sym, subst}
-use Rattle.bitfile_cells.specs.Files.{places_of}
-use Rattle.chain_release.specs.Reading.{read_home}
-use Rattle.domain_layout.specs.Seen.{IsSource}
-use Rattle.page_ways.specs.Frame.{frame_in}
+use Rattle.index_row_faults.specs.file_chains.Files.{places_of}
+use Rattle.index_row_faults.specs.file_release.Reading.{read_home}
+use Rattle.index_row_faults.specs.domain_layout.Seen.{IsSource}
+use Rattle.index_row_faults.specs.page_ways.Frame.{frame_in}
 use Rattle.slot_files.specs.Files.{own_homes}
 use Rattle.slot_files.specs.Said.{ListsPlaces, place_in, said_in}
 use Rattle.slot_files.specs.declared.said.SaidHome.{SaidHome}

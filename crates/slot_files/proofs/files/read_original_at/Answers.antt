@@ -1,5 +1,5 @@
 use Rattle.std.proofs.Common.{◌∙◌, sym}
-use Rattle.page_ways.specs.Frame.{frame_in}
+use Rattle.index_row_faults.specs.page_ways.Frame.{frame_in}
 use Rattle.slot_files.proofs.ReadFiles.{keepless_original, nameless_original, read_original, removed_original}
 use Rattle.slot_files.proofs.files.read_original_at.Goals as goal
 

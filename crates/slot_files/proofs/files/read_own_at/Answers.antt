@@ -1,5 +1,5 @@
 use Rattle.std.proofs.Common.{◌∙◌, sym}
-use Rattle.page_ways.specs.Frame.{frame_in}
+use Rattle.index_row_faults.specs.page_ways.Frame.{frame_in}
 use Rattle.slot_files.specs.Files.{IsWhole}
 use Rattle.slot_files.proofs.ReadFiles.{nameless_own, read_own, removed_own, whole_from}
 use Rattle.slot_files.proofs.files.read_own_at.Goals as goal

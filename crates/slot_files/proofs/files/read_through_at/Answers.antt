@@ -1,6 +1,6 @@
 use Rattle.std.proofs.Common.{◌∙◌, sym}
-use Rattle.page_ways.specs.Frame.{frame_in}
-use Rattle.row_faults.proofs.Answered.{if_ok}
+use Rattle.index_row_faults.specs.page_ways.Frame.{frame_in}
+use Rattle.index_row_faults.proofs.OfFilesetShapes.Answered.{if_ok}
 use Rattle.slot_files.proofs.ReadFiles.{through_late, through_none, through_read}
 use Rattle.slot_files.proofs.files.read_through_at.Goals as goal
 

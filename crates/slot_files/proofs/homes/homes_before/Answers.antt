@@ -1,5 +1,5 @@
 use Rattle.std.proofs.Common.{◌∙◌, ◌+◌, List, Option, sym, ap, subst, arith}
-use Rattle.extent_maps.specs.Runs.{home_at}
+use Rattle.index_row_faults.specs.extent_maps.Runs.{home_at}
 use Rattle.slot_files.specs.Said.{place_in}
 use Rattle.slot_files.specs.declared.said.SaidHome.{SaidHome}
 use Rattle.slot_files.proofs.Listed.{UpTo, up_on}

@@ -1,4 +1,4 @@
-use Rattle.extent_maps.specs.Runs.{home_at}
+use Rattle.index_row_faults.specs.extent_maps.Runs.{home_at}
 use Rattle.slot_files.specs.Said.{place_in}
 use Rattle.slot_files.proofs.Listed.{UpTo}
 use Rattle.slot_files.proofs.SaidPlaces.{IsHomeAt}

@@ -1,5 +1,5 @@
 use Rattle.std.proofs.Common.{◌+◌, List, Option, sym, subst, arith}
-use Rattle.chain_release.specs.Reading.{read_home}
+use Rattle.index_row_faults.specs.file_release.Reading.{read_home}
 use Rattle.slot_files.specs.Said.{place_in}
 use Rattle.slot_files.specs.declared.said.SaidHome.{SaidHome}
 use Rattle.slot_files.proofs.Listed.{UpTo, up_on}

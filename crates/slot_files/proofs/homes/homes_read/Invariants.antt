@@ -1,4 +1,4 @@
-use Rattle.chain_release.specs.Reading.{read_home}
+use Rattle.index_row_faults.specs.file_release.Reading.{read_home}
 use Rattle.slot_files.specs.Said.{place_in}
 use Rattle.slot_files.proofs.Listed.{UpTo}
 use Rattle.slot_files.proofs.SaidPlaces.{IsHomeAt}

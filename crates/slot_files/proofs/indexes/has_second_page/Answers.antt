@@ -1,7 +1,7 @@
 use Rattle.std.proofs.Common.{◌≡◌, ◌∙◌, List, Option, sym, subst}
-use Rattle.bitfile_cells.specs.Files.{places_of}
-use Rattle.extent_maps.specs.Runs.{home_at}
-use Rattle.extent_records.specs.Writing.{places_before}
+use Rattle.index_row_faults.specs.file_chains.Files.{places_of}
+use Rattle.index_row_faults.specs.extent_maps.Runs.{home_at}
+use Rattle.index_row_faults.specs.extent_records.Writing.{places_before}
 use Rattle.slot_files.specs.Said.{ListsPlaces, place_in, said_in}
 use Rattle.slot_files.specs.declared.said.SaidHome.{SaidHome}
 use Rattle.slot_files.proofs.Indexed.{keeps_some, second_by}

@@ -1,6 +1,6 @@
 use Rattle.std.proofs.Common.{◌∙◌, Some, sym, ap}
 use mathlib.Core.Bool.{false≢true}
-use Rattle.record_table.specs.declared.record.Record.{Record}
+use Rattle.index_row_faults.specs.cell_records.declared.record.Record.{Record}
 use Rattle.slot_files.proofs.Indexed.{links_index}
 use Rattle.slot_files.proofs.indexes.index_said.Goals as goal
 

@@ -1,8 +1,8 @@
 use Rattle.std.proofs.Common.{◌≡◌, ◌∙◌, sym, ap}
 use mathlib.Core.Bool.{false≢true}
-use Rattle.domain_base.specs.declared.place.Kind.TheVariants.{Directory, File}
-use Rattle.bitfile_core.specs.declared.attributes.Attributes.{Attributes}
-use Rattle.row_faults.proofs.Answered.{if_ok}
+use Rattle.index_row_faults.specs.domain_base.declared.place.Kind.TheVariants.{Directory, File}
+use Rattle.index_row_faults.specs.fileset_files.declared.attributes.Attributes.{Attributes}
+use Rattle.index_row_faults.proofs.OfFilesetShapes.Answered.{if_ok}
 use Rattle.slot_files.proofs.indexes.may_have_index.Goals as goal
 
 no_kind : File ≡ Directory → ⊥

@@ -1,6 +1,6 @@
 use Rattle.std.proofs.Common.{◌≡◌, ◌+◌, length, Option, Some, None, refl, sym, subst, Vec, Global}
 use Rattle.std.proofs.lemmas.Option.{slice_get_read}
-use Rattle.row_faults.proofs.Inserted.{at_among}
+use Rattle.index_row_faults.proofs.OfDirectoryFaults.Inserted.{at_among}
 use Rattle.index_row_faults.specs.declared.there.IndexThere.{IndexThere}
 use Rattle.slot_files.specs.Indexes.{ReadsIndex}
 use Rattle.slot_files.proofs.Indexed.{AreIndexesBefore, all_before, before_none, before_one, before_same}

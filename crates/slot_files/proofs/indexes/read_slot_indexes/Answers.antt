@@ -1,6 +1,6 @@
 use Rattle.std.proofs.Common.{◌∙◌, Some, ap}
-use Rattle.fileset_table.specs.declared.slot.SlotItem.{SlotItem}
-use Rattle.row_faults.proofs.Answered.{if_ok}
+use Rattle.index_row_faults.specs.fileset_table.declared.slot.SlotItem.{SlotItem}
+use Rattle.index_row_faults.proofs.OfFilesetShapes.Answered.{if_ok}
 use Rattle.slot_files.proofs.Indexed.{indexes_in, no_indexes}
 use Rattle.slot_files.proofs.indexes.read_slot_indexes.Goals as goal
 

@@ -1,6 +1,6 @@
 use Rattle.std.proofs.Common.{◌+◌, List, Option, sym, subst, arith}
-use Rattle.domain_base.specs.declared.place.Home.{Home}
-use Rattle.page_ways.specs.Frame.{frame_in}
+use Rattle.index_row_faults.specs.domain_base.declared.place.Home.{Home}
+use Rattle.index_row_faults.specs.page_ways.Frame.{frame_in}
 use Rattle.slot_files.proofs.Listed.{UpTo, up_on}
 use Rattle.slot_files.proofs.SaidPlaces.{IsMemberHome, member_got, members_end}
 use Rattle.slot_files.proofs.members.member_homes.Goals as goal

@@ -1,4 +1,4 @@
-use Rattle.page_ways.specs.Frame.{frame_in}
+use Rattle.index_row_faults.specs.page_ways.Frame.{frame_in}
 use Rattle.slot_files.proofs.Listed.{UpTo}
 use Rattle.slot_files.proofs.SaidPlaces.{IsMemberHome}
 use Rattle.slot_files.proofs.members.member_homes.Given as goal

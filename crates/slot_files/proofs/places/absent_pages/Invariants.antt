@@ -1,6 +1,6 @@
 use Rattle.std.proofs.Common.{◌≡◌}
 use Rattle.std.specs.Option.{option_map_or}
-use Rattle.extent_maps.specs.declared.run.PagePlace.TheVariants.{Absent}
+use Rattle.index_row_faults.specs.extent_maps.declared.run.PagePlace.TheVariants.{Absent}
 use Rattle.slot_files.specs.Said.{place_there}
 use Rattle.slot_files.proofs.Listed.{UpTo}
 use Rattle.slot_files.proofs.places.absent_pages.Given as goal

@@ -1,6 +1,6 @@
 use Rattle.std.proofs.Common.{◌≡◌, ◌≤◌, ℕ, take}
-use Rattle.extent_maps.specs.Runs.{place_of}
-use Rattle.extent_maps.specs.declared.run.PagePlace.TheVariants.{Absent}
+use Rattle.index_row_faults.specs.extent_maps.Runs.{place_of}
+use Rattle.index_row_faults.specs.extent_maps.declared.run.PagePlace.TheVariants.{Absent}
 use Rattle.slot_files.specs.Said.{runs_there}
 use Rattle.slot_files.proofs.places.end_of.Given as goal
 

@@ -1,5 +1,5 @@
 use Rattle.std.proofs.Common.{◌≡◌, ◌-◌, ◌<◌, ℕ, cond, length}
-use Rattle.extent_maps.specs.Runs.{behind, placed}
+use Rattle.index_row_faults.specs.extent_maps.Runs.{behind, placed}
 use Rattle.slot_files.specs.Said.{first_there, place_in}
 use Rattle.slot_files.proofs.SaidPlaces.{has_up_to}
 use Rattle.slot_files.proofs.places.put_run.Given as goal

@@ -1,4 +1,4 @@
-use Rattle.extent_records.specs.Rows.{runs_at}
+use Rattle.index_row_faults.specs.extent_records.Rows.{runs_at}
 use Rattle.slot_files.specs.Said.{runs_there}
 use Rattle.slot_files.proofs.Listed.{one_more}
 use Rattle.slot_files.proofs.runs.push_extents.Goals as goal

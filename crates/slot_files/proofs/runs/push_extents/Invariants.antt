@@ -1,6 +1,6 @@
 use Rattle.std.proofs.Common.{◌≡◌, ◌++◌, take}
 use Rattle.std.specs.List.{flat_map}
-use Rattle.extent_records.specs.Rows.{runs_at}
+use Rattle.index_row_faults.specs.extent_records.Rows.{runs_at}
 use Rattle.slot_files.specs.Said.{runs_there}
 use Rattle.slot_files.proofs.runs.push_extents.Given as goal
 

@@ -1,4 +1,4 @@
-use Rattle.extent_records.specs.Rows.{holes_at}
+use Rattle.index_row_faults.specs.extent_records.Rows.{holes_at}
 use Rattle.slot_files.specs.Said.{runs_there}
 use Rattle.slot_files.proofs.Listed.{one_more}
 use Rattle.slot_files.proofs.runs.push_holes.Goals as goal

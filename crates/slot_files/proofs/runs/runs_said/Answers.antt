@@ -1,5 +1,5 @@
 use Rattle.std.proofs.Common.{[]}
-use Rattle.extent_records.specs.Rows.{runs_in}
+use Rattle.index_row_faults.specs.extent_records.Rows.{runs_in}
 use Rattle.slot_files.specs.Said.{runs_there}
 use Rattle.slot_files.proofs.Listed.{one_more}
 use Rattle.slot_files.proofs.runs.runs_said.Goals as goal

@@ -1,5 +1,5 @@
 use Rattle.std.proofs.Common.{◌≡◌, take}
-use Rattle.extent_records.specs.Rows.{runs_of}
+use Rattle.index_row_faults.specs.extent_records.Rows.{runs_of}
 use Rattle.slot_files.specs.Said.{runs_there}
 use Rattle.slot_files.proofs.runs.runs_said.Given as goal
 

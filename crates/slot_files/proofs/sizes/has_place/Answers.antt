@@ -1,5 +1,5 @@
 use Rattle.std.proofs.Common.{◌≡◌, ◌∙◌, false, true, IsSome, refl, sym, ap, subst}
-use Rattle.extent_maps.specs.Runs.{home_at}
+use Rattle.index_row_faults.specs.extent_maps.Runs.{home_at}
 use Rattle.slot_files.specs.Said.{place_there}
 use Rattle.slot_files.proofs.sizes.has_place.Goals as goal
 

@@ -1,4 +1,4 @@
-use Rattle.page_ways.specs.Frame.{frame_in}
+use Rattle.index_row_faults.specs.page_ways.Frame.{frame_in}
 use Rattle.slot_files.specs.Files.{IsInClone}
 use Rattle.slot_files.proofs.AllFiles.{AreSoFar}
 use Rattle.slot_files.proofs.slots.read_clone_files.Given as goal

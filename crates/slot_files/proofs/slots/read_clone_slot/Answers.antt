@@ -1,7 +1,7 @@
 use Rattle.std.proofs.Common.{refl}
-use Rattle.fileset_table.specs.declared.slot.SlotItem.TheVariants as slot
-use Rattle.page_ways.specs.Frame.{frame_in}
-use Rattle.row_faults.proofs.Answered.{if_ok}
+use Rattle.index_row_faults.specs.fileset_table.declared.slot.SlotItem.TheVariants as slot
+use Rattle.index_row_faults.specs.page_ways.Frame.{frame_in}
+use Rattle.index_row_faults.proofs.OfFilesetShapes.Answered.{if_ok}
 use Rattle.slot_files.proofs.SlotFiles.{directory_at, files_of_clone, is_table, original_behind, sources_at, whole_at}
 use Rattle.slot_files.proofs.slots.read_clone_slot.Goals as goal
 

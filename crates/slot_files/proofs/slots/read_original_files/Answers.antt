@@ -1,8 +1,8 @@
 use Rattle.std.proofs.Common.{◌≡◌, ℕ, ◌+◌, length, Option, Some, None, slice_get, refl, sym, subst, arith, rules, Vec, Global, vec_len}
 use Rattle.std.proofs.lemmas.Option.{slice_get_read}
-use Rattle.page_ways.specs.Frame.{frame_in}
-use Rattle.fileset_shapes.specs.Tags.{IsUsed}
-use Rattle.row_faults.specs.declared.there.FileThere.{FileThere}
+use Rattle.index_row_faults.specs.page_ways.Frame.{frame_in}
+use Rattle.index_row_faults.specs.fileset_shapes.Tags.{IsUsed}
+use Rattle.index_row_faults.specs.directory_faults.declared.there.FileThere.{FileThere}
 use Rattle.slot_files.specs.Files.{IsInOriginal, ReadsSo}
 use Rattle.slot_files.proofs.AllFiles.{AreSoFar, far_begin, far_end, far_none, far_one}
 use Rattle.slot_files.proofs.SlotFiles.{original_used}

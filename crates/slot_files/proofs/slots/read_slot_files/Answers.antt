@@ -1,7 +1,7 @@
 use Rattle.std.proofs.Common.{◌∙◌, Some, ap}
-use Rattle.fileset_table.specs.declared.slot.SlotItem.{SlotItem}
-use Rattle.fileset_table.specs.declared.slot.SlotItem.TheVariants as slot
-use Rattle.page_ways.specs.Frame.{frame_in}
+use Rattle.index_row_faults.specs.fileset_table.declared.slot.SlotItem.{SlotItem}
+use Rattle.index_row_faults.specs.fileset_table.declared.slot.SlotItem.TheVariants as slot
+use Rattle.index_row_faults.specs.page_ways.Frame.{frame_in}
 use Rattle.slot_files.proofs.SlotFiles.{no_files}
 use Rattle.slot_files.proofs.slots.read_slot_files.Goals as goal
 

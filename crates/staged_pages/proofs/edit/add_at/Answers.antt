@@ -1,8 +1,8 @@
 use Rattle.std.proofs.Common.{rules, ◌≡◌, ◌∙◌, Some, None, sym, subst, arith}
 use Rattle.std.specs.List.{insert}
-use Rattle.numbered_values.specs.Homes.{number_of}
-use Rattle.numbered_values.specs.Rising.{IsPlaceOf}
-use Rattle.numbered_values.proofs.Search.{value_at_place}
+use Rattle.page_store.specs.sorted_sets.Homes.{number_of}
+use Rattle.page_store.specs.sorted_sets.Rising.{IsPlaceOf}
+use Rattle.page_store.proofs.OfSortedSets.Search.{value_at_place}
 use Rattle.staged_pages.specs.declared.slot.Slot.{Slot}
 use Rattle.staged_pages.specs.declared.slot.Slot.TheVariants.{Vacant}
 use Rattle.staged_pages.specs.Staged.{AreSlots, EditsSlot}

@@ -1,7 +1,7 @@
 use Rattle.std.proofs.Common.{◌≡◌, ◌∙◌, ◌⊎◌, inl, inr, ℕ, List, true, false, Option, IsSome, Some, None, set, refl, sym, ap, subst, arith}
 use mathlib.Core.Bool.{false≢true}
-use Rattle.numbered_values.specs.Rising.{IsGapFor}
-use Rattle.numbered_values.proofs.Search.{value_in_gap}
+use Rattle.page_store.specs.sorted_sets.Rising.{IsGapFor}
+use Rattle.page_store.proofs.OfSortedSets.Search.{value_in_gap}
 use Rattle.staged_pages.specs.declared.slot.Slot.{Slot}
 use Rattle.std.proofs.lemmas.Option.{same_Some}
 use Rattle.std.specs.Option.{option_and_then}

@@ -1,8 +1,8 @@
 use Rattle.std.proofs.Common.{◌∙◌, true, false, set, sym, ap, subst, arith}
 use mathlib.Core.Bool.{false≢true}
-use Rattle.domain_base.specs.Page.{overwritten}
-use Rattle.numbered_values.specs.Rising.{IsGapFor}
-use Rattle.numbered_values.proofs.Search.{value_in_gap}
+use Rattle.page_store.specs.domain_base.Page.{overwritten}
+use Rattle.page_store.specs.sorted_sets.Rising.{IsGapFor}
+use Rattle.page_store.proofs.OfSortedSets.Search.{value_in_gap}
 use Rattle.staged_pages.specs.declared.slot.Slot.{Slot}
 use Rattle.std.proofs.lemmas.Option.{same_Some}
 use Rattle.staged_pages.specs.Slots.{is_same}

@@ -1,6 +1,6 @@
 use Rattle.std.proofs.Common.{◌≡◌, ℕ, length, vec_capacity, vec_len}
 use Rattle.std.specs.Option.{option_and_then}
-use Rattle.numbered_values.specs.Rising.{value_at}
+use Rattle.page_store.specs.sorted_sets.Rising.{value_at}
 use Rattle.staged_pages.specs.Slots.{page_now}
 use Rattle.staged_pages.specs.Staged.{AreSlots}
 use Rattle.staged_pages.proofs.settle.settle_all.Given as goal

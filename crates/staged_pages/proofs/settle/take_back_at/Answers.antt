@@ -1,6 +1,6 @@
 use Rattle.std.proofs.Common.{subst}
-use Rattle.numbered_values.specs.Rising.{IsGapFor}
-use Rattle.numbered_values.proofs.Search.{value_in_gap}
+use Rattle.page_store.specs.sorted_sets.Rising.{IsGapFor}
+use Rattle.page_store.proofs.OfSortedSets.Search.{value_in_gap}
 use Rattle.staged_pages.specs.Slots.{page_before}
 use Rattle.staged_pages.proofs.Settled.{settles_in_place, settles_none, whole_with}
 use Rattle.staged_pages.proofs.settle.take_back_at.Goals as goal

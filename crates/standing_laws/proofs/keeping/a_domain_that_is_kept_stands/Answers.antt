@@ -1,6 +1,6 @@
-use Rattle.free_space.specs.Spaces.{change_volumes}
-use Rattle.free_space.specs.VolumeSpace.{keeping}
-use Rattle.bitmap_marks.proofs.Volumes.{volume_changed}
+use Rattle.domain_standing.specs.free_space.Spaces.{change_volumes}
+use Rattle.domain_standing.specs.free_space.VolumeSpace.{keeping}
+use Rattle.domain_standing.proofs.OfFreeCells.MarkVolumes.{volume_changed}
 use Rattle.standing_laws.proofs.MemoryKept.{all_kept_stands}
 use Rattle.standing_laws.proofs.keeping.a_domain_that_is_kept_stands.Goals as goal
 

@@ -1,5 +1,5 @@
 use Rattle.std.proofs.Common.{◌∙◌}
-use Rattle.domain_state.proofs.StaysWithin.{settled_few}
+use Rattle.client_commands.proofs.OfDomainState.StaysWithin.{settled_few}
 use Rattle.state_tests.proofs.Synced.{had_pages, is_calm, may_sync}
 use Rattle.state_tests.proofs.opened.opened.Goals as goal
 

@@ -1,6 +1,6 @@
 use Rattle.memory_disk.specs.Memory.{memory_disk}
-use Rattle.page_ways.specs.Frame.{frame_in}
-use Rattle.staged_pages.specs.Store.{before_of}
+use Rattle.client_commands.specs.page_ways.Frame.{frame_in}
+use Rattle.client_commands.specs.staged_pages.Store.{before_of}
 use Rattle.state_tests.proofs.wide.made_and_written.Given as goal
 
 abbrev pub ghosts-written : goal.ghosts-written

@@ -1,16 +1,16 @@
 use Rattle.std.proofs.Common.{◌≡◌, ◌∙◌, ◌+◌, IfErr, IsSome, IsSomeAnd, Option, None, Some, Result, Ok, Err, List, ℕ, ap, subst, sym}
 use Rattle.std.specs.Result.{IsErrAnd}
-use Rattle.domain_base.specs.declared.place.CellAt.{CellAt}
-use Rattle.domain_base.specs.declared.place.Home.{Home}
-use Rattle.page_store.specs.Pages.{Pages, with_page}
-use Rattle.free_cells.specs.Cells.{Cells}
-use Rattle.bmt_mcells.specs.Chain.{PlacedCell}
-use Rattle.bmt_mcells.specs.CellPage.{home_of}
-use Rattle.bitfile_cells.specs.Files.{IsFile}
-use Rattle.bitfile_core.specs.Changes.{ChangesFirst}
-use Rattle.bitfile_core.specs.Files.{AreFiles, IsLiveCell, attributes_of}
-use Rattle.bitfile_core.specs.Together.{AreTogether}
-use Rattle.bitfile_core.proofs.Live.{live_none}
+use Rattle.index_pages.specs.domain_base.declared.place.CellAt.{CellAt}
+use Rattle.index_pages.specs.domain_base.declared.place.Home.{Home}
+use Rattle.index_pages.specs.page_store.Pages.{Pages, with_page}
+use Rattle.index_pages.specs.free_cells.Cells.{Cells}
+use Rattle.index_pages.specs.metadata_cells.Chain.{PlacedCell}
+use Rattle.index_pages.specs.metadata_cells.CellPage.{home_of}
+use Rattle.index_pages.specs.file_chains.Files.{IsFile}
+use Rattle.index_pages.specs.fileset_files.Changes.{ChangesFirst}
+use Rattle.index_pages.specs.fileset_files.Files.{AreFiles, IsLiveCell, attributes_of}
+use Rattle.index_pages.specs.fileset_files.Together.{AreTogether}
+use Rattle.index_pages.proofs.OfFilesetFiles.Live.{live_none}
 use Rattle.stored_set.proofs.Lengthened.{chain_there, first_there, is_some, put_back, set_still}
 use Rattle.stored_set.proofs.Live.{not_live}
 use Rattle.stored_set.specs.Sets.{AddsNone, StandsAsSet}

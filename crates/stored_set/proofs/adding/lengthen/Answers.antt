@@ -1,11 +1,11 @@
 use Rattle.std.proofs.Common.{◌≡◌, ◌+◌, IfErr, IsSomeAnd, Option, Result, Ok, Err, List, ap, subst, sym}
 use Rattle.std.specs.Result.{IsErrAnd}
-use Rattle.page_store.specs.Bitfiles.{put_page, with_change}
-use Rattle.page_store.specs.Pages.{Pages}
-use Rattle.bmt_mcells.specs.Chain.{PlacedCell}
-use Rattle.bitfile_core.specs.declared.attributes.Attributes.{Attributes}
-use Rattle.bitfile_core.specs.Changes.{CanSay, says_attributes, with_chain, with_first}
-use Rattle.bitfile_core.specs.Together.{AreTogether}
+use Rattle.index_pages.specs.page_store.Bitfiles.{put_page, with_change}
+use Rattle.index_pages.specs.page_store.Pages.{Pages}
+use Rattle.index_pages.specs.metadata_cells.Chain.{PlacedCell}
+use Rattle.index_pages.specs.fileset_files.declared.attributes.Attributes.{Attributes}
+use Rattle.index_pages.specs.fileset_files.Changes.{CanSay, says_attributes, with_chain, with_first}
+use Rattle.index_pages.specs.fileset_files.Together.{AreTogether}
 use Rattle.stored_set.proofs.Lengthened.{added_set, adds_none, can_say, gets_page, may_grow_any}
 use Rattle.stored_set.specs.Sets.{AddsNone, StandsAsSet, with_length}
 use Rattle.stored_set.proofs.adding.lengthen.Goals as goal

@@ -1,4 +1,4 @@
-use Rattle.bitfile_core.specs.Creation.{new_file}
+use Rattle.index_pages.specs.fileset_files.Creation.{new_file}
 use Rattle.stored_set.proofs.Making.{made_fresh, made_shown, none_made}
 use Rattle.stored_set.proofs.changes.make.Goals as goal
 

@@ -1,18 +1,18 @@
 use Rattle.std.proofs.Common.{◌≡◌, ◌∙◌, ◌≤◌, IsSomeAnd, ap, subst, sym}
-use Rattle.domain_base.specs.Limits.{max_links}
-use Rattle.page_store.specs.Bitfiles.{Bitfiles as SetOf, linked, with_change}
-use Rattle.bitfile_core.specs.declared.attributes.Attributes.{Attributes}
-use Rattle.bitfile_core.specs.Changes.{CanSay, says_attributes, with_chain, with_first}
-use Rattle.bitfile_core.specs.Together.{AreTogether}
-use Rattle.bitfile_core.proofs.SetFirst.{map_ok}
-use Rattle.set_laws.proofs.Owned.{set as owner_set}
-use Rattle.set_laws.specs.Standing.{StandsShown, owned}
-use Rattle.bitfile_core.specs.State.{States, states_of}
-use Rattle.bitfile_laws.specs.States.{described}
-use Rattle.bitfile_laws.proofs.FirstCells.{attributes_said}
-use Rattle.set_laws.proofs.Wholeness.{whole_described}
-use Rattle.set_laws.specs.Whole.{AreWholeDirectories}
-use Rattle.set_laws.proofs.Bare.{bare_linked}
+use Rattle.index_pages.specs.domain_base.Limits.{max_links}
+use Rattle.index_pages.specs.page_store.Bitfiles.{Bitfiles as SetOf, linked, with_change}
+use Rattle.index_pages.specs.fileset_files.declared.attributes.Attributes.{Attributes}
+use Rattle.index_pages.specs.fileset_files.Changes.{CanSay, says_attributes, with_chain, with_first}
+use Rattle.index_pages.specs.fileset_files.Together.{AreTogether}
+use Rattle.index_pages.proofs.OfFilesetFiles.SetFirst.{map_ok}
+use Rattle.stored_set.proofs.Owned.{set as owner_set}
+use Rattle.stored_set.specs.Standing.{StandsShown, owned}
+use Rattle.index_pages.specs.fileset_files.State.{States, states_of}
+use Rattle.index_pages.specs.fileset_files.States.{described}
+use Rattle.index_pages.proofs.OfFilesetFiles.FirstCells.{attributes_said}
+use Rattle.stored_set.proofs.Wholeness.{whole_described}
+use Rattle.stored_set.specs.Whole.{AreWholeDirectories}
+use Rattle.stored_set.proofs.Bare.{bare_linked}
 use Rattle.stored_set.proofs.Live.{not_live, owned_again}
 use Rattle.stored_set.proofs.Sized.{size_here, the_file}
 use Rattle.stored_set.proofs.States.{said_states}

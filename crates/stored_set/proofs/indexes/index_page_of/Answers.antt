@@ -1,6 +1,6 @@
 use Rattle.std.proofs.Common.{◌≡◌, ◌∙◌, Some, None, ap, sym}
 use Rattle.std.specs.Option.{option_and_then, option_copied, option_map}
-use Rattle.page_store.specs.Bitfiles.{shown_index}
+use Rattle.index_pages.specs.page_store.Bitfiles.{shown_index}
 use Rattle.stored_set.proofs.Entries.{none_shown_at, shown_same_there}
 use Rattle.stored_set.proofs.Indexed.{homes_at}
 use Rattle.stored_set.proofs.Sized.{page_here, the_file}

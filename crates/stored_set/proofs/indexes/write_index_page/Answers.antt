@@ -1,14 +1,14 @@
 use Rattle.std.proofs.Common.{◌≡◌, ◌∙◌, ◌+◌, ◌-◌, ◌<◌, ◌≤◌, ℕ, Some, None, Option, List, length, ap, refl, subst, sym}
 use Rattle.std.specs.Option.{option_and_then}
-use Rattle.domain_base.specs.declared.place.Home.{Home}
-use Rattle.page_store.specs.Pages.{Pages}
-use Rattle.stored_index.specs.Changes.{PutsIndexPage}
-use Rattle.stored_index.specs.Homes.{AreIndexHomes, shown_at}
-use Rattle.stored_index.proofs.Homes.{one_list}
-use Rattle.bitfile_core.specs.declared.indexing.IndexPlace.{IndexPlace}
-use Rattle.bitfile_core.specs.Shown.{index_of}
-use Rattle.bitfile_core.proofs.Created.{one_chains}
-use Rattle.set_laws.specs.Whole.{entries_on}
+use Rattle.index_pages.specs.domain_base.declared.place.Home.{Home}
+use Rattle.index_pages.specs.page_store.Pages.{Pages}
+use Rattle.index_pages.specs.Changes.{PutsIndexPage}
+use Rattle.index_pages.specs.Homes.{AreIndexHomes, shown_at}
+use Rattle.index_pages.proofs.Homes.{one_list}
+use Rattle.index_pages.specs.fileset_files.declared.indexing.IndexPlace.{IndexPlace}
+use Rattle.index_pages.specs.fileset_files.Shown.{index_of}
+use Rattle.index_pages.proofs.OfFilesetFiles.Created.{one_chains}
+use Rattle.stored_set.specs.Whole.{entries_on}
 use Rattle.stored_set.proofs.IndexWritten.{gone_most, homes_said, set_written, starts}
 use Rattle.stored_set.proofs.Indexed.{counted, homes_at, not_none}
 use Rattle.stored_set.proofs.Lengthened.{is_some}

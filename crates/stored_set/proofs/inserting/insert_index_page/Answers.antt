@@ -1,24 +1,24 @@
 use Rattle.std.proofs.Common.{◌≡◌, ◌∙◌, ◌+◌, ◌^◌, ◌<◌, ◌≤◌, ℕ, rules, Some, None, Option, List, Contains, length, ap, refl, subst, sym}
 use Rattle.std.specs.Option.{option_and_then, option_map_or}
-use Rattle.domain_base.specs.declared.place.Home.{Home}
-use Rattle.page_store.specs.Bitfiles.{insert_index, shown_index, with_change}
-use Rattle.page_store.specs.Pages.{Pages}
-use Rattle.free_space.specs.VolumeSpace.{with_page, without_page}
-use Rattle.free_space.specs.Spaces.{CanTake, IsHeld, Spaces, change_volume, missed}
-use Rattle.bitfile_cells.proofs.Spaces.{given_back}
-use Rattle.bitfile_core.proofs.Grown.{apart_now}
-use Rattle.bitfile_core.specs.declared.indexing.IndexPlace.{IndexPlace}
-use Rattle.bitfile_core.specs.Changes.{ChangesFirst, with_chain, with_first}
-use Rattle.bitfile_core.specs.Files.{AreFiles}
-use Rattle.bitfile_core.specs.Index.{says_index}
-use Rattle.bitfile_core.specs.Shown.{index_of}
-use Rattle.bitfile_core.specs.Together.{AreTogether}
-use Rattle.bitfile_core.proofs.Again.{together_missed}
-use Rattle.bitfile_core.proofs.Created.{one_chains, together_page}
-use Rattle.stored_index.specs.Changes.{InsertsIndexPage}
-use Rattle.stored_index.specs.Homes.{AreIndexHomes}
-use Rattle.stored_index.proofs.Homes.{one_list}
-use Rattle.set_laws.specs.Whole.{entries_on}
+use Rattle.index_pages.specs.domain_base.declared.place.Home.{Home}
+use Rattle.index_pages.specs.page_store.Bitfiles.{insert_index, shown_index, with_change}
+use Rattle.index_pages.specs.page_store.Pages.{Pages}
+use Rattle.index_pages.specs.free_space.VolumeSpace.{with_page, without_page}
+use Rattle.index_pages.specs.free_space.Spaces.{CanTake, IsHeld, Spaces, change_volume, missed}
+use Rattle.index_pages.proofs.OfFileChains.Spaces.{given_back}
+use Rattle.index_pages.proofs.OfFilesetFiles.Grown.{apart_now}
+use Rattle.index_pages.specs.fileset_files.declared.indexing.IndexPlace.{IndexPlace}
+use Rattle.index_pages.specs.fileset_files.Changes.{ChangesFirst, with_chain, with_first}
+use Rattle.index_pages.specs.fileset_files.Files.{AreFiles}
+use Rattle.index_pages.specs.fileset_files.Index.{says_index}
+use Rattle.index_pages.specs.fileset_files.Shown.{index_of}
+use Rattle.index_pages.specs.fileset_files.Together.{AreTogether}
+use Rattle.index_pages.proofs.OfFilesetFiles.Again.{together_missed}
+use Rattle.index_pages.proofs.OfFilesetFiles.Created.{one_chains, together_page}
+use Rattle.index_pages.specs.Changes.{InsertsIndexPage}
+use Rattle.index_pages.specs.Homes.{AreIndexHomes}
+use Rattle.index_pages.proofs.Homes.{one_list}
+use Rattle.stored_set.specs.Whole.{entries_on}
 use Rattle.stored_set.proofs.Indexed.{begins, counted, first_of}
 use Rattle.stored_set.proofs.Lengthened.{is_some}
 use Rattle.stored_set.proofs.Live.{live_any, missed_still}

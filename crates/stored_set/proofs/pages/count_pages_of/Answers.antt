@@ -1,8 +1,8 @@
 use Rattle.std.proofs.Common.{◌≡◌, ◌∙◌, ◌*◌, ◌/◌, ◌≤◌, ℕ, IsSomeAnd, Option, Some, ap, subst, sym, arith}
 use Rattle.std.proofs.Math.Nat.{mul-div_cancel_left}
-use Rattle.domain_base.specs.Limits.{file_pages, page_bytes}
-use Rattle.domain_base.specs.declared.place.Kind.{Kind}
-use Rattle.page_store.specs.Bitfiles.{Bitfile, Bitfiles as SetOf, IsDirectory, count_pages}
+use Rattle.index_pages.specs.domain_base.Limits.{file_pages, page_bytes}
+use Rattle.index_pages.specs.domain_base.declared.place.Kind.{Kind}
+use Rattle.index_pages.specs.page_store.Bitfiles.{Bitfile, Bitfiles as SetOf, IsDirectory, count_pages}
 use Rattle.stored_set.proofs.Sized.{fits_here, kind_here, no_file_here, no_pages_here, size_here, the_file}
 use Rattle.stored_set.proofs.pages.count_pages_of.Goals as goal
 

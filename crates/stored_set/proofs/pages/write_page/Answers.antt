@@ -1,12 +1,12 @@
 use Rattle.std.proofs.Common.{◌≡◌, ◌∙◌, ◌-◌, ℕ, IsSome, List, Option, Some, None, cond, inr, is_some, refl, subst, sym}
 use Rattle.std.proofs.lemmas.Bool.{true≢false}
 use Rattle.std.specs.Option.{option_and_then}
-use Rattle.page_store.specs.Bitfiles.{put_page, with_change}
-use Rattle.page_store.specs.Pages.{Pages}
-use Rattle.set_laws.proofs.Written.{written}
-use Rattle.bitfile_core.specs.State.{states_of}
-use Rattle.set_laws.proofs.Wholeness.{whole_written}
-use Rattle.set_laws.proofs.Bare.{bare_written}
+use Rattle.index_pages.specs.page_store.Bitfiles.{put_page, with_change}
+use Rattle.index_pages.specs.page_store.Pages.{Pages}
+use Rattle.stored_set.proofs.Written.{written}
+use Rattle.index_pages.specs.fileset_files.State.{states_of}
+use Rattle.stored_set.proofs.Wholeness.{whole_written}
+use Rattle.stored_set.proofs.Bare.{bare_written}
 use Rattle.stored_set.proofs.Live.{home_is, page_stands}
 use Rattle.stored_set.specs.Sets.{StandsAsSet}
 use Rattle.stored_set.proofs.pages.write_page.Goals as goal

@@ -1,7 +1,7 @@
 use Rattle.std.proofs.Common.{◌∙◌, ap, sym}
 use Rattle.std.specs.Option.{option_map}
-use Rattle.bitfile_core.specs.declared.attributes.Attributes.{Attributes}
-use Rattle.set_laws.proofs.Told.{kind_told}
+use Rattle.index_pages.specs.fileset_files.declared.attributes.Attributes.{Attributes}
+use Rattle.stored_set.proofs.Told.{kind_told}
 use Rattle.stored_set.proofs.reading.kind_of.Goals as goal
 
 pub returns-in-Some : goal.returns-in-Some

@@ -1,7 +1,7 @@
 use Rattle.std.proofs.Common.{◌∙◌, Option, ap, sym}
 use Rattle.std.specs.Option.{option_map_or}
-use Rattle.bitfile_core.specs.declared.attributes.Attributes.{Attributes}
-use Rattle.set_laws.proofs.Told.{links_told}
+use Rattle.index_pages.specs.fileset_files.declared.attributes.Attributes.{Attributes}
+use Rattle.stored_set.proofs.Told.{links_told}
 use Rattle.stored_set.proofs.reading.links_of.Goals as goal
 
 pub returns-in-Some : goal.returns-in-Some

@@ -1,22 +1,22 @@
 use Rattle.std.proofs.Common.{◌∙◌, Option, Some, IfOk, ap, subst, sym}
 use Rattle.std.specs.Option.{option_and_then}
-use Rattle.domain_base.specs.declared.place.CellAt.{CellAt}
-use Rattle.domain_base.specs.declared.place.Home.{Home}
-use Rattle.page_store.specs.Bitfiles.{without_file}
-use Rattle.bitfile_core.specs.declared.bitfiles.Bitfiles.{Bitfiles}
-use Rattle.bitfile_core.specs.Changes.{Removes, without_chain}
-use Rattle.bitfile_core.specs.Files.{Chains}
-use Rattle.bitfile_core.specs.Shown.{index_of}
-use Rattle.bitfile_core.specs.State.{States, states_of}
-use Rattle.bitfile_core.specs.Together.{AreTogether}
-use Rattle.bitfile_core.proofs.SetFirst.{map_ok}
-use Rattle.stored_index.specs.Changes.{DropsIndex}
-use Rattle.stored_index.specs.Homes.{AreIndexHomes}
-use Rattle.stored_index.proofs.Homes.{one_list}
-use Rattle.set_laws.proofs.Bare.{bare_taken}
-use Rattle.set_laws.proofs.TakenOut.{taken_out}
-use Rattle.set_laws.proofs.Wholeness.{whole_removed}
-use Rattle.set_laws.specs.Whole.{AreWholeDirectories}
+use Rattle.index_pages.specs.domain_base.declared.place.CellAt.{CellAt}
+use Rattle.index_pages.specs.domain_base.declared.place.Home.{Home}
+use Rattle.index_pages.specs.page_store.Bitfiles.{without_file}
+use Rattle.index_pages.specs.fileset_files.declared.bitfiles.Bitfiles.{Bitfiles}
+use Rattle.index_pages.specs.fileset_files.Changes.{Removes, without_chain}
+use Rattle.index_pages.specs.fileset_files.Files.{Chains}
+use Rattle.index_pages.specs.fileset_files.Shown.{index_of}
+use Rattle.index_pages.specs.fileset_files.State.{States, states_of}
+use Rattle.index_pages.specs.fileset_files.Together.{AreTogether}
+use Rattle.index_pages.proofs.OfFilesetFiles.SetFirst.{map_ok}
+use Rattle.index_pages.specs.Changes.{DropsIndex}
+use Rattle.index_pages.specs.Homes.{AreIndexHomes}
+use Rattle.index_pages.proofs.Homes.{one_list}
+use Rattle.stored_set.proofs.Bare.{bare_taken}
+use Rattle.stored_set.proofs.TakenOut.{taken_out}
+use Rattle.stored_set.proofs.Wholeness.{whole_removed}
+use Rattle.stored_set.specs.Whole.{AreWholeDirectories}
 use Rattle.stored_set.proofs.Live.{live_any}
 use Rattle.stored_set.proofs.States.{taken_states}
 use Rattle.stored_set.proofs.TakenAway.{all_held, begin_is, few, gives_none, homes_still, no_begin, removes_still, same_chains, sequences_still, set_taken}

@@ -1,16 +1,16 @@
 use Rattle.std.proofs.Common.{◌∙◌, IsSome, IsSomeAnd, Option, None, Some, List, ap, subst, sym}
 use Rattle.std.proofs.lemmas.Bool.{true≢false}
-use Rattle.domain_base.specs.declared.place.CellAt.{CellAt}
-use Rattle.domain_base.specs.declared.place.Home.{Home}
-use Rattle.page_store.specs.Pages.{Pages, with_page}
-use Rattle.bmt_mcells.specs.Chain.{PlacedCell}
-use Rattle.bmt_mcells.specs.CellPage.{home_of}
-use Rattle.bitfile_cells.specs.Files.{IsFile}
-use Rattle.bitfile_core.specs.Changes.{ChangesBeside, ChangesFirst, with_chain}
-use Rattle.bitfile_core.specs.Files.{AreFiles, IsLiveCell, attributes_of}
-use Rattle.bitfile_core.specs.Together.{AreTogether}
-use Rattle.bitfile_core.proofs.Live.{live_none}
-use Rattle.bitfile_core.proofs.OneChain.{chain_same, same_tag_itself}
+use Rattle.index_pages.specs.domain_base.declared.place.CellAt.{CellAt}
+use Rattle.index_pages.specs.domain_base.declared.place.Home.{Home}
+use Rattle.index_pages.specs.page_store.Pages.{Pages, with_page}
+use Rattle.index_pages.specs.metadata_cells.Chain.{PlacedCell}
+use Rattle.index_pages.specs.metadata_cells.CellPage.{home_of}
+use Rattle.index_pages.specs.file_chains.Files.{IsFile}
+use Rattle.index_pages.specs.fileset_files.Changes.{ChangesBeside, ChangesFirst, with_chain}
+use Rattle.index_pages.specs.fileset_files.Files.{AreFiles, IsLiveCell, attributes_of}
+use Rattle.index_pages.specs.fileset_files.Together.{AreTogether}
+use Rattle.index_pages.proofs.OfFilesetFiles.Live.{live_none}
+use Rattle.index_pages.proofs.OfFilesetFiles.OneChain.{chain_same, same_tag_itself}
 use Rattle.stored_set.proofs.Lengthened.{chain_there, first_there, put_back}
 use Rattle.stored_set.proofs.TakenAway.{bare_first, both_beside, first_sequences, gone_same, still_live}
 use Rattle.stored_set.proofs.removing.take_out.Goals as goal

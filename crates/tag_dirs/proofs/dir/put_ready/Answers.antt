@@ -1,5 +1,5 @@
 use Rattle.std.proofs.Common.{◌≡◌, false, subst}
-use Rattle.domain_base.specs.declared.place.Home.{Home}
+use Rattle.metadata_cells.specs.domain_base.declared.place.Home.{Home}
 use Rattle.tag_dirs.specs.Directory.{AddsPage, has_home}
 use Rattle.tag_dirs.proofs.Added.{links_last, page_added}
 use Rattle.tag_dirs.proofs.dir.put_ready.Goals as goal

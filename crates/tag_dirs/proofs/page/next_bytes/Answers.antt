@@ -1,5 +1,5 @@
 use Rattle.std.proofs.Common.{◌≤◌, ◌∙◌, [], ◌∷◌, rules, subst}
-use Rattle.record_table.specs.Fields.{Fit}
+use Rattle.metadata_cells.specs.cell_records.Fields.{Fit}
 use Rattle.tag_dirs.proofs.NewPage.{home_at, home_widths, linked}
 use Rattle.tag_dirs.proofs.page.next_bytes.Goals as goal
 

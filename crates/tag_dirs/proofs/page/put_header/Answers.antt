@@ -1,6 +1,6 @@
 use Rattle.std.proofs.Common.{◌∙◌, [], ◌∷◌, ◌++◌, rules, subst, sym}
-use Rattle.record_table.specs.Fields.{Fit}
-use Rattle.record_table.specs.Records.{spelled}
+use Rattle.metadata_cells.specs.cell_records.Fields.{Fit}
+use Rattle.metadata_cells.specs.cell_records.Records.{spelled}
 use Rattle.tag_dirs.specs.TagPage.{IsNewPage}
 use Rattle.tag_dirs.proofs.NewPage.{header_widths, header_numbers, is_new}
 use Rattle.tag_dirs.proofs.page.put_header.Goals as goal

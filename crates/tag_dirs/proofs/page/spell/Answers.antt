@@ -1,5 +1,5 @@
 use Rattle.std.proofs.Common.{◌∙◌, [], ◌∷◌, drop, rules}
-use Rattle.record_table.specs.Fields.{Fit}
+use Rattle.metadata_cells.specs.cell_records.Fields.{Fit}
 use Rattle.tag_dirs.proofs.WrittenEntry.{address_same, at, entry_widths}
 use Rattle.tag_dirs.proofs.page.spell.Goals as goal
 

@@ -1,6 +1,6 @@
 use Rattle.std.proofs.Common.{◌∙◌, inl, inr, sym, ⊎_elim}
 use mathlib.Core.Bool.{false≢true}
-use Rattle.page_ways.specs.Frame.{frame_in}
+use Rattle.cell_faults.specs.page_ways.Frame.{frame_in}
 use Rattle.tag_faults.proofs.all.insert_slot_fault.Goals as goal
 
 pub returns-then-not-wrong : goal.returns-then-not-wrong

@@ -1,5 +1,5 @@
 use Rattle.std.proofs.Common.{inl, inr, ⊎_elim}
-use Rattle.page_ways.specs.Frame.{frame_in}
+use Rattle.cell_faults.specs.page_ways.Frame.{frame_in}
 use Rattle.tag_faults.proofs.TagsAll.{tags_all}
 use Rattle.tag_faults.proofs.all.tags_faults.Goals as goal
 

@@ -1,6 +1,6 @@
 use Rattle.std.proofs.Common.{◌↔◌, ◌⊎◌, ◌≤◌, inl, inr, length, subst, arith, ⊎_elim}
-use Rattle.page_ways.specs.Frame.{frame_in}
-use Rattle.home_sets.specs.Members.{IsIn}
+use Rattle.cell_faults.specs.page_ways.Frame.{frame_in}
+use Rattle.cell_faults.specs.sorted_sets.Members.{IsIn}
 use Rattle.tag_faults.specs.Directories.{HasPage, IsFaultBehind}
 use Rattle.tag_faults.proofs.Counted.{number_more}
 use Rattle.tag_faults.proofs.SlotPages.{HasPageBelow, IsFaultAt, all_faults, same_fault}

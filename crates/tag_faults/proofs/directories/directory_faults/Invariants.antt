@@ -1,7 +1,7 @@
 use Rattle.std.proofs.Common.{◌↔◌}
-use Rattle.domain_base.specs.declared.place.Home.{Home}
-use Rattle.page_ways.specs.Frame.{frame_in}
-use Rattle.home_sets.specs.Members.{IsIn}
+use Rattle.cell_faults.specs.domain_base.declared.place.Home.{Home}
+use Rattle.cell_faults.specs.page_ways.Frame.{frame_in}
+use Rattle.cell_faults.specs.sorted_sets.Members.{IsIn}
 use Rattle.tag_faults.proofs.Counted.{IsBelow}
 use Rattle.tag_faults.proofs.SlotPages.{HasPageBelow, IsFaultAt}
 use Rattle.tag_faults.proofs.directories.directory_faults.Given as goal

@@ -1,8 +1,8 @@
 use Rattle.std.proofs.Common.{◌≡◌, inl, inr, Contains, refl, subst, ⊎_elim}
-use Rattle.domain_base.specs.declared.place.Home.{Home}
-use Rattle.home_sets.specs.Members.{IsIn}
-use Rattle.home_sets.proofs.Items.{item_of}
-use Rattle.span_sets.proofs.Below.{below_all, below_more}
+use Rattle.cell_faults.specs.domain_base.declared.place.Home.{Home}
+use Rattle.cell_faults.specs.sorted_sets.Members.{IsIn}
+use Rattle.cell_faults.proofs.OfSortedSets.Items.{item_of}
+use Rattle.cell_faults.proofs.OfSortedSets.Below.{below_all, below_more}
 use Rattle.tag_faults.proofs.directories.insert_shared.Goals as goal
 
 pub loop-home-preserved : goal.loop-home-preserved

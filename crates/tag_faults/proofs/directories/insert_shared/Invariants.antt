@@ -1,7 +1,7 @@
 use Rattle.std.proofs.Common.{◌≡◌, ◌↔◌, ◌⊎◌}
-use Rattle.domain_base.specs.declared.place.Home.{Home}
-use Rattle.home_sets.specs.Members.{IsIn}
-use Rattle.span_sets.proofs.Below.{IsBelow}
+use Rattle.cell_faults.specs.domain_base.declared.place.Home.{Home}
+use Rattle.cell_faults.specs.sorted_sets.Members.{IsIn}
+use Rattle.cell_faults.proofs.OfSortedSets.Below.{IsBelow}
 use Rattle.tag_faults.proofs.directories.insert_shared.Given as goal
 
 abbrev pub invariant-loop-home : goal.invariant-loop-home

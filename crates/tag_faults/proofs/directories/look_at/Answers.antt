@@ -1,6 +1,6 @@
 use Rattle.std.proofs.Common.{inl, inr, List, Contains, sym, subst, ⊎_elim}
-use Rattle.domain_base.specs.declared.place.Home.{Home}
-use Rattle.page_ways.specs.Frame.{frame_in}
+use Rattle.cell_faults.specs.domain_base.declared.place.Home.{Home}
+use Rattle.cell_faults.specs.page_ways.Frame.{frame_in}
 use Rattle.tag_faults.specs.Directories.{IsWrongAmong}
 use Rattle.tag_faults.proofs.SlotPages.{has_page, wrong_page}
 use Rattle.tag_faults.proofs.directories.look_at.Goals as goal

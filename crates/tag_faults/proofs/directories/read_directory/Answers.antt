@@ -1,5 +1,5 @@
 use Rattle.std.proofs.Common.{◌∙◌, sym}
-use Rattle.page_ways.specs.Frame.{frame_in}
+use Rattle.cell_faults.specs.page_ways.Frame.{frame_in}
 use Rattle.tag_faults.proofs.SlotPages.{read_there}
 use Rattle.tag_faults.proofs.directories.read_directory.Goals as goal
 

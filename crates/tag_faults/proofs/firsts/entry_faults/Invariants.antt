@@ -1,8 +1,8 @@
 use Rattle.std.proofs.Common.{◌↔◌}
-use Rattle.domain_base.specs.declared.place.Home.{Home}
-use Rattle.page_ways.specs.Frame.{frame_in}
-use Rattle.home_sets.specs.Members.{IsIn}
-use Rattle.span_sets.proofs.Below.{IsBelow}
+use Rattle.cell_faults.specs.domain_base.declared.place.Home.{Home}
+use Rattle.cell_faults.specs.page_ways.Frame.{frame_in}
+use Rattle.cell_faults.specs.sorted_sets.Members.{IsIn}
+use Rattle.cell_faults.proofs.OfSortedSets.Below.{IsBelow}
 use Rattle.tag_faults.specs.Entries.{LeadsToNoFirst}
 use Rattle.tag_faults.specs.declared.named.NamedCell.{NamedCell}
 use Rattle.tag_faults.proofs.firsts.entry_faults.Given as goal

@@ -1,6 +1,6 @@
 use Rattle.std.proofs.Common.{◌∙◌, sym}
 use mathlib.Core.Bool.{false≢true}
-use Rattle.page_ways.specs.Frame.{frame_in}
+use Rattle.cell_faults.specs.page_ways.Frame.{frame_in}
 use Rattle.tag_faults.proofs.FirstCells.{first_says, no_first, other_first}
 use Rattle.tag_faults.proofs.firsts.leads_to_first.Goals as goal
 

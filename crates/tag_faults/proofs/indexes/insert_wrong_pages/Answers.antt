@@ -1,6 +1,6 @@
 use Rattle.std.proofs.Common.{◌≡◌, inl, inr, Some, length, slice_get, refl, arith, ⊎_elim}
 use Rattle.std.proofs.lemmas.Option.{slice_get_read, slice_get_within}
-use Rattle.span_sets.specs.Members.{HasNumber}
+use Rattle.cell_faults.specs.sorted_sets.SpanMembers.{HasNumber}
 use Rattle.tag_faults.proofs.Counted.{number_more}
 use Rattle.tag_faults.proofs.SlotPages.{HasIndexAt, IsWrongAt, here_index, wrong_at}
 use Rattle.tag_faults.proofs.indexes.insert_wrong_pages.Goals as goal

@@ -1,7 +1,7 @@
 use Rattle.std.proofs.Common.{◌↔◌, ◌⊎◌, ℕ}
-use Rattle.domain_base.specs.declared.place.Home.{Home}
-use Rattle.home_sets.specs.Members.{IsIn}
-use Rattle.span_sets.specs.Members.{HasNumber}
+use Rattle.cell_faults.specs.domain_base.declared.place.Home.{Home}
+use Rattle.cell_faults.specs.sorted_sets.Members.{IsIn}
+use Rattle.cell_faults.specs.sorted_sets.SpanMembers.{HasNumber}
 use Rattle.tag_faults.specs.Directories.{HasIndexBefore}
 use Rattle.tag_faults.proofs.Counted.{IsBelow}
 use Rattle.tag_faults.proofs.SlotPages.{IsWrongAt}

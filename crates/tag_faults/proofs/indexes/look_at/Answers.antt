@@ -1,7 +1,7 @@
 use Rattle.std.proofs.Common.{◌≡◌, ◌∙◌, inl, inr, Some, None, List, ℕ, sym, ap, subst, ⊎_elim}
 use Rattle.std.specs.Option.{option_copied}
-use Rattle.tag_dirs.specs.TagPage.{index_of}
-use Rattle.span_sets.specs.Members.{HasNumber}
+use Rattle.cell_faults.specs.tag_dirs.TagPage.{index_of}
+use Rattle.cell_faults.specs.sorted_sets.SpanMembers.{HasNumber}
 use Rattle.tag_faults.specs.Directories.{IsWrongPage}
 use Rattle.tag_faults.proofs.indexes.look_at.Goals as goal
 

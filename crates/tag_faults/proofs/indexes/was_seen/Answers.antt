@@ -1,5 +1,5 @@
 use Rattle.std.proofs.Common.{◌≡◌, subst, arith}
-use Rattle.span_sets.specs.Members.{HasNumber}
+use Rattle.cell_faults.specs.sorted_sets.SpanMembers.{HasNumber}
 use Rattle.tag_faults.proofs.indexes.was_seen.Goals as goal
 
 pub returns : goal.returns

@@ -1,6 +1,6 @@
 use Rattle.std.proofs.Common.{◌∙◌, inl, inr, sym, ap, subst, ⊎_elim}
-use Rattle.bmt_mcells.specs.CellPage.{home_of}
-use Rattle.page_ways.specs.Frame.{frame_in}
+use Rattle.cell_faults.specs.metadata_cells.CellPage.{home_of}
+use Rattle.cell_faults.specs.page_ways.Frame.{frame_in}
 use Rattle.tag_faults.specs.Late.{HasLateNumber}
 use Rattle.tag_faults.proofs.late.insert_late.Goals as goal
 

@@ -1,6 +1,6 @@
 use Rattle.std.proofs.Common.{◌≡◌, ◌∙◌, ◌↔◌, ◌⊎◌, inl, inr, Contains, List, ℕ, Some, None, sym, ap, subst, ⊎_elim}
 use Rattle.std.specs.Option.{option_copied}
-use Rattle.span_sets.proofs.Found.{on_ok}
+use Rattle.cell_faults.proofs.OfSortedSets.Found.{on_ok}
 use Rattle.tag_faults.specs.Entries.{IsEntryOf, IsEntryThere}
 use Rattle.tag_faults.specs.declared.named.NamedCell.{NamedCell}
 use Rattle.tag_faults.proofs.named.push_page.Goals as goal

@@ -1,7 +1,7 @@
 use Rattle.std.proofs.Common.{inl, inr, refl, ⊎_elim}
-use Rattle.domain_base.specs.declared.place.Home.{Home}
-use Rattle.home_sets.proofs.Items.{item_of}
-use Rattle.span_sets.proofs.Below.{below_all, below_more}
+use Rattle.cell_faults.specs.domain_base.declared.place.Home.{Home}
+use Rattle.cell_faults.proofs.OfSortedSets.Items.{item_of}
+use Rattle.cell_faults.proofs.OfSortedSets.Below.{below_all, below_more}
 use Rattle.tag_faults.specs.Entries.{IsEntryThere}
 use Rattle.tag_faults.proofs.named.push_pages.Goals as goal
 

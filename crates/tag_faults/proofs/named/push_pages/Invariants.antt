@@ -1,6 +1,6 @@
 use Rattle.std.proofs.Common.{◌↔◌, ◌⊎◌, Contains}
-use Rattle.domain_base.specs.declared.place.Home.{Home}
-use Rattle.span_sets.proofs.Below.{IsBelow}
+use Rattle.cell_faults.specs.domain_base.declared.place.Home.{Home}
+use Rattle.cell_faults.proofs.OfSortedSets.Below.{IsBelow}
 use Rattle.tag_faults.specs.Entries.{IsEntryThere}
 use Rattle.tag_faults.specs.declared.named.NamedCell.{NamedCell}
 use Rattle.tag_faults.proofs.named.push_pages.Given as goal

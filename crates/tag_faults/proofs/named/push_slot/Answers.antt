@@ -1,6 +1,6 @@
 use Rattle.std.proofs.Common.{inl, inr, List, sym, subst, ⊎_elim}
-use Rattle.domain_base.specs.declared.place.Home.{Home}
-use Rattle.page_ways.specs.Frame.{frame_in}
+use Rattle.cell_faults.specs.domain_base.declared.place.Home.{Home}
+use Rattle.cell_faults.specs.page_ways.Frame.{frame_in}
 use Rattle.tag_faults.specs.Entries.{IsEntryAmong}
 use Rattle.tag_faults.proofs.SlotEntries.{entries_in}
 use Rattle.tag_faults.proofs.named.push_slot.Goals as goal

@@ -1,5 +1,5 @@
 use Rattle.std.proofs.Common.{◌↔◌, ◌⊎◌, ◌≤◌, inl, inr, Contains, List, length, subst, arith, ⊎_elim}
-use Rattle.page_ways.specs.Frame.{frame_in}
+use Rattle.cell_faults.specs.page_ways.Frame.{frame_in}
 use Rattle.tag_faults.specs.Entries.{IsEntryIn}
 use Rattle.tag_faults.specs.declared.named.NamedCell.{NamedCell}
 use Rattle.tag_faults.proofs.Counted.{number_more}

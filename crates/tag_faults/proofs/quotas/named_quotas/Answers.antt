@@ -1,5 +1,5 @@
 use Rattle.std.proofs.Common.{◌⊎◌, ◌↔◌, inl, inr, subst, arith, ⊎_elim}
-use Rattle.cell_links.specs.Members.{IsIn}
+use Rattle.cell_faults.specs.cell_chains.Members.{IsIn}
 use Rattle.tag_faults.specs.Quotas.{NamesQuota}
 use Rattle.tag_faults.proofs.Counted.{number_more, within_of}
 use Rattle.tag_faults.proofs.quotas.named_quotas.Goals as goal

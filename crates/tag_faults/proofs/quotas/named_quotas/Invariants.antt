@@ -1,6 +1,6 @@
 use Rattle.std.proofs.Common.{◌↔◌}
-use Rattle.domain_base.specs.declared.place.CellAt.{CellAt}
-use Rattle.cell_links.specs.Members.{IsIn}
+use Rattle.cell_faults.specs.domain_base.declared.place.CellAt.{CellAt}
+use Rattle.cell_faults.specs.cell_chains.Members.{IsIn}
 use Rattle.tag_faults.specs.Quotas.{NamesQuota}
 use Rattle.tag_faults.proofs.Counted.{IsBelow}
 use Rattle.tag_faults.proofs.quotas.named_quotas.Given as goal

@@ -1,8 +1,8 @@
 use Rattle.std.proofs.Common.{◌≡◌}
-use Rattle.domain_base.specs.declared.place.Home.{Home}
-use Rattle.bmt_mcells.specs.CellPage.{home_of}
-use Rattle.home_sets.specs.Members.{IsIn}
-use Rattle.chain_leads.proofs.Each.{all_found, found_more}
+use Rattle.cell_faults.specs.domain_base.declared.place.Home.{Home}
+use Rattle.cell_faults.specs.metadata_cells.CellPage.{home_of}
+use Rattle.cell_faults.specs.sorted_sets.Members.{IsIn}
+use Rattle.cell_faults.proofs.OfCellChains.Each.{all_found, found_more}
 use Rattle.tag_faults.specs.Quotas.{IsQuotaAlone}
 use Rattle.tag_faults.proofs.InUse.{unnamed_all}
 use Rattle.tag_faults.proofs.quotas.unnamed_quota_faults.Goals as goal

@@ -1,9 +1,9 @@
 use Rattle.std.proofs.Common.{◌≡◌}
-use Rattle.domain_base.specs.declared.place.Home.{Home}
-use Rattle.bmt_mcells.specs.CellPage.{home_of}
-use Rattle.cell_links.specs.Links.{cells_of}
-use Rattle.home_sets.specs.Members.{IsIn}
-use Rattle.chain_leads.proofs.Each.{AreFound}
+use Rattle.cell_faults.specs.domain_base.declared.place.Home.{Home}
+use Rattle.cell_faults.specs.metadata_cells.CellPage.{home_of}
+use Rattle.cell_faults.specs.cell_chains.Links.{cells_of}
+use Rattle.cell_faults.specs.sorted_sets.Members.{IsIn}
+use Rattle.cell_faults.proofs.OfCellChains.Each.{AreFound}
 use Rattle.tag_faults.specs.Quotas.{IsQuotaAlone}
 use Rattle.tag_faults.proofs.quotas.unnamed_quota_faults.Given as goal
 

@@ -1,8 +1,8 @@
 use Rattle.std.proofs.Common.{◌∙◌, IfNone, IfSome, sym, subst}
 use mathlib.Core.Bool.{false≢true}
-use Rattle.bmt_mcells.specs.Cell.{Cell}
-use Rattle.bmt_mcells.specs.Chain.{StandsAt}
-use Rattle.page_ways.specs.Frame.{frame_in}
+use Rattle.cell_faults.specs.metadata_cells.Cell.{Cell}
+use Rattle.cell_faults.specs.metadata_cells.Chain.{StandsAt}
+use Rattle.cell_faults.specs.page_ways.Frame.{frame_in}
 use Rattle.tag_faults.proofs.UsedCells.{removed_by, used_link}
 use Rattle.tag_faults.proofs.removed.is_removed_at.Goals as goal
 

@@ -1,8 +1,8 @@
 use Rattle.std.proofs.Common.{◌≡◌, ◌∙◌, arith, get_or, refl, sym, subst, ⊎_elim}
 use Rattle.std.proofs.lemmas.Bool.{cases_lt}
 use mathlib.Core.Bool.{false≢true}
-use Rattle.page_ways.specs.Frame.{frame_in}
-use Rattle.home_sets.proofs.Items.{item_of}
+use Rattle.cell_faults.specs.page_ways.Frame.{frame_in}
+use Rattle.cell_faults.proofs.OfSortedSets.Items.{item_of}
 use Rattle.tag_faults.specs.Entries.{address_of}
 use Rattle.tag_faults.specs.Roots.{IsRemovedAt, IsRootOf}
 use Rattle.tag_faults.specs.declared.named.NamedCell.{NamedCell}

@@ -1,5 +1,5 @@
 use Rattle.std.proofs.Common.{◌≡◌, ◌<◌, ℕ, get_or}
-use Rattle.page_ways.specs.Frame.{frame_in}
+use Rattle.cell_faults.specs.page_ways.Frame.{frame_in}
 use Rattle.tag_faults.specs.Entries.{address_of}
 use Rattle.tag_faults.specs.Roots.{IsRemovedAt, IsRootOf}
 use Rattle.tag_faults.specs.declared.named.NamedCell.{NamedCell}

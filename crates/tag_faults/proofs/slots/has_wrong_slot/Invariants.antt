@@ -1,6 +1,6 @@
 use Rattle.std.proofs.Common.{◌<◌, ℕ}
-use Rattle.domain_layout.specs.Reached.{Frame}
-use Rattle.chain_faults.specs.Links.{AreLinks}
+use Rattle.cell_faults.specs.domain_layout.Reached.{Frame}
+use Rattle.cell_faults.specs.Links.{AreLinks}
 use Rattle.tag_faults.specs.Quotas.{IsWrongIn}
 use Rattle.tag_faults.proofs.slots.has_wrong_slot.Given as goal
 

@@ -1,6 +1,6 @@
 use Rattle.std.proofs.Common.{◌∙◌, inr, sym, subst, ⊎_elim}
 use mathlib.Core.Bool.{false≢true}
-use Rattle.domain_layout.specs.TagRules.{HasWrongNumber, HasWrongQuota}
+use Rattle.cell_faults.specs.domain_layout.TagRules.{HasWrongNumber, HasWrongQuota}
 use Rattle.tag_faults.proofs.Counted.{one_item}
 use Rattle.tag_faults.proofs.slots.is_wrong_in.Goals as goal
 

@@ -1,9 +1,9 @@
 use Rattle.std.proofs.Common.{◌≡◌}
-use Rattle.domain_base.specs.declared.place.Home.{Home}
-use Rattle.bmt_mcells.specs.CellPage.{home_of}
-use Rattle.page_ways.specs.Frame.{frame_in}
-use Rattle.home_sets.specs.Members.{IsIn}
-use Rattle.chain_leads.proofs.Each.{all_found, found_more}
+use Rattle.cell_faults.specs.domain_base.declared.place.Home.{Home}
+use Rattle.cell_faults.specs.metadata_cells.CellPage.{home_of}
+use Rattle.cell_faults.specs.page_ways.Frame.{frame_in}
+use Rattle.cell_faults.specs.sorted_sets.Members.{IsIn}
+use Rattle.cell_faults.proofs.OfCellChains.Each.{all_found, found_more}
 use Rattle.tag_faults.specs.Sources.{ReadsAstray}
 use Rattle.tag_faults.proofs.Astray.{astray_all}
 use Rattle.tag_faults.proofs.sources.source_faults.Goals as goal

@@ -1,10 +1,10 @@
 use Rattle.std.proofs.Common.{◌≡◌}
-use Rattle.domain_base.specs.declared.place.Home.{Home}
-use Rattle.bmt_mcells.specs.CellPage.{home_of}
-use Rattle.cell_links.specs.Links.{cells_of}
-use Rattle.page_ways.specs.Frame.{frame_in}
-use Rattle.home_sets.specs.Members.{IsIn}
-use Rattle.chain_leads.proofs.Each.{AreFound}
+use Rattle.cell_faults.specs.domain_base.declared.place.Home.{Home}
+use Rattle.cell_faults.specs.metadata_cells.CellPage.{home_of}
+use Rattle.cell_faults.specs.cell_chains.Links.{cells_of}
+use Rattle.cell_faults.specs.page_ways.Frame.{frame_in}
+use Rattle.cell_faults.specs.sorted_sets.Members.{IsIn}
+use Rattle.cell_faults.proofs.OfCellChains.Each.{AreFound}
 use Rattle.tag_faults.specs.Sources.{ReadsAstray}
 use Rattle.tag_faults.proofs.sources.source_faults.Given as goal
 

@@ -1,7 +1,7 @@
 use Rattle.std.proofs.Common.{inl, inr, refl, sym, subst, ⊎_elim}
-use Rattle.page_ways.specs.Frame.{frame_in}
-use Rattle.home_sets.proofs.Items.{item_of}
-use Rattle.span_sets.proofs.Below.{below_all, below_more, none_below}
+use Rattle.cell_faults.specs.page_ways.Frame.{frame_in}
+use Rattle.cell_faults.proofs.OfSortedSets.Items.{item_of}
+use Rattle.cell_faults.proofs.OfSortedSets.Below.{below_all, below_more, none_below}
 use Rattle.tag_faults.specs.Entries.{AreEntries}
 use Rattle.tag_faults.specs.Unnamed.{LeadsToFirst}
 use Rattle.tag_faults.specs.declared.named.NamedCell.{NamedCell}

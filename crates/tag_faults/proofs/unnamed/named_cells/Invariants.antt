@@ -1,8 +1,8 @@
 use Rattle.std.proofs.Common.{◌↔◌}
-use Rattle.domain_base.specs.declared.place.CellAt.{CellAt}
-use Rattle.page_ways.specs.Frame.{frame_in}
-use Rattle.cell_links.specs.Members.{IsIn}
-use Rattle.span_sets.proofs.Below.{IsBelow}
+use Rattle.cell_faults.specs.domain_base.declared.place.CellAt.{CellAt}
+use Rattle.cell_faults.specs.page_ways.Frame.{frame_in}
+use Rattle.cell_faults.specs.cell_chains.Members.{IsIn}
+use Rattle.cell_faults.proofs.OfSortedSets.Below.{IsBelow}
 use Rattle.tag_faults.specs.Unnamed.{LeadsToFirst}
 use Rattle.tag_faults.specs.declared.named.NamedCell.{NamedCell}
 use Rattle.tag_faults.proofs.unnamed.named_cells.Given as goal

@@ -1,6 +1,6 @@
 use Rattle.std.proofs.Common.{IfNone, IfSome, refl, subst}
-use Rattle.bmt_mcells.specs.Cell.{Cell}
-use Rattle.bmt_mcells.specs.Chain.{StandsAt}
+use Rattle.cell_faults.specs.metadata_cells.Cell.{Cell}
+use Rattle.cell_faults.specs.metadata_cells.Chain.{StandsAt}
 use Rattle.tag_faults.proofs.Alone.{stays_by}
 use Rattle.tag_faults.proofs.unnamed.stays.Goals as goal
 

@@ -1,7 +1,7 @@
-use Rattle.domain_base.specs.declared.place.Home.{Home}
-use Rattle.cell_links.specs.Links.{cells_of}
-use Rattle.home_sets.specs.Members.{IsIn}
-use Rattle.chain_leads.proofs.Each.{AreFound}
+use Rattle.cell_faults.specs.domain_base.declared.place.Home.{Home}
+use Rattle.cell_faults.specs.cell_chains.Links.{cells_of}
+use Rattle.cell_faults.specs.sorted_sets.Members.{IsIn}
+use Rattle.cell_faults.proofs.OfCellChains.Each.{AreFound}
 use Rattle.tag_faults.specs.Unnamed.{IsFirstAlone}
 use Rattle.tag_faults.proofs.unnamed.unnamed_faults.Given as goal
 

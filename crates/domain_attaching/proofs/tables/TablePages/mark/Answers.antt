@@ -1,7 +1,7 @@
 use Rattle.std.proofs.Common.{◌≡◌, ◌+◌, ◌<◌, ◌≤◌, ℕ, subst, arith}
-use Rattle.anchor_laws.specs.Domain.{layout_of}
-use Rattle.domain_layout.specs.Layout.{Layout}
-use Rattle.domain_memory.specs.Staged.{staged_in}
+use Rattle.attached_domain.specs.domain_standing.Domain.{layout_of}
+use Rattle.attached_domain.specs.domain_layout.Layout.{Layout}
+use Rattle.attached_domain.specs.domain_memory.Staged.{staged_in}
 use Rattle.domain_attaching.specs.Tables.{HasTablesOn}
 use Rattle.domain_attaching.proofs.TablesMarked.{marks_still, one_volume_more, tables_marked}
 use Rattle.domain_attaching.proofs.tables.TablePages.mark.Goals as goal

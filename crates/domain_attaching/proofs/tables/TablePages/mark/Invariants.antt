@@ -1,6 +1,6 @@
 use Rattle.std.proofs.Common.{◌<◌, ◌≤◌, ℕ}
-use Rattle.anchor_laws.specs.Domain.{layout_of}
-use Rattle.domain_memory.specs.Staged.{staged_in}
+use Rattle.attached_domain.specs.domain_standing.Domain.{layout_of}
+use Rattle.attached_domain.specs.domain_memory.Staged.{staged_in}
 use Rattle.domain_attaching.specs.Tables.{HasMarksFor, HasTablesOn}
 use Rattle.domain_attaching.proofs.tables.TablePages.mark.Given as goal
 

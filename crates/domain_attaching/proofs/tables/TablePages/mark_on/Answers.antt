@@ -1,10 +1,10 @@
 use Rattle.std.proofs.Common.{◌≡◌, ◌∙◌, ◌-◌, ℕ, Bool, List, false, length, replicate, sym, subst, vec_len, arith}
 use Rattle.std.specs.Vec.{with_items}
 use Rattle.std.proofs.lemmas.List.{with_items_is}
-use Rattle.anchor_laws.specs.Domain.{layout_of}
-use Rattle.domain_layout.specs.Layout.{Layout}
-use Rattle.domain_memory.specs.Staged.{staged_in}
-use Rattle.log_ring.specs.Homes.{member_of}
+use Rattle.attached_domain.specs.domain_standing.Domain.{layout_of}
+use Rattle.attached_domain.specs.domain_layout.Layout.{Layout}
+use Rattle.attached_domain.specs.domain_memory.Staged.{staged_in}
+use Rattle.attached_domain.specs.log_ring.Homes.{member_of}
 use Rattle.domain_attaching.specs.Tables.{AreTablesOn, IsTableHome, Marks}
 use Rattle.domain_attaching.proofs.TablesMarked.{from_none, put_there, set_other}
 use Rattle.domain_attaching.proofs.tables.TablePages.mark_on.Goals as goal

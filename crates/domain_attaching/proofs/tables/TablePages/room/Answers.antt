@@ -1,5 +1,5 @@
 use Rattle.std.proofs.Common.{◌≡◌, ◌+◌, ℕ, length, sym, subst, arith}
-use Rattle.log_ring.specs.Homes.{member_of}
+use Rattle.attached_domain.specs.log_ring.Homes.{member_of}
 use Rattle.domain_attaching.proofs.Marked.{AreEach, each_push}
 use Rattle.domain_attaching.proofs.TablesMarked.{HasCount, counted_marks}
 use Rattle.domain_attaching.proofs.tables.TablePages.room.Goals as goal

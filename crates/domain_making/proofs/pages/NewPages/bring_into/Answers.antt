@@ -1,6 +1,6 @@
 use Rattle.std.proofs.Common.{◌∙◌, sym, subst}
-use Rattle.page_store.specs.Pages.{Pages, with_page}
-use Rattle.layout_laws.specs.NewDomain.{IsNew, on_first}
+use Rattle.domain_layout.specs.page_store.Pages.{Pages, with_page}
+use Rattle.domain_layout.specs.NewDomain.{IsNew, on_first}
 use Rattle.domain_making.specs.Making.{new_frame}
 use Rattle.domain_making.proofs.Brought.{all_new}
 use Rattle.domain_making.proofs.pages.NewPages.bring_into.Goals as goal

@@ -1,16 +1,16 @@
 use Rattle.std.proofs.Common.{◌≡◌, ◌∙◌, refl, sym, ap, subst}
-use Rattle.page_store.specs.Pages.{Pages}
-use Rattle.attached_space.specs.Marks.{IsMarked}
-use Rattle.attached_space.specs.Space.{AreCellsOf}
-use Rattle.domain_layout.specs.Layout.{IsLayout, Layout}
-use Rattle.domain_layout.specs.Owners.{frame_of}
-use Rattle.domain_layout.specs.Reached.{Frame}
+use Rattle.standing_laws.specs.page_store.Pages.{Pages}
+use Rattle.standing_laws.specs.domain_standing.Marks.{IsMarked}
+use Rattle.standing_laws.specs.domain_standing.Space.{AreCellsOf}
+use Rattle.standing_laws.specs.domain_layout.Layout.{IsLayout, Layout}
+use Rattle.standing_laws.specs.domain_layout.Owners.{frame_of}
+use Rattle.standing_laws.specs.domain_layout.Reached.{Frame}
 use Rattle.domain_making.specs.Making.{new_frame}
-use Rattle.attached_space.specs.Good.{AreGood}
-use Rattle.layout_laws.specs.NewDomain.{IsNew}
+use Rattle.standing_laws.specs.filesets_reading.Good.{AreGood}
+use Rattle.standing_laws.specs.domain_layout.NewDomain.{IsNew}
 use Rattle.staged_pages.specs.Store.{pages_of}
 use Rattle.domain_memory.proofs.NewMemory.{new_is_good, stands_for}
-use Rattle.free_space.specs.Spaces.{kept_spaces}
+use Rattle.standing_laws.specs.free_space.Spaces.{kept_spaces}
 use Rattle.domain_memory.proofs.KeptSpace.{kept_is}
 use Rattle.domain_memory.proofs.TakingBack.{none_settled, none_to_take_back}
 use Rattle.domain_memory.proofs.memory.DomainMemory.of_new.Goals as goal

@@ -1,8 +1,8 @@
 use Rattle.std.proofs.Common.{◌++◌, ◌∷◌, [], List, Option, sym, ap, subst}
-use Rattle.fileset_model.specs.declared.command.Command.{Command}
-use Rattle.fileset_model.specs.declared.entry.Entry.{Entry}
-use Rattle.page_ways.specs.declared.frame.DomainFrame.{DomainFrame}
-use Rattle.domain_memory.proofs.Held.{keeps_held}
+use Rattle.no_faults.specs.fileset_values.declared.command.Command.{Command}
+use Rattle.no_faults.specs.fileset_values.declared.entry.Entry.{Entry}
+use Rattle.no_faults.specs.page_ways.declared.frame.DomainFrame.{DomainFrame}
+use Rattle.no_faults.proofs.OfDomainMemory.Held.{keeps_held}
 use Rattle.domain_state.specs.History.{GoesOn}
 use Rattle.domain_state.proofs.Committing.{committed, is_staged}
 use Rattle.domain_state.proofs.Resting.{rests_still}

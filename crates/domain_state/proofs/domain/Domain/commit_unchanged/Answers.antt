@@ -1,6 +1,6 @@
 use Rattle.std.proofs.Common.{◌++◌, ◌∷◌, [], List, Option, refl, sym, ap, subst}
-use Rattle.fileset_model.specs.declared.command.Command.{Command}
-use Rattle.fileset_model.specs.declared.entry.Entry.{Entry}
+use Rattle.no_faults.specs.fileset_values.declared.command.Command.{Command}
+use Rattle.no_faults.specs.fileset_values.declared.entry.Entry.{Entry}
 use Rattle.domain_state.specs.History.{GoesOn}
 use Rattle.domain_state.proofs.Committing.{unchanged}
 use Rattle.domain_state.proofs.Resting.{rests_still}

@@ -1,5 +1,5 @@
 use Rattle.std.proofs.Common.{refl, ap}
-use Rattle.page_ways.specs.declared.frame.DomainFrame.{DomainFrame}
+use Rattle.no_faults.specs.page_ways.declared.frame.DomainFrame.{DomainFrame}
 use Rattle.domain_state.proofs.Committing.{discarded}
 use Rattle.domain_state.proofs.Resting.{rests_still}
 use Rattle.domain_state.proofs.domain.Domain.discard.Goals as goal

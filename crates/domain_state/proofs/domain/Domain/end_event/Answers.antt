@@ -1,6 +1,6 @@
 use Rattle.std.proofs.Common.{List, Option, refl, sym, ap, subst, if◌then◌else◌}
-use Rattle.fileset_model.specs.declared.command.Command.{Command}
-use Rattle.fileset_model.specs.declared.entry.Entry.{Entry}
+use Rattle.no_faults.specs.fileset_values.declared.command.Command.{Command}
+use Rattle.no_faults.specs.fileset_values.declared.entry.Entry.{Entry}
 use Rattle.domain_state.specs.History.{GoesOn, with_last_stamped}
 use Rattle.domain_state.proofs.Stamping.{event_ended}
 use Rattle.domain_state.proofs.Resting.{rests_still}

@@ -1,6 +1,6 @@
 use Rattle.std.proofs.Common.{true, List, length, sym, ap, subst, arith}
 use Rattle.std.proofs.lemmas.List.{length_push}
-use Rattle.fileset_model.specs.declared.entry.Entry.{Entry}
+use Rattle.no_faults.specs.fileset_values.declared.entry.Entry.{Entry}
 use Rattle.domain_state.specs.History.{AreStamped, NonePanicked}
 use Rattle.domain_state.proofs.Calm.{added_calm}
 use Rattle.domain_state.proofs.Stamping.{added_stamped}

@@ -1,5 +1,5 @@
 use Rattle.std.proofs.Common.{◌≡◌, ◌∙◌, true, false, List, ap, arith, length, subst, sym}
-use Rattle.fileset_model.specs.declared.entry.Entry.{Entry}
+use Rattle.no_faults.specs.fileset_values.declared.entry.Entry.{Entry}
 use Rattle.domain_state.specs.History.{AreStamped, NonePanicked, with_last_stamped}
 use Rattle.domain_state.proofs.Calm.{stamped_calm}
 use Rattle.domain_state.proofs.Stamping.{all_stamped, length_stamped}

@@ -1,5 +1,5 @@
 use Rattle.std.proofs.Common.{List, sym, subst}
-use Rattle.fileset_model.specs.declared.entry.Entry.{Entry}
+use Rattle.no_faults.specs.fileset_values.declared.entry.Entry.{Entry}
 use Rattle.domain_state.specs.History.{AreStamped, NonePanicked}
 use Rattle.domain_state.proofs.history.History.reserve.Goals as goal
 

@@ -3,10 +3,10 @@ use Rattle.std.specs.Ordering.{nat_cmp}
 use Rattle.std.specs.Cmp.{nat_cmp_total}
 use Rattle.std.specs.FinMap.{from_sorted}
 use Rattle.std.specs.FinMap.Entries.{put}
-use Rattle.fileset_model.specs.Orders.{Path, path_cmp, path_cmp-total}
+use Rattle.fileset_values.specs.Orders.{Path, path_cmp, path_cmp-total}
 use Rattle.fileset_model.specs.Apply.{with_node}
 use Rattle.fileset_model.specs.declared.node.Node.{Node}
-use Rattle.sorted_entries.proofs.EntryLemmas.{insert-from_sorted}
+use Rattle.sorted_sets.proofs.EntryLemmas.{insert-from_sorted}
 use Rattle.fileset_model.proofs.TreeLemmas.{tree_of}
 use Rattle.fileset_model.proofs.fileset.FilesetTree.add.Goals as goal
 

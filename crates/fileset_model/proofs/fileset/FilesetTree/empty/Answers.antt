@@ -1,11 +1,11 @@
 use Rattle.std.proofs.Common.{◌≡◌, ℕ, List, [], ◌∷◌, ◌++◌, ap, ◌∙◌}
 use Rattle.std.specs.Cmp.{nat_cmp_total}
-use Rattle.fileset_model.specs.Orders.{Path, path_cmp-total, owner_cmp}
-use Rattle.fileset_model.specs.declared.command.Owner.{Owner}
+use Rattle.fileset_values.specs.Orders.{Path, path_cmp-total, owner_cmp}
+use Rattle.fileset_values.specs.declared.command.Owner.{Owner}
 use Rattle.fileset_model.specs.declared.node.Node.{Node}
 use Rattle.fileset_model.specs.declared.node.Node.TheVariants.{Directory}
 use Rattle.fileset_model.specs.declared.fileset.Limits.{Limits}
-use Rattle.sorted_entries.proofs.EntryLemmas.{from_sorted-empty, from_sorted-one}
+use Rattle.sorted_sets.proofs.EntryLemmas.{from_sorted-empty, from_sorted-one}
 use Rattle.fileset_model.proofs.TreeLemmas.{tree_of}
 use Rattle.fileset_model.proofs.fileset.FilesetTree.empty.Goals as goal
 

@@ -1,11 +1,11 @@
 use Rattle.std.proofs.Common.{◌≡◌, ℕ, List, ap, ◌∙◌}
 use Rattle.std.specs.FinMap.{empty, from_sorted}
-use Rattle.fileset_model.specs.Orders.{Path, owner_cmp}
+use Rattle.fileset_values.specs.Orders.{Path, owner_cmp}
 use Rattle.fileset_model.specs.Fileset.{Fileset}
-use Rattle.fileset_model.specs.declared.command.Owner.{Owner}
+use Rattle.fileset_values.specs.declared.command.Owner.{Owner}
 use Rattle.fileset_model.specs.declared.fileset.Limits.{Limits}
 use Rattle.fileset_model.specs.declared.node.Node.{Node}
-use Rattle.sorted_entries.proofs.EntryLemmas.{from_sorted-empty}
+use Rattle.sorted_sets.proofs.EntryLemmas.{from_sorted-empty}
 use Rattle.fileset_model.proofs.TreeLemmas.{tree_of}
 use Rattle.fileset_model.proofs.fileset.FilesetTree.frozen.Goals as goal
 

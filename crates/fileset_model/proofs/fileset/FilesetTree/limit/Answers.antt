@@ -1,13 +1,13 @@
 use Rattle.std.proofs.Common.{◌≡◌, Bool, true, false, List, ap, sym, ◌∙◌, if◌then◌else◌}
 use Rattle.std.specs.FinMap.{FinMap, from_sorted, insert, remove}
-use Rattle.fileset_model.specs.Orders.{owner_cmp, owner_cmp-total}
+use Rattle.fileset_values.specs.Orders.{owner_cmp, owner_cmp-total}
 use Rattle.fileset_model.specs.Fileset.{Fileset}
 use Rattle.fileset_model.specs.Usage.{is_unlimited, with_limits}
-use Rattle.fileset_model.specs.declared.command.Owner.{Owner}
+use Rattle.fileset_values.specs.declared.command.Owner.{Owner}
 use Rattle.fileset_model.specs.declared.fileset.Limits.{Limits}
 use Rattle.fileset_model.proofs.OwnerLemmas.{owner_cmp-IsAntisymmetric}
 use Rattle.fileset_model.proofs.ChangeLemmas.{remove-from_sorted}
-use Rattle.sorted_entries.proofs.EntryLemmas.{insert-from_sorted}
+use Rattle.sorted_sets.proofs.EntryLemmas.{insert-from_sorted}
 use Rattle.fileset_model.proofs.TreeLemmas.{tree_of}
 use Rattle.fileset_model.proofs.fileset.FilesetTree.limit.Goals as goal
 

@@ -1,11 +1,11 @@
 use Rattle.std.proofs.Common.{List, unwrap_or, ap, sym, ◌∙◌}
 use Rattle.std.specs.FinMap.{get}
 use Rattle.std.specs.FinMap.Entries.{find}
-use Rattle.fileset_model.specs.Orders.{owner_cmp}
+use Rattle.fileset_values.specs.Orders.{owner_cmp}
 use Rattle.fileset_model.specs.Fileset.{Fileset}
-use Rattle.fileset_model.specs.declared.command.Owner.{Owner}
+use Rattle.fileset_values.specs.declared.command.Owner.{Owner}
 use Rattle.fileset_model.specs.declared.fileset.Limits.{Limits}
-use Rattle.sorted_entries.proofs.EntryLemmas.{get-from_sorted}
+use Rattle.sorted_sets.proofs.EntryLemmas.{get-from_sorted}
 use Rattle.fileset_model.proofs.fileset.FilesetTree.limits.Goals as goal
 
 abbrev none : Limits

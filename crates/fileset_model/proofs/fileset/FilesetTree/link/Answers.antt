@@ -1,10 +1,10 @@
 use Rattle.std.proofs.Common.{ℕ, List, ap, sym, ◌∙◌}
 use Rattle.std.specs.FinMap.{get}
-use Rattle.fileset_model.specs.Orders.{Path, path_cmp-total}
+use Rattle.fileset_values.specs.Orders.{Path, path_cmp-total}
 use Rattle.fileset_model.specs.Fileset.{Fileset}
 use Rattle.fileset_model.specs.Apply.{linked}
 use Rattle.fileset_model.proofs.ChangeLemmas.{linked-at}
-use Rattle.sorted_entries.proofs.EntryLemmas.{insert-from_sorted}
+use Rattle.sorted_sets.proofs.EntryLemmas.{insert-from_sorted}
 use Rattle.fileset_model.proofs.TreeLemmas.{tree_of}
 use Rattle.fileset_model.proofs.fileset.FilesetTree.link.Goals as goal
 

@@ -4,7 +4,7 @@ use Rattle.std.specs.FinMap.{get}
 use Rattle.std.specs.FinMap.Entries.{find}
 use Rattle.fileset_model.specs.Fileset.{Fileset}
 use Rattle.fileset_model.specs.declared.node.Node.{Node}
-use Rattle.sorted_entries.proofs.EntryLemmas.{get-from_sorted}
+use Rattle.sorted_sets.proofs.EntryLemmas.{get-from_sorted}
 use Rattle.fileset_model.proofs.fileset.FilesetTree.node.Goals as goal
 
 pub returns : goal.returns

@@ -6,7 +6,7 @@ use Rattle.std.specs.FinMap.{get}
 use Rattle.std.specs.FinMap.Entries.{find}
 use Rattle.fileset_model.specs.Fileset.{Fileset}
 use Rattle.fileset_model.specs.declared.node.Node.{Node}
-use Rattle.sorted_entries.proofs.EntryLemmas.{find-above, get-from_sorted}
+use Rattle.sorted_sets.proofs.EntryLemmas.{find-above, get-from_sorted}
 use Rattle.fileset_model.proofs.fileset.FilesetTree.number_above.Goals as goal
 
 pub loop-used-preserved : goal.loop-used-preserved

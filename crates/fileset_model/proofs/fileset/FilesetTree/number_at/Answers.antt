@@ -1,9 +1,9 @@
 use Rattle.std.proofs.Common.{ℕ, List, ap, sym, ◌∙◌}
 use Rattle.std.specs.FinMap.{get}
 use Rattle.std.specs.FinMap.Entries.{find}
-use Rattle.fileset_model.specs.Orders.{Path, path_cmp}
+use Rattle.fileset_values.specs.Orders.{Path, path_cmp}
 use Rattle.fileset_model.specs.Fileset.{Fileset}
-use Rattle.sorted_entries.proofs.EntryLemmas.{get-from_sorted}
+use Rattle.sorted_sets.proofs.EntryLemmas.{get-from_sorted}
 use Rattle.fileset_model.proofs.fileset.FilesetTree.number_at.Goals as goal
 
 pub returns : goal.returns

@@ -1,8 +1,8 @@
 use Rattle.std.proofs.Common.{ℕ, List, ◌==◌, count_by, ap, sym, ◌∙◌}
 use Rattle.std.specs.FinMap.{entries}
-use Rattle.fileset_model.specs.Orders.{Path, path_cmp}
+use Rattle.fileset_values.specs.Orders.{Path, path_cmp}
 use Rattle.fileset_model.specs.Fileset.{Fileset}
-use Rattle.sorted_entries.proofs.EntryLemmas.{entries-from_sorted}
+use Rattle.sorted_sets.proofs.EntryLemmas.{entries-from_sorted}
 use Rattle.fileset_model.proofs.fileset.FilesetTree.paths_to.Goals as goal
 
 pub returns : goal.returns

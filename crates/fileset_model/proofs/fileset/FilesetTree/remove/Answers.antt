@@ -2,7 +2,7 @@ use Rattle.std.proofs.Common.{◌≡◌, ℕ, List, true, false, not, ap, sym, �
 use Rattle.std.specs.Ordering.{eq_by_cmp}
 use Rattle.std.specs.FinMap.{get}
 use Rattle.std.specs.FinMap.Entries.{where_key}
-use Rattle.fileset_model.specs.Orders.{Path, path_cmp}
+use Rattle.fileset_values.specs.Orders.{Path, path_cmp}
 use Rattle.fileset_model.specs.Fileset.{Fileset}
 use Rattle.fileset_model.specs.Apply.{without}
 use Rattle.fileset_model.specs.declared.node.Node.{Node}

@@ -1,7 +1,7 @@
 use Rattle.std.proofs.Common.{◌≡◌, ℕ, List, Bool, if◌then◌else◌, IsTrue, ap, subst, sym, ◌∙◌}
 use Rattle.std.specs.FinMap.{entries, from_sorted}
 use Rattle.std.specs.FinMap.Entries.{is_sorted}
-use Rattle.fileset_model.specs.Orders.{Path, path_cmp}
+use Rattle.fileset_values.specs.Orders.{Path, path_cmp}
 use Rattle.fileset_model.specs.Fileset.{Fileset}
 use Rattle.fileset_model.specs.Apply.{moved, without}
 use Rattle.fileset_model.proofs.MoveLemmas.{moved_map, moved-over, sorted_entries}

@@ -2,11 +2,11 @@ use Rattle.std.proofs.Common.{◌≡◌, List, [], ◌∷◌, ◌++◌, ◌<◌,
 use Rattle.std.proofs.lemmas.Grind.{common_steps}
 use Rattle.std.specs.List.{filter_map}
 use Rattle.std.specs.FinMap.{entries}
-use Rattle.fileset_model.specs.Orders.{path_cmp}
+use Rattle.fileset_values.specs.Orders.{path_cmp}
 use Rattle.fileset_model.specs.Fileset.{Fileset}
 use Rattle.fileset_model.specs.Paths.{name_below}
-use Rattle.fileset_model.specs.declared.reply.NameItem.{NameItem}
-use Rattle.sorted_entries.proofs.EntryLemmas.{entries-from_sorted}
+use Rattle.fileset_values.specs.declared.reply.NameItem.{NameItem}
+use Rattle.sorted_sets.proofs.EntryLemmas.{entries-from_sorted}
 use Rattle.fileset_model.proofs.RowsLemmas.{row_of, row-more, no-row-more}
 use Rattle.fileset_model.proofs.fileset.FilesetTree.rows.Goals as goal
 use Rattle.fileset_model.proofs.fileset.FilesetTree.rows.Goals.{in-Some+in_ok-copy+in_ok-push, in_default}

@@ -5,7 +5,7 @@ use Rattle.std.specs.FinMap.{entries, get}
 use Rattle.fileset_model.specs.Fileset.{Fileset}
 use Rattle.fileset_model.specs.Usage.{blocks_of, counts_for}
 use Rattle.fileset_model.specs.declared.node.Node.{Node}
-use Rattle.sorted_entries.proofs.EntryLemmas.{entries-from_sorted}
+use Rattle.sorted_sets.proofs.EntryLemmas.{entries-from_sorted}
 use Rattle.fileset_model.proofs.fileset.FilesetTree.usage.Goals as goal
 
 pub returns-clause-files : goal.returns-clause-files

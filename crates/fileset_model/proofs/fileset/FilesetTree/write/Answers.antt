@@ -3,11 +3,11 @@ use Rattle.std.specs.Ordering.{nat_cmp}
 use Rattle.std.specs.Cmp.{nat_cmp_total}
 use Rattle.std.specs.FinMap.{get}
 use Rattle.std.specs.FinMap.Entries.{find}
-use Rattle.sorted_entries.specs.Entries.{IsPlaceOf}
+use Rattle.sorted_sets.specs.Entries.{IsPlaceOf}
 use Rattle.fileset_model.specs.Fileset.{Fileset}
 use Rattle.fileset_model.specs.Apply.{with_change, written_node}
 use Rattle.fileset_model.specs.declared.node.Node.{Node}
-use Rattle.sorted_entries.proofs.EntryLemmas.{get-from_sorted, sorted_at_place}
+use Rattle.sorted_sets.proofs.EntryLemmas.{get-from_sorted, sorted_at_place}
 use Rattle.fileset_model.proofs.TreeLemmas.{change_at_place, with_change-missing}
 use Rattle.fileset_model.proofs.fileset.FilesetTree.write.Goals as goal
 

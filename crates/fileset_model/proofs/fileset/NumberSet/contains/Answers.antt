@@ -3,7 +3,7 @@ use Rattle.std.specs.Ordering.{nat_cmp}
 use Rattle.std.specs.FinMap.{contains_key}
 use Rattle.std.specs.FinMap.Entries.{find}
 use Rattle.std.specs.FinSet.{FinSet}
-use Rattle.sorted_entries.proofs.EntryLemmas.{get-from_sorted}
+use Rattle.sorted_sets.proofs.EntryLemmas.{get-from_sorted}
 use Rattle.fileset_model.proofs.fileset.NumberSet.contains.Goals as goal
 
 pub returns-in-Some : goal.returns-in-Some

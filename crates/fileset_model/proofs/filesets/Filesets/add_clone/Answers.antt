@@ -1,10 +1,10 @@
 use Rattle.std.proofs.Common.{ap, sym, ◌∙◌}
 use Rattle.std.specs.FinMap.{from_sorted, insert}
 use Rattle.std.specs.FinMap.Entries.{put}
-use Rattle.fileset_model.specs.Orders.{Name, name_cmp, name_cmp-total}
+use Rattle.fileset_values.specs.Orders.{Name, name_cmp, name_cmp-total}
 use Rattle.fileset_model.specs.Filesets.{FilesetMap}
 use Rattle.fileset_model.specs.declared.fileset.FilesetSlot.{FilesetSlot}
-use Rattle.sorted_entries.proofs.EntryLemmas.{insert-from_sorted}
+use Rattle.sorted_sets.proofs.EntryLemmas.{insert-from_sorted}
 use Rattle.fileset_model.proofs.WholeLemmas.{cloned, with_clone-at}
 use Rattle.fileset_model.proofs.filesets.Filesets.add_clone.Goals as goal
 

@@ -2,10 +2,10 @@ use Rattle.std.proofs.Common.{◌≡◌, ◌+◌, ◌||◌, List, Bool, [], true
 use Rattle.std.proofs.lemmas.List.{drop_all}
 use Rattle.std.specs.FinMap.{entries}
 use Rattle.fileset_model.specs.Apply.{is_clone_of}
-use Rattle.fileset_model.specs.Orders.{Name, name_cmp}
+use Rattle.fileset_values.specs.Orders.{Name, name_cmp}
 use Rattle.fileset_model.specs.Filesets.{FilesetMap}
 use Rattle.fileset_model.specs.declared.fileset.FilesetSlot.{FilesetSlot}
-use Rattle.sorted_entries.proofs.EntryLemmas.{entries-from_sorted}
+use Rattle.sorted_sets.proofs.EntryLemmas.{entries-from_sorted}
 use Rattle.fileset_model.proofs.WholeLemmas.{any_value, any_value-step}
 use Rattle.fileset_model.proofs.filesets.Filesets.has_clone.Goals as goal
 

@@ -1,8 +1,8 @@
 use Rattle.std.proofs.Common.{ap, ◌∙◌}
 use Rattle.std.specs.FinMap.{from_sorted, insert}
-use Rattle.fileset_model.specs.Orders.{name_cmp-total}
+use Rattle.fileset_values.specs.Orders.{name_cmp-total}
 use Rattle.fileset_model.specs.Filesets.{FilesetMap}
-use Rattle.sorted_entries.proofs.EntryLemmas.{insert-from_sorted}
+use Rattle.sorted_sets.proofs.EntryLemmas.{insert-from_sorted}
 use Rattle.fileset_model.proofs.filesets.Filesets.insert.Goals as goal
 
 pub returns-clause-ok : goal.returns-clause-ok

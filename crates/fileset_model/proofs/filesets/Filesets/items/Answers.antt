@@ -2,11 +2,11 @@ use Rattle.std.proofs.Common.{◌≡◌, map, take, ap, sym, ◌∙◌, arith}
 use Rattle.std.proofs.lemmas.Grind.{common_steps}
 use Rattle.std.specs.FinMap.{entries}
 use Rattle.fileset_model.specs.Apply.{original_of}
-use Rattle.fileset_model.specs.Orders.{Name, name_cmp}
+use Rattle.fileset_values.specs.Orders.{Name, name_cmp}
 use Rattle.fileset_model.specs.Filesets.{FilesetMap}
 use Rattle.fileset_model.specs.declared.fileset.FilesetSlot.{FilesetSlot}
-use Rattle.fileset_model.specs.declared.reply.FilesetItem.{FilesetItem}
-use Rattle.sorted_entries.proofs.EntryLemmas.{entries-from_sorted}
+use Rattle.fileset_values.specs.declared.reply.FilesetItem.{FilesetItem}
+use Rattle.sorted_sets.proofs.EntryLemmas.{entries-from_sorted}
 use Rattle.fileset_model.proofs.filesets.Filesets.items.Goals as goal
 
 abbrev row_of : Name × FilesetSlot → FilesetItem

@@ -1,7 +1,7 @@
 use Rattle.std.proofs.Common.{◌≡◌, ◌∙◌, ap, sym, length, rules, vec_len}
 use Rattle.std.specs.FinMap as map
-use Rattle.fileset_model.specs.Orders.{name_cmp}
-use Rattle.sorted_entries.proofs.EntryLemmas.{len-from_sorted}
+use Rattle.fileset_values.specs.Orders.{name_cmp}
+use Rattle.sorted_sets.proofs.EntryLemmas.{len-from_sorted}
 use Rattle.fileset_model.proofs.filesets.Filesets.len.Goals as goal
 
 pub returns : goal.returns

@@ -1,13 +1,13 @@
 use Rattle.std.proofs.Common.{ap, ◌∙◌}
 use Rattle.std.specs.FinMap.{from_sorted, insert}
 use Rattle.std.specs.FinMap.Entries.{put}
-use Rattle.fileset_model.specs.Orders.{Name, name_cmp, name_cmp-total}
+use Rattle.fileset_values.specs.Orders.{Name, name_cmp, name_cmp-total}
 use Rattle.fileset_model.specs.Fileset.{Fileset}
 use Rattle.fileset_model.specs.Filesets.{FilesetMap}
 use Rattle.fileset_model.specs.Apply.{empty_fileset}
 use Rattle.fileset_model.specs.declared.fileset.FilesetSlot.{FilesetSlot}
 use Rattle.fileset_model.specs.declared.fileset.Role.TheVariants.{Original}
-use Rattle.sorted_entries.proofs.EntryLemmas.{insert-from_sorted}
+use Rattle.sorted_sets.proofs.EntryLemmas.{insert-from_sorted}
 use Rattle.fileset_model.proofs.filesets.Filesets.make.Goals as goal
 
 pub returns-clause-ok : goal.returns-clause-ok

@@ -1,6 +1,6 @@
 use Rattle.std.proofs.Common.{List, ap, ◌∙◌}
 use Rattle.std.specs.FinMap.{from_sorted, remove}
-use Rattle.fileset_model.specs.Orders.{Name, name_cmp, name_cmp-total, name_cmp-IsAntisymmetric}
+use Rattle.fileset_values.specs.Orders.{Name, name_cmp, name_cmp-total, name_cmp-IsAntisymmetric}
 use Rattle.fileset_model.specs.Filesets.{FilesetMap}
 use Rattle.fileset_model.specs.declared.fileset.FilesetSlot.{FilesetSlot}
 use Rattle.fileset_model.proofs.ChangeLemmas.{remove-from_sorted}

@@ -1,13 +1,13 @@
 use Rattle.std.proofs.Common.{◌≡◌, List, None, ap, subst, sym, ◌∙◌}
 use Rattle.std.specs.FinMap.{get}
 use Rattle.std.specs.FinMap.Entries.{find}
-use Rattle.sorted_entries.specs.Entries.{IsPlaceOf}
-use Rattle.fileset_model.specs.Orders.{Name, name_cmp, name_cmp-total}
+use Rattle.sorted_sets.specs.Entries.{IsPlaceOf}
+use Rattle.fileset_values.specs.Orders.{Name, name_cmp, name_cmp-total}
 use Rattle.fileset_model.specs.Fileset.{Fileset}
 use Rattle.fileset_model.specs.Filesets.{FilesetMap}
 use Rattle.fileset_model.specs.Apply.{with_change, with_tree, flagged_node}
 use Rattle.fileset_model.specs.declared.fileset.FilesetSlot.{FilesetSlot}
-use Rattle.sorted_entries.proofs.EntryLemmas.{get-from_sorted, sorted_at_place}
+use Rattle.sorted_sets.proofs.EntryLemmas.{get-from_sorted, sorted_at_place}
 use Rattle.fileset_model.proofs.SlotLemmas.{tree_at_place, with_tree-missing}
 use Rattle.fileset_model.proofs.filesets.Filesets.set_logged.Goals as goal
 

@@ -1,10 +1,10 @@
 use Rattle.std.proofs.Common.{◌≡◌, ℕ, List, None, Some, ◌<◌, ◌≤◌, length, ap, subst, sym, ◌∙◌, arith}
 use Rattle.std.specs.FinMap.{get}
 use Rattle.std.specs.FinMap.Entries.{find}
-use Rattle.fileset_model.specs.Orders.{Name, name_cmp}
+use Rattle.fileset_values.specs.Orders.{Name, name_cmp}
 use Rattle.fileset_model.specs.Filesets.{FilesetMap}
 use Rattle.fileset_model.specs.declared.fileset.FilesetSlot.{FilesetSlot}
-use Rattle.sorted_entries.proofs.EntryLemmas.{find-stands, get-from_sorted}
+use Rattle.sorted_sets.proofs.EntryLemmas.{find-stands, get-from_sorted}
 use Rattle.fileset_model.proofs.filesets.Filesets.unused_number.Goals as goal
 
 before : (i length index : ℕ) → i < length → length ≤ index → i < index

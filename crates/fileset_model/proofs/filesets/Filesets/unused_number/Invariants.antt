@@ -1,6 +1,6 @@
 use Rattle.std.proofs.Common.{◌≡◌, ℕ, ◌<◌, ◌≤◌, None, get_or}
 use Rattle.std.specs.FinMap.{get}
-use Rattle.fileset_model.specs.Orders.{Name}
+use Rattle.fileset_values.specs.Orders.{Name}
 use Rattle.fileset_model.specs.declared.fileset.FilesetSlot.{FilesetSlot}
 use Rattle.fileset_model.proofs.filesets.Filesets.unused_number.Given as goal
 

@@ -1,7 +1,7 @@
 use Rattle.std.proofs.Common.{◌≡◌, ◌∙◌, ap, sym, length, rules, vec_len}
 use Rattle.std.specs.Ordering.{nat_cmp}
 use Rattle.std.specs.FinMap as map
-use Rattle.sorted_entries.proofs.EntryLemmas.{len-from_sorted}
+use Rattle.sorted_sets.proofs.EntryLemmas.{len-from_sorted}
 use Rattle.fileset_model.proofs.page_map.PageMap.len.Goals as goal
 
 pub returns : goal.returns

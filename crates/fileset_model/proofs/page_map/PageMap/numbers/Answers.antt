@@ -3,7 +3,7 @@ use Rattle.std.proofs.lemmas.Grind.{common_steps}
 use Rattle.std.specs.Ordering.{nat_cmp}
 use Rattle.std.specs.FinMap.{keys}
 use Rattle.fileset_model.specs.Pages.{Pages}
-use Rattle.sorted_entries.proofs.EntryLemmas.{entries-from_sorted}
+use Rattle.sorted_sets.proofs.EntryLemmas.{entries-from_sorted}
 use Rattle.fileset_model.proofs.page_map.PageMap.numbers.Goals as goal
 
 pub returns : goal.returns

@@ -1,8 +1,8 @@
 use Rattle.std.proofs.Common.{◌≡◌, ◌∙◌, false, IsSomeAnd, ap, subst, sym}
 use Rattle.std.specs.Option.{option_map}
-use Rattle.domain_base.specs.declared.place.Home.{Home}
-use Rattle.page_store.specs.Pages.{same_home}
-use Rattle.bmt_mcells.specs.CellPage.{index_of, next_of}
+use Rattle.metadata_cells.specs.domain_base.declared.place.Home.{Home}
+use Rattle.metadata_cells.specs.page_store.Pages.{same_home}
+use Rattle.metadata_cells.specs.CellPage.{index_of, next_of}
 use Rattle.free_cells.specs.Belong.{Belong}
 use Rattle.free_cells.proofs.Belongs.{all_join, all_on, belong_grown, belong_linked, last_apart, last_leads}
 use Rattle.free_cells.proofs.cells.FreeCells.add_page.Goals as goal

@@ -1,6 +1,6 @@
 use Rattle.std.proofs.Common.{◌<◌, ◌∙◌, ◌&&◌, ◌||◌, ◌++◌, ◌∷◌, [], OnOk, set, length, ap, sym, subst, arith}
 use Rattle.std.specs.List.{Contains}
-use Rattle.bmt_mcells.specs.CellPage.{is_free_in}
+use Rattle.metadata_cells.specs.CellPage.{is_free_in}
 use Rattle.free_cells.specs.VolumeTable.{AreOn, VolumeIs, VolumeTable, is_among, is_free_there}
 use Rattle.free_cells.specs.Cells.{Cells, Holds, is_closed, is_free, is_on, kept_of, volume_of, with_page_last}
 use Rattle.free_cells.proofs.Volumes.{map_ok, none_fresh, page_joined, volume_read}

@@ -1,5 +1,5 @@
 use Rattle.std.proofs.Common.{◌≡◌, ◌≤◌, false}
-use Rattle.domain_base.specs.declared.place.CellAt.{CellAt}
+use Rattle.metadata_cells.specs.domain_base.declared.place.CellAt.{CellAt}
 use Rattle.free_cells.specs.Cells.{can_take}
 use Rattle.free_cells.proofs.cells.FreeCells.take_anywhere.Given as goal
 

@@ -1,5 +1,5 @@
 use Rattle.std.proofs.Common.{◌≡◌, arith}
-use Rattle.domain_base.specs.Counts.{raised}
+use Rattle.volume_disk.specs.domain_base.Counts.{raised}
 use Rattle.memory_disk.proofs.OneMore.{kept_still, makes_still}
 use Rattle.memory_disk.proofs.memory.MemoryRack.fail_untorn.Goals as goal
 

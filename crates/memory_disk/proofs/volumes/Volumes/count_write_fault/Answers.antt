@@ -1,5 +1,5 @@
 use Rattle.std.proofs.Common.{false, refl, arith}
-use Rattle.domain_base.specs.Counts.{raised}
+use Rattle.volume_disk.specs.domain_base.Counts.{raised}
 use Rattle.memory_disk.specs.Volume.{byte_of, mark_of}
 use Rattle.memory_disk.proofs.VolumeFields.{changed_by, kept_by, same_moment}
 use Rattle.memory_disk.proofs.volumes.Volumes.count_write_fault.Goals as goal

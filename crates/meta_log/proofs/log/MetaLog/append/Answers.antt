@@ -1,8 +1,8 @@
 use Rattle.std.proofs.Common.{◌≡◌, ℕ, ◌+◌, ◌^◌, ◌<◌, List, take, drop, length, vec_len, sym, ◌∙◌, ap, subst, arith}
 use Rattle.std.specs.Vec.{with_items}
 use Rattle.std.proofs.lemmas.List.{with_items_is}
-use Rattle.page_change.specs.Images.{joined}
-use Rattle.page_change.specs.declared.image.PageImage.{PageImage}
+use Rattle.log_ring.specs.Images.{joined}
+use Rattle.log_ring.specs.declared.image.PageImage.{PageImage}
 use Rattle.log_ring.specs.Homes.{AreLoggable}
 use Rattle.meta_log.specs.Inside.{log_of}
 use Rattle.meta_log.specs.Log.{HasPlaceFor, IsLog, Log, appended, next_number}

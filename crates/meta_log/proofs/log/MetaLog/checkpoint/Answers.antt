@@ -1,5 +1,5 @@
 use Rattle.std.proofs.Common.{◌≡◌, List, take, ◌∙◌, ap, subst}
-use Rattle.page_change.specs.declared.image.PageImage.{PageImage}
+use Rattle.log_ring.specs.declared.image.PageImage.{PageImage}
 use Rattle.meta_log.specs.Log.{IsLog, Log}
 use Rattle.meta_log.proofs.Checkpointing.{checkpointed, checkpoints, is_next}
 use Rattle.meta_log.proofs.log.MetaLog.checkpoint.Goals as goal

@@ -1,6 +1,6 @@
 use Rattle.std.proofs.Common.{List, length, sym, ◌∙◌, ap, subst}
-use Rattle.page_change.specs.Images.{AreDistinctHomes, joined}
-use Rattle.page_change.specs.declared.image.PageImage.{PageImage}
+use Rattle.log_ring.specs.Images.{AreDistinctHomes, joined}
+use Rattle.log_ring.specs.declared.image.PageImage.{PageImage}
 use Rattle.meta_log.proofs.Pending.{images_between}
 use Rattle.meta_log.proofs.log.MetaLog.count_with.Goals as goal
 

@@ -1,6 +1,6 @@
 use Rattle.std.proofs.Common.{◌≡◌, ◌-◌, length, take, drop, arith}
 use Rattle.std.proofs.lemmas.List.{length-drop, length-take-le}
-use Rattle.page_change.proofs.Overlays.{JoinsWell-joined}
+use Rattle.log_ring.proofs.Overlays.{JoinsWell-joined}
 use Rattle.meta_log.specs.Log.{Log, used}
 use Rattle.meta_log.proofs.log.MetaLog.room.Goals as goal
 

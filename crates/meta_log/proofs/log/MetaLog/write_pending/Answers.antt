@@ -1,5 +1,5 @@
 use Rattle.std.proofs.Common.{◌≡◌, ◌+◌, ◌-◌, ◌<◌, List, take, drop, length, vec_len, sym, ◌∙◌, ap, subst, arith}
-use Rattle.page_change.specs.declared.image.PageImage.{PageImage}
+use Rattle.log_ring.specs.declared.image.PageImage.{PageImage}
 use Rattle.meta_log.specs.Force.{forced}
 use Rattle.meta_log.specs.Inside.{log_of}
 use Rattle.meta_log.specs.Log.{IsLog, Log}

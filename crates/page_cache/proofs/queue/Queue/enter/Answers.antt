@@ -1,8 +1,8 @@
 use Rattle.std.proofs.Common.{rules, ◌≡◌, ◌∙◌, ap, sym, subst}
 use Rattle.std.specs.List.{insert}
-use Rattle.numbered_values.specs.Homes.{number_of}
-use Rattle.numbered_values.specs.Rising.{IsGapFor, IsPlaceOf, IsRising}
-use Rattle.numbered_values.proofs.Search.{rising_with}
+use Rattle.page_store.specs.sorted_sets.Homes.{number_of}
+use Rattle.page_store.specs.sorted_sets.Rising.{IsGapFor, IsPlaceOf, IsRising}
+use Rattle.page_store.proofs.OfSortedSets.Search.{rising_with}
 use Rattle.page_cache.specs.Queues.{place_at, place_of}
 use Rattle.page_cache.proofs.Places.{enters_at, enters_in, is_taken}
 use Rattle.page_cache.proofs.queue.Queue.enter.Goals as goal

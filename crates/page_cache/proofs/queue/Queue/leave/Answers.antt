@@ -1,7 +1,7 @@
 use Rattle.std.proofs.Common.{ap, subst}
 use mathlib.Core.Bool.{false≢true}
-use Rattle.numbered_values.specs.Rising.{IsGapFor, IsPlaceOf}
-use Rattle.numbered_values.proofs.Search.{value_in_gap}
+use Rattle.page_store.specs.sorted_sets.Rising.{IsGapFor, IsPlaceOf}
+use Rattle.page_store.proofs.OfSortedSets.Search.{value_in_gap}
 use Rattle.page_cache.specs.Queues.{place_at, place_of}
 use Rattle.page_cache.proofs.Places.{leaves_at, leaves_none}
 use Rattle.page_cache.proofs.queue.Queue.leave.Goals as goal

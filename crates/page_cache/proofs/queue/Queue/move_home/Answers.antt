@@ -1,5 +1,5 @@
 use Rattle.std.proofs.Common.{◌^◌, ◌<◌, sym, subst, arith}
-use Rattle.numbered_values.specs.Homes.{number_of}
+use Rattle.page_store.specs.sorted_sets.Homes.{number_of}
 use Rattle.page_cache.specs.Queues.{Leaves}
 use Rattle.page_cache.proofs.Moves.{is_free, queue_with, queue_without}
 use Rattle.page_cache.proofs.queue.Queue.move_home.Goals as goal

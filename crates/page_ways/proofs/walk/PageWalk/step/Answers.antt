@@ -1,6 +1,6 @@
 use Rattle.std.proofs.Common.{◌≡◌, ◌+◌, ◌-◌, ◌*◌, ◌^◌, ◌<◌, ◌≤◌, ℕ, true, Option, Some, None, is_some, if◌then◌else◌, length, arith}
 use mathlib.Core.Bool.{false≢true}
-use Rattle.domain_base.specs.declared.place.Home.{Home}
+use Rattle.domain_layout.specs.domain_base.declared.place.Home.{Home}
 use Rattle.page_ways.proofs.Numbers.{count_below}
 use Rattle.page_ways.proofs.walk.PageWalk.step.Goals as goal
 

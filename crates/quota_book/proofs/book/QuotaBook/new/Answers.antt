@@ -1,9 +1,9 @@
 use Rattle.std.proofs.Common.{◌≡◌, ◌∙◌, [], ap}
 use Rattle.std.specs.FinMap.{empty, from_sorted}
-use Rattle.fileset_model.specs.Orders.{owner_cmp}
+use Rattle.fileset_model.specs.fileset_values.Orders.{owner_cmp}
 use Rattle.fileset_model.specs.declared.fileset.Limits.{Limits}
 use Rattle.fileset_model.specs.declared.fileset.Usage.{Usage}
-use Rattle.sorted_entries.proofs.EntryLemmas.{from_sorted-empty}
+use Rattle.fileset_model.proofs.OfSortedSets.EntryLemmas.{from_sorted-empty}
 use Rattle.quota_book.specs.Accounts.{books_of}
 use Rattle.quota_book.proofs.book.QuotaBook.new.Goals as goal
 

@@ -1,4 +1,4 @@
-use Rattle.domain_base.specs.Page.{overwritten}
+use Rattle.page_store.specs.domain_base.Page.{overwritten}
 use Rattle.staged_pages.proofs.Listed.{pages_rewritten}
 use Rattle.staged_pages.proofs.meta_pages.StagedPagesMetaPages.set.Goals as goal
 

@@ -1,5 +1,5 @@
 use Rattle.std.proofs.Common.{◌∙◌, List, subst}
-use Rattle.page_store.specs.Pages.{Pages}
+use Rattle.metadata_cells.specs.page_store.Pages.{Pages}
 use Rattle.tag_dirs.specs.declared.dir.TagPlace.{TagPlace}
 use Rattle.tag_dirs.specs.Directory.{IsLast, Leads}
 use Rattle.tag_dirs.proofs.Added.{links_last, page_added}

@@ -1,5 +1,0 @@
-use Rattle.anchor_laws.proofs.Beside.{marked_with}
-use Rattle.anchor_laws.proofs.standing.bits_are_kept_with_another_anchor.Goals as goal
-
-pub returns : goal.returns
-returns c = marked_with

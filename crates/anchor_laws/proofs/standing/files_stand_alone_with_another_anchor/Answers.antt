@@ -1,5 +1,0 @@
-use Rattle.anchor_laws.proofs.Beside.{alone_with}
-use Rattle.anchor_laws.proofs.standing.files_stand_alone_with_another_anchor.Goals as goal
-
-pub returns : goal.returns
-returns c = alone_with

@@ -1,5 +1,0 @@
-use Rattle.anchor_laws.proofs.Beside.{parents_with}
-use Rattle.anchor_laws.proofs.standing.parents_stay_with_another_anchor.Goals as goal
-
-pub returns : goal.returns
-returns c = parents_with

@@ -1,5 +1,0 @@
-use Rattle.anchor_laws.proofs.Beside.{sound_with}
-use Rattle.anchor_laws.proofs.standing.soundness_stays_with_another_anchor.Goals as goal
-
-pub returns : goal.returns
-returns c = sound_with

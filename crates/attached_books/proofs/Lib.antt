@@ -1,6 +1,0 @@
-pub mod Nodes
-pub mod Books
-pub mod Charged
-pub mod LimitsSet
-pub mod OneOriginal
-pub mod AllBooks

@@ -1,6 +1,0 @@
-use Rattle.std.proofs.Common.{take}
-use Rattle.attached_books.specs.Counted.{CountsAll}
-use Rattle.attached_books.proofs.charges.charge_files.Given as goal
-
-abbrev pub invariant-loop-file : goal.invariant-loop-file
-invariant-loop-file l = CountsAll (take l.file-index l.files) l.fn.book.book l.book.book

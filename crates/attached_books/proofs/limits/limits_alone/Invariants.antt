@@ -1,5 +1,0 @@
-use Rattle.attached_books.proofs.LimitsSet.{SaysFrom}
-use Rattle.attached_books.proofs.limits.limits_alone.Given as goal
-
-abbrev pub invariant-loop-i : goal.invariant-loop-i
-invariant-loop-i l = SaysFrom l.i l.records l.book.book

@@ -1,0 +1,2 @@
+-- What is named above of the proofs of legal_histories.
+pub use Rattle.no_faults.proofs.OfLegalHistories.Inside

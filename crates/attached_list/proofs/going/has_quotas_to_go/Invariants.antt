@@ -1,6 +1,0 @@
-use Rattle.std.proofs.Common.{ℕ, ◌<◌}
-use Rattle.attached_list.specs.Going.{NamesFirst}
-use Rattle.attached_list.proofs.going.has_quotas_to_go.Given as goal
-
-abbrev pub invariant-loop-number : goal.invariant-loop-number
-invariant-loop-number g l = (k : ℕ) → k < l.number → NamesFirst (g.M.MetaPages.pages l.pages) l.links l.table k

@@ -1,5 +1,0 @@
-use Rattle.attached_list.proofs.Lists.{ListsSo}
-use Rattle.attached_list.proofs.list.read_list.Given as goal
-
-abbrev pub invariant-loop-at : goal.invariant-loop-at
-invariant-loop-at g l = ListsSo (g.M.MetaPages.pages l.pages) l.links l.list.list l.at-index

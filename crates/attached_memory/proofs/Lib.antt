@@ -1,4 +1,0 @@
-pub mod Layouts
-pub mod ReadMemory
-pub mod AsRead
-pub mod SlotsRead

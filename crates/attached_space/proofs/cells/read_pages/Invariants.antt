@@ -1,6 +1,0 @@
-use Rattle.attached_space.specs.Tables.{ReadsTable}
-use Rattle.attached_space.proofs.cells.read_pages.Given as goal
-
-abbrev pub invariant-loop-place : goal.invariant-loop-place
-invariant-loop-place g l =
-    ReadsTable (g.M.MetaPages.pages l.pages) l.vol l.place l.table l.fn.cells l.cells

@@ -1,5 +1,0 @@
-use Rattle.attaching_laws.proofs.Marked.{marked_space}
-use Rattle.attaching_laws.proofs.space.bits_say_the_space.Goals as goal
-
-pub returns : goal.returns
-returns c pages layout space laid none few there marked = marked_space pages layout laid none few there space marked

@@ -1,6 +1,0 @@
-use Rattle.std.proofs.Common.{◌≡◌, ◌++◌, take}
-use Rattle.bitfile_cells.specs.Changes.{above}
-use Rattle.bitfile_cells.proofs.changing.push_above.Given as goal
-
-abbrev pub invariant-loop-value : goal.invariant-loop-value
-invariant-loop-value l = l.found.items ≡ l.fn.found.items ++ above l.kind (take l.value-index l.records)

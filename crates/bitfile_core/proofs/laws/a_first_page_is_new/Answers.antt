@@ -1,5 +1,0 @@
-use Rattle.bitfile_core.proofs.NewDirectory.{first_new}
-use Rattle.bitfile_core.proofs.laws.a_first_page_is_new.Goals as goal
-
-pub returns : goal.returns
-returns c = first_new

@@ -1,5 +1,0 @@
-use Rattle.bitfile_store.specs.Shown.{shown_is}
-use Rattle.bitfile_store.proofs.stored_bitfiles.StoredBitfiles.new.Goals as goal
-
-pub returns-clause-files : goal.returns-clause-files
-returns-clause-files g c = λ set was. let parts = c.args.parts in shown_is parts.files.fileset parts.files.tags parts.space parts.cells (g.M.MetaPages.pages parts.pages) _ set was

@@ -1,3 +1,0 @@
-pub mod Rest
-pub mod Shown
-pub use Rattle.stored_set.specs.Sets

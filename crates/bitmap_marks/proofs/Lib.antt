@@ -1,4 +1,0 @@
-pub mod OneBit
-pub mod Many
-pub mod Volume
-pub mod Volumes

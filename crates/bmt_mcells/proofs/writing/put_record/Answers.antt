@@ -1,6 +1,0 @@
-use Rattle.std.proofs.Common.{subst, length, ◌≤◌}
-use Rattle.record_table.proofs.WholeRecord.{length-spelling}
-use Rattle.bmt_mcells.proofs.writing.put_record.Goals as goal
-
-pub write_record-requires-clause-room : goal.write_record-requires-clause-room
-write_record-requires-clause-room c = subst (λ n. n ≤ length c.args.out.now) (length-spelling c.args.value.now c.requires.good) c.requires.room

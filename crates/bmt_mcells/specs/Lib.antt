@@ -1,4 +1,0 @@
-pub mod Cell
-pub mod CellPage
-pub mod Chain
-pub mod Reading

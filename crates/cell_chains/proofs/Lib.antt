@@ -1,0 +1,14 @@
+pub mod Joined
+pub mod Walked
+pub mod Whole
+pub mod Cells
+pub mod ChainEnds
+pub mod Each
+pub mod Earlier
+pub mod Starting
+pub mod Told
+pub mod Again
+pub mod Rows
+pub mod CountRuns
+pub mod ReadRuns
+pub mod SaidPlaces

@@ -1,0 +1,12 @@
+pub mod Chains
+pub mod Links
+pub mod Members
+pub mod Order
+pub mod Heads
+pub mod Late
+pub mod Leads
+pub mod Starts
+pub mod Says
+pub mod Twice
+pub mod Reading
+pub mod Runs

@@ -1,6 +1,0 @@
-use Rattle.cell_links.proofs.Joined.{AreIn}
-use Rattle.cell_links.specs.Members.{IsIn}
-use Rattle.cell_links.proofs.set.CellSet.insert_all.Given as goal
-
-abbrev pub invariant-loop-at : goal.invariant-loop-at
-invariant-loop-at l = AreIn (IsIn l.initial.self) (IsIn l.self) l.cells l.at-index

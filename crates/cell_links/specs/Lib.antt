@@ -1,4 +1,0 @@
-pub mod Chains
-pub mod Links
-pub mod Members
-pub mod Order

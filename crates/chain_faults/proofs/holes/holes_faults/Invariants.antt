@@ -1,9 +1,0 @@
-use Rattle.domain_base.specs.declared.place.Home.{Home}
-use Rattle.cell_links.specs.Links.{cells_of}
-use Rattle.home_sets.specs.Members.{IsIn}
-use Rattle.chain_faults.specs.Holes.{HasHolesOf}
-use Rattle.chain_leads.proofs.Each.{AreFound}
-use Rattle.chain_faults.proofs.holes.holes_faults.Given as goal
-
-abbrev pub invariant-loop-at : goal.invariant-loop-at
-invariant-loop-at g l = AreFound (cells_of l.links) {X = Home} (λ home at link. HasHolesOf (g.M.MetaPages.pages l.pages) l.marked home at) (IsIn l.found) l.at-index

@@ -1,9 +1,0 @@
-use Rattle.domain_base.specs.declared.place.CellAt.{CellAt}
-use Rattle.cell_links.specs.Links.{cells_of}
-use Rattle.cell_links.specs.Members.{IsIn}
-use Rattle.chain_faults.specs.Holes.{IsOfOriginalFrom}
-use Rattle.chain_leads.proofs.Each.{AreFound}
-use Rattle.chain_faults.proofs.holes.original_cells.Given as goal
-
-abbrev pub invariant-loop-at : goal.invariant-loop-at
-invariant-loop-at g l = AreFound (cells_of l.links) {X = CellAt} (λ other at link. IsOfOriginalFrom (g.M.MetaPages.pages l.pages) l.table l.links at other) (IsIn l.marked) l.at-index

@@ -1,9 +1,0 @@
-use Rattle.chain_faults.proofs.WrongTwice.{pages_all}
-use Rattle.chain_faults.proofs.twice.pages_twice_faults.Goals as goal
-
-pub returns : goal.returns
-returns g c frame are home =
-    let pages = g.M.MetaPages.pages c.args.pages.now in
-    let all = pages_all pages frame c.args.links.now are c.in_ok-led.led c.in_ok-led.ensures home in
-    let found = c.in_ok-found.ensures home in
-    ((λ is. all.0 (found.0 is)), (λ fault. found.1 (all.1 fault)))

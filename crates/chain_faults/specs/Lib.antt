@@ -1,3 +1,0 @@
-pub mod Holes
-pub mod Links
-pub mod Pages

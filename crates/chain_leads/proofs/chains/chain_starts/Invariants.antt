@@ -1,5 +1,0 @@
-use Rattle.chain_leads.proofs.Starting.{AreStarts}
-use Rattle.chain_leads.proofs.chains.chain_starts.Given as goal
-
-abbrev pub invariant-loop-at : goal.invariant-loop-at
-invariant-loop-at l = AreStarts l.links l.led l.map l.at-index

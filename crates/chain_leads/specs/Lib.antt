@@ -1,4 +1,0 @@
-pub mod Heads
-pub mod Late
-pub mod Leads
-pub mod Starts

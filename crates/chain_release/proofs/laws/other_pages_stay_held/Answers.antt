@@ -1,5 +1,0 @@
-use Rattle.chain_release.proofs.Others.{others_held}
-use Rattle.chain_release.proofs.laws.other_pages_stay_held.Goals as goal
-
-pub returns : goal.returns
-returns c = others_held

@@ -1,8 +1,0 @@
-use Rattle.std.proofs.Common.{List}
-use Rattle.bmt_mcells.specs.Chain.{PlacedCell}
-use Rattle.bitfile_cells.specs.Files.{IsFile}
-use Rattle.chain_release.proofs.Found.{IsOnWay}
-use Rattle.chain_release.proofs.stale.find_stale.Given as goal
-
-abbrev pub invariant-loop : goal.invariant-loop
-invariant-loop g l = (chain : List PlacedCell) → IsFile (g.M.MetaPages.pages l.pages) l.fn.start chain → IsOnWay (g.M.MetaPages.pages l.pages) l.from l.counter l.fn.cursor l.before l.next chain

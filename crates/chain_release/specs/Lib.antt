@@ -1,4 +1,0 @@
-pub mod Reading
-pub mod Releases
-pub mod Sharing
-pub mod Steps

@@ -1,6 +1,0 @@
-use Rattle.extent_records.specs.Rows.{holes_at}
-use Rattle.chain_twice.proofs.Rows.{ArePushed}
-use Rattle.chain_twice.proofs.said.push_holes.Given as goal
-
-abbrev pub invariant-loop-row : goal.invariant-loop-row
-invariant-loop-row l = ArePushed holes_at l.initial.spans.items l.rows l.spans.items l.row-index

@@ -1,9 +1,0 @@
-pub mod Back
-pub mod Lending
-pub mod Listing
-pub mod Named
-pub use Rattle.names_standing.proofs.MovedStood
-pub use Rattle.names_standing.proofs.Nodes
-pub use Rattle.names_standing.proofs.Stood
-pub use Rattle.names_standing.proofs.BooksStay
-pub use Rattle.names_standing.proofs.FilesetPut

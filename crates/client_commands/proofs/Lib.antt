@@ -1,0 +1,16 @@
+pub mod Coming
+pub mod KeptAtHand
+pub mod Served
+pub mod Laid
+pub mod Wanted
+pub mod FewHeld
+pub mod VolumesHeld
+pub mod Rising
+pub mod MemberLines
+pub mod HeldWithin
+pub mod FileShown
+pub mod FrameKept
+pub mod VolumesTold
+pub mod OfDomainMemory
+pub mod OfDomainState
+pub mod OfLegalHistories

@@ -1,0 +1,17 @@
+pub mod Wanting
+pub mod Shown
+pub use Rattle.file_commands.specs.domain_base
+pub use Rattle.file_commands.specs.domain_layout
+pub use Rattle.file_commands.specs.domain_making
+pub use Rattle.file_commands.specs.domain_memory
+pub use Rattle.file_commands.specs.domain_state
+pub use Rattle.file_commands.specs.fileset_model
+pub use Rattle.file_commands.specs.fileset_table
+pub use Rattle.file_commands.specs.fileset_values
+pub use Rattle.file_commands.specs.legal_histories
+pub use Rattle.file_commands.specs.log_recovery
+pub use Rattle.file_commands.specs.name_commands
+pub use Rattle.file_commands.specs.page_store
+pub use Rattle.file_commands.specs.page_ways
+pub use Rattle.file_commands.specs.staged_pages
+pub use Rattle.file_commands.specs.volume_disk

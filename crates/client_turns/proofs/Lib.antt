@@ -1,5 +1,0 @@
-pub mod Taken
-mod NoFault
-mod Names
-mod Commands
-pub mod Scripts

@@ -1,5 +1,0 @@
-use Rattle.command_core.proofs.Coming.{may_commit}
-use Rattle.command_core.proofs.laws.what_a_client_is_answered_may_be_committed.Goals as goal
-
-pub returns : goal.returns
-returns c = may_commit

@@ -1,8 +1,0 @@
-use Rattle.std.proofs.Common.{◌+◌, ◌≤◌}
-use Rattle.free_space.specs.Spaces.{kept_spaces}
-use Rattle.command_core.proofs.VolumesHeld.{first_hold}
-use Rattle.command_core.proofs.room.holds_few.Given as goal
-
--- the volumes in front hold no more than they did, and as many as are counted off
-abbrev pub invariant-loop-n : goal.invariant-loop-n
-invariant-loop-n l = first_hold l.n l.memory.space + l.left ≤ first_hold l.n (kept_spaces l.memory.space) + 24

@@ -1,6 +1,0 @@
-use Rattle.std.proofs.Common.{◌∙◌, eqb-true, sym}
-use Rattle.command_core.proofs.Wanted.{none_waits}
-use Rattle.command_core.proofs.wanting.none_waits.Goals as goal
-
-pub returns : goal.returns
-returns c = λ is. none_waits c.args.memory.now.space (sym c.waiting.ensures ∙ eqb-true c.waiting.result 0 is)

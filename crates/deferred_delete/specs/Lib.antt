@@ -1,5 +1,0 @@
-pub mod Cursors
-pub mod Listed
-pub mod Listing
-pub mod Standing
-pub mod Steps

@@ -1,5 +1,0 @@
-use Rattle.deferred_laws.proofs.Listing.{page_listed}
-use Rattle.deferred_laws.proofs.adding.all_stays_well_where_a_page_is_listed.Goals as goal
-
-pub returns : goal.returns
-returns c = page_listed

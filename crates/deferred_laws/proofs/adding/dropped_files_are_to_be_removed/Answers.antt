@@ -1,5 +1,0 @@
-use Rattle.deferred_laws.proofs.Listing.{dropped_left}
-use Rattle.deferred_laws.proofs.adding.dropped_files_are_to_be_removed.Goals as goal
-
-pub returns : goal.returns
-returns c = dropped_left

@@ -1,5 +1,0 @@
-use Rattle.deferred_laws.proofs.Listing.{entry_among}
-use Rattle.deferred_laws.proofs.adding.tags_stay_among_where_a_file_is_listed.Goals as goal
-
-pub returns : goal.returns
-returns c = entry_among

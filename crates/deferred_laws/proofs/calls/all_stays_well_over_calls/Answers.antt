@@ -1,5 +1,0 @@
-use Rattle.deferred_laws.proofs.CallsWell.{calls_stay_well}
-use Rattle.deferred_laws.proofs.calls.all_stays_well_over_calls.Goals as goal
-
-pub returns : goal.returns
-returns c = calls_stay_well

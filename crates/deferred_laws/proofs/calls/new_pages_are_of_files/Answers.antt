@@ -1,5 +1,0 @@
-use Rattle.deferred_laws.proofs.NewPages.{new_page_home}
-use Rattle.deferred_laws.proofs.calls.new_pages_are_of_files.Goals as goal
-
-pub returns : goal.returns
-returns c = new_page_home

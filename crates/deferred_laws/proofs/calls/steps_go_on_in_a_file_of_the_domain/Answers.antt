@@ -1,5 +1,0 @@
-use Rattle.deferred_laws.proofs.InFiles.{in_a_file}
-use Rattle.deferred_laws.proofs.calls.steps_go_on_in_a_file_of_the_domain.Goals as goal
-
-pub returns : goal.returns
-returns c = in_a_file

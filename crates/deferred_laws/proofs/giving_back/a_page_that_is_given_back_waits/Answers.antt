@@ -1,5 +1,0 @@
-use Rattle.deferred_laws.proofs.GivenBack.{waits_and}
-use Rattle.deferred_laws.proofs.giving_back.a_page_that_is_given_back_waits.Goals as goal
-
-pub returns : goal.returns
-returns c = waits_and

@@ -1,5 +1,0 @@
-use Rattle.deferred_laws.proofs.GivenBack.{given_well}
-use Rattle.deferred_laws.proofs.giving_back.all_stays_well_where_a_page_is_given_back.Goals as goal
-
-pub returns : goal.returns
-returns c = given_well

@@ -1,5 +1,0 @@
-use Rattle.deferred_laws.proofs.ReadBack.{no_more_read}
-use Rattle.deferred_laws.proofs.steps.nothing_more_is_read_through.Goals as goal
-
-pub returns : goal.returns
-returns c = no_more_read

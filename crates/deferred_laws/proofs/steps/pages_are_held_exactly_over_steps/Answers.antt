@@ -1,5 +1,0 @@
-use Rattle.deferred_laws.proofs.HeldSteps.{held_after}
-use Rattle.deferred_laws.proofs.steps.pages_are_held_exactly_over_steps.Goals as goal
-
-pub returns : goal.returns
-returns c = held_after

@@ -1,5 +1,0 @@
-use Rattle.deferred_laws.proofs.Fronts.{fronts_stay}
-use Rattle.deferred_laws.proofs.steps.trimmed_files_keep_their_front.Goals as goal
-
-pub returns : goal.returns
-returns c = fronts_stay

@@ -1,5 +1,0 @@
-use Rattle.deferred_laws.proofs.TagPages.{tag_pages_wait}
-use Rattle.deferred_laws.proofs.waiting.pages_taken_off_wait.Goals as goal
-
-pub returns : goal.returns
-returns c = tag_pages_wait

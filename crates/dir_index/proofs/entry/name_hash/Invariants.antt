@@ -1,6 +1,0 @@
-use Rattle.std.proofs.Common.{◌≡◌, drop}
-use Rattle.dir_index.specs.Entries.{hash_from, hash_of}
-use Rattle.dir_index.proofs.entry.name_hash.Given as goal
-
-abbrev pub invariant-loop-byte : goal.invariant-loop-byte
-invariant-loop-byte l = hash_of l.name ≡ hash_from l.hash (drop l.byte-index l.name)

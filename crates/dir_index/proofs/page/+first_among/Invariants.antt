@@ -1,5 +1,0 @@
-use Rattle.std.proofs.Common.{◌-◌}
-use Rattle.dir_index.proofs.page.+first_among.Given as goal
-
-abbrev pub decreases-first_among : goal.decreases-first_among
-decreases-first_among l = l.high - l.low

@@ -1,7 +1,0 @@
-use Rattle.std.proofs.Common.{◌≡◌, take, true}
-use Rattle.std.specs.List.{AllByRecursion}
-use Rattle.dir_index.specs.Entries.{is_below}
-use Rattle.dir_index.proofs.page.count_below.Given as goal
-
-abbrev pub invariant-loop-place : goal.invariant-loop-place
-invariant-loop-place l = AllByRecursion (λ entry. is_below entry l.key ≡ true) (take l.place l.entries)

@@ -1,6 +1,0 @@
-use Rattle.std.proofs.Common.{◌≡◌}
-use Rattle.dir_index.specs.Index.{entries_from}
-use Rattle.dir_index.proofs.page.read_entries.Given as goal
-
-abbrev pub invariant-loop-entry : goal.invariant-loop-entry
-invariant-loop-entry l = l.list.items ≡ entries_from l.page 0 l.entry

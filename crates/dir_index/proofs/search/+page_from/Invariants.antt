@@ -1,5 +1,0 @@
-use Rattle.std.proofs.Common.{◌-◌}
-use Rattle.dir_index.proofs.search.+page_from.Given as goal
-
-abbrev pub decreases-page_from : goal.decreases-page_from
-decreases-page_from g l = l.high - l.low

@@ -1,8 +1,0 @@
-use Rattle.dir_index.proofs.Pages.{page_made}
-use Rattle.dir_index.proofs.Shown.{shown_page}
-use Rattle.dir_index.proofs.write.entry_page.Goals as goal
-
-pub returns : goal.returns
-returns c =
-    shown_page c.args.entries.now c.put_entries.new.page
-    (page_made c.args.entries.now c.in_ok-page.page c.put_header.new.page c.put_entries.new.page c.requires c.in_ok-page.ensures.value c.put_header.ensures.value c.put_entries.ensures.value c.put_entries.ensures.fit)

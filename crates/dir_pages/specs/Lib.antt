@@ -1,3 +1,0 @@
-pub mod RowPage
-pub mod Rows
-pub mod Views

@@ -1,5 +1,0 @@
-use Rattle.dir_rows.proofs.Outside.{others_stay_lem}
-use Rattle.dir_rows.proofs.laws.others_stay.Goals as goal
-
-pub returns : goal.returns
-returns c = others_stay_lem

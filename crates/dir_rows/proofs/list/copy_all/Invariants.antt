@@ -1,6 +1,0 @@
-use Rattle.std.proofs.Common.{◌≡◌, take}
-use Rattle.dir_rows.specs.Directory.{all_rows, row_pages}
-use Rattle.dir_rows.proofs.list.copy_all.Given as goal
-
-abbrev pub invariant-loop-number : goal.invariant-loop-number
-invariant-loop-number g l = l.rows.items ≡ all_rows (take l.number (row_pages (g.S.BitfileSet.files l.set) l.dir))

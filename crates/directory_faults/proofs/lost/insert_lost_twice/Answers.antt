@@ -1,0 +1,23 @@
+use Rattle.std.proofs.Common.{length, refl}
+use Rattle.std.proofs.lemmas.Option.{slice_get_read}
+use Rattle.fileset_shapes.specs.sorted_sets.Members.{IsIn}
+use Rattle.directory_faults.specs.Lost.{LeadsLostTwice}
+use Rattle.directory_faults.proofs.Inserted.{none_in, one_in}
+use Rattle.directory_faults.proofs.LostTwice.{all_lost}
+use Rattle.directory_faults.proofs.lost.insert_lost_twice.Goals as goal
+
+pub loop-row-init : goal.loop-row-init
+loop-row-init c = none_in c.args.rows.now (LeadsLostTwice c.in_ok-kinds.kinds c.in_ok-counts.counts) (IsIn c.args.found.now)
+
+pub loop-row-preserved : goal.loop-row-preserved
+loop-row-preserved c =
+    let rows = c.args.rows.now in
+    let number = c.loop-row.row-index in
+    let row = c.row-item.result in
+    one_in rows (LeadsLostTwice c.in_ok-kinds.kinds c.in_ok-counts.counts) (IsIn c.args.found.now) (IsIn c.loop-row.found) (IsIn c.insert_lost.new.found) number row
+    (slice_get_read rows (length rows) number row refl c.loop-row-test.true c.row-item.is) c.loop-row.invariant c.in_ok-insert_lost.ensures
+
+pub returns : goal.returns
+returns c = λ pages frame table number are_files are.
+    all_lost pages frame table number c.args.files.now c.args.rows.now c.in_ok-kinds.kinds c.in_ok-counts.counts are_files are c.in_ok-kinds.ensures c.in_ok-counts.ensures
+    (IsIn c.args.found.now) (IsIn c.loop-row.found) c.loop-row.row-index c.loop-row-test.false c.loop-row.invariant

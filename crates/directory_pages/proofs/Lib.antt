@@ -1,0 +1,12 @@
+pub mod Again
+pub mod Checked
+pub mod PageParts
+pub mod Places
+pub mod Written
+pub mod Added
+pub mod IndexParts
+pub mod Orders
+pub mod Pages
+pub mod Removed
+pub mod Sets
+pub mod Shown

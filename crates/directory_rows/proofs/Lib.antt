@@ -1,0 +1,12 @@
+pub mod Changed
+pub mod Counted
+pub mod Entered
+pub mod Files
+pub mod Gathered
+pub mod Indexed
+pub mod Looking
+pub mod Outside
+pub mod Parts
+pub mod Room
+pub mod AllLed
+pub mod OfDirectoryPages

@@ -1,0 +1,4 @@
+-- What is named above of the proofs of quota_book.
+pub use Rattle.domain_memory.proofs.OfQuotaBook.ModelChanges
+pub use Rattle.domain_memory.proofs.OfQuotaBook.Sums
+pub use Rattle.domain_memory.proofs.OfQuotaBook.Unchanged

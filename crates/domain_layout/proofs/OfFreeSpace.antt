@@ -1,0 +1,7 @@
+-- What is named above of the proofs of free_space.
+pub use Rattle.file_release.proofs.OfFreeSpace.Apart
+pub use Rattle.file_release.proofs.OfFreeSpace.Freeing
+pub use Rattle.file_release.proofs.OfFreeSpace.Kept
+pub use Rattle.file_release.proofs.OfFreeSpace.Places
+pub use Rattle.file_release.proofs.OfFreeSpace.Used
+pub use Rattle.file_release.proofs.OfFreeSpace.WrongBits

@@ -1,0 +1,2 @@
+-- What is named above of the proofs of domain_making.
+pub use Rattle.domain_making.proofs.Empty

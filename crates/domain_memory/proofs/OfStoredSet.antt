@@ -1,0 +1,19 @@
+-- What is named above of the proofs of stored_set.
+pub use Rattle.standing_laws.proofs.OfStoredSet.Beside
+pub use Rattle.standing_laws.proofs.OfStoredSet.Entries
+pub use Rattle.standing_laws.proofs.OfStoredSet.FirstTells
+pub use Rattle.standing_laws.proofs.OfStoredSet.GivenBack
+pub use Rattle.standing_laws.proofs.OfStoredSet.Indexed
+pub use Rattle.standing_laws.proofs.OfStoredSet.Kept
+pub use Rattle.standing_laws.proofs.OfStoredSet.Lengthened
+pub use Rattle.standing_laws.proofs.OfStoredSet.Live
+pub use Rattle.standing_laws.proofs.OfStoredSet.Sound
+pub use Rattle.standing_laws.proofs.OfStoredSet.Stable
+pub use Rattle.standing_laws.proofs.OfStoredSet.StableCells
+pub use Rattle.standing_laws.proofs.OfStoredSet.StableFiles
+pub use Rattle.standing_laws.proofs.OfStoredSet.StableSet
+pub use Rattle.standing_laws.proofs.OfStoredSet.StableSets
+pub use Rattle.standing_laws.proofs.OfStoredSet.TakenAway
+pub use Rattle.standing_laws.proofs.OfStoredSet.Together
+pub use Rattle.standing_laws.proofs.OfStoredSet.Told
+pub use Rattle.standing_laws.proofs.OfStoredSet.Written

@@ -1,3 +1,0 @@
-pub mod SlotsChanged
-pub mod TagsForgotten
-pub mod Listed

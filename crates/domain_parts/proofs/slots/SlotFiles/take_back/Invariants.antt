@@ -1,5 +1,0 @@
-use Rattle.domain_parts.proofs.TagsForgotten.{TagsLeft}
-use Rattle.domain_parts.proofs.slots.SlotFiles.take_back.Given as goal
-
-abbrev pub invariant-loop : goal.invariant-loop
-invariant-loop l = TagsLeft l.initial.self l.self l.counter l.end

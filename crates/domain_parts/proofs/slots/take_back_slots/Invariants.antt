@@ -1,6 +1,0 @@
-use Rattle.domain_parts.specs.Slots.{IsTakenBack}
-use Rattle.domain_parts.proofs.SlotsChanged.{ChangesPart}
-use Rattle.domain_parts.proofs.slots.take_back_slots.Given as goal
-
-abbrev pub invariant-loop-slot : goal.invariant-loop-slot
-invariant-loop-slot l = ChangesPart IsTakenBack l.initial.slot-items l.slot-items l.slot-index

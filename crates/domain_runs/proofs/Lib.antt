@@ -1,3 +1,0 @@
-pub mod Running
-pub mod Faults
-pub use Rattle.client_turns.proofs.Scripts

@@ -1,5 +1,0 @@
-use Rattle.domain_stages.proofs.Counted.{IsCounted}
-use Rattle.domain_stages.proofs.counting.count_filesets.Given as goal
-
-abbrev pub invariant-loop-n : goal.invariant-loop-n
-invariant-loop-n l = IsCounted l.table.slots l.n l.count

@@ -1,6 +1,0 @@
-use Rattle.std.proofs.Math.Logic.{∥∥₁_map}
-use Rattle.domain_memory.proofs.SettledKept.{settled_kept}
-use Rattle.domain_stages.proofs.emptying.may_empty.Goals as goal
-
-pub slot_to_empty-requires-clause-ready : goal.slot_to_empty-requires-clause-ready
-slot_to_empty-requires-clause-ready c = ∥∥₁_map c.requires.stands (λ s. (s.0, settled_kept c.args.memory.now s.0 c.requires.settled s.1))

@@ -1,7 +1,0 @@
-use Rattle.std.proofs.Common.{◌<◌, ℕ}
-use Rattle.domain_memory.specs.Going.{MayEmpty}
-use Rattle.domain_stages.proofs.emptying.slot_to_empty.Given as goal
-
--- no slot in front may be emptied
-abbrev pub invariant-loop-n : goal.invariant-loop-n
-invariant-loop-n l = (number : ℕ) → number < l.n → ¬ MayEmpty l.memory number

@@ -1,9 +1,0 @@
-use Rattle.std.proofs.Common.{◌≡◌, ◌<◌, ℕ, None}
-use Rattle.domain_base.specs.declared.place.Tag.{Tag}
-use Rattle.tag_dirs.specs.Directory.{IsOnPage, cell_of}
-use Rattle.staged_pages.specs.Store.{pages_of}
-use Rattle.domain_stages.proofs.emptying.used_tag.Given as goal
-
--- no tag on a page in front leads to a cell
-abbrev pub invariant-loop-page : goal.invariant-loop-page
-invariant-loop-page l = (k : ℕ) → k < l.page → (tag : Tag) → IsOnPage l.slot.files.tags k tag → cell_of (pages_of l.memory.pages) l.slot.files.tags tag ≡ None

@@ -1,7 +1,0 @@
-use Rattle.std.proofs.Common.{◌≡◌, ◌<◌, ℕ, get_or}
-use Rattle.deferred_delete.specs.declared.list.Entry.{Entry}
-use Rattle.domain_stages.proofs.quotas.is_listed.Given as goal
-
--- no entry in front begins there
-abbrev pub invariant-loop-entry : goal.invariant-loop-entry
-invariant-loop-entry l = (k : ℕ) (d : Entry) → k < l.entry-index → ¬ (get_or l.entries k d).at ≡ l.at

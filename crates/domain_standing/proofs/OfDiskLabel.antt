@@ -1,0 +1,2 @@
+-- What is named above of the proofs of disk_label.
+pub use Rattle.fileset_shapes.proofs.OfDiskLabel.Bodies

@@ -1,0 +1,22 @@
+-- What is named above of the proofs of stored_set.
+pub use Rattle.stored_set.proofs.AnotherSet
+pub use Rattle.stored_set.proofs.Beside
+pub use Rattle.stored_set.proofs.Entries
+pub use Rattle.stored_set.proofs.FirstTells
+pub use Rattle.stored_set.proofs.GivenBack
+pub use Rattle.stored_set.proofs.IndexPut
+pub use Rattle.stored_set.proofs.Indexed
+pub use Rattle.stored_set.proofs.Kept
+pub use Rattle.stored_set.proofs.Lengthened
+pub use Rattle.stored_set.proofs.Live
+pub use Rattle.stored_set.proofs.Making
+pub use Rattle.stored_set.proofs.Sound
+pub use Rattle.stored_set.proofs.Stable
+pub use Rattle.stored_set.proofs.StableCells
+pub use Rattle.stored_set.proofs.StableFiles
+pub use Rattle.stored_set.proofs.StableSet
+pub use Rattle.stored_set.proofs.StableSets
+pub use Rattle.stored_set.proofs.TakenAway
+pub use Rattle.stored_set.proofs.Together
+pub use Rattle.stored_set.proofs.Told
+pub use Rattle.stored_set.proofs.Written

@@ -1,0 +1,3 @@
+-- What is named above of the proofs of extent_maps.
+pub use Rattle.extent_maps.proofs.EditLemmas
+pub use Rattle.extent_maps.proofs.RunLemmas

@@ -1,5 +1,0 @@
-use Rattle.fault_laws.proofs.SameFaults.{same_faults}
-use Rattle.fault_laws.proofs.faults.faults_agree.Goals as goal
-
-pub returns : goal.returns
-returns c = λ one other frame row agree. same_faults one other frame row agree

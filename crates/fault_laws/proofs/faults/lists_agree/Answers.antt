@@ -1,5 +1,0 @@
-use Rattle.fault_laws.proofs.SameFaults.{same_lists}
-use Rattle.fault_laws.proofs.faults.lists_agree.Goals as goal
-
-pub returns : goal.returns
-returns c = λ one other frame rows agree. same_lists one other frame rows agree

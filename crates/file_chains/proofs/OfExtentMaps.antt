@@ -1,0 +1,3 @@
+-- What is named above of the proofs of extent_maps.
+pub use Rattle.extent_records.proofs.OfExtentMaps.EditLemmas
+pub use Rattle.extent_records.proofs.OfExtentMaps.RunLemmas

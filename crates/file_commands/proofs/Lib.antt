@@ -1,0 +1,16 @@
+pub mod LimitsMeant
+pub mod Stops
+pub mod Shown
+pub mod QuotaTold
+pub mod Filed
+pub mod FileAnswers
+pub mod Refunded
+pub mod Written
+pub mod OfDomainMemory
+pub mod OfDomainState
+pub mod OfFilesetModel
+pub mod OfFreeSpace
+pub mod OfLegalHistories
+pub mod OfNameChanges
+pub mod OfNameCommands
+pub mod OfStoredSet

@@ -1,7 +1,0 @@
-//! Racks of volumes in files of the operating system.
-#![tactic(auto)]
-
-mod counts;
-mod rack;
-
-pub use rack::FileRack;

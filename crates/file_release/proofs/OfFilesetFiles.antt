@@ -1,0 +1,23 @@
+-- What is named above of the proofs of fileset_files.
+pub use Rattle.fileset_files.proofs.Again
+pub use Rattle.fileset_files.proofs.Calls
+pub use Rattle.fileset_files.proofs.Created
+pub use Rattle.fileset_files.proofs.FirstCell
+pub use Rattle.fileset_files.proofs.FirstCells
+pub use Rattle.fileset_files.proofs.FirstRoom
+pub use Rattle.fileset_files.proofs.FirstTogether
+pub use Rattle.fileset_files.proofs.Given
+pub use Rattle.fileset_files.proofs.Grown
+pub use Rattle.fileset_files.proofs.Live
+pub use Rattle.fileset_files.proofs.NewDirectory
+pub use Rattle.fileset_files.proofs.OneChain
+pub use Rattle.fileset_files.proofs.OneFile
+pub use Rattle.fileset_files.proofs.Parts
+pub use Rattle.fileset_files.proofs.Placed
+pub use Rattle.fileset_files.proofs.RemovedTogether
+pub use Rattle.fileset_files.proofs.Room
+pub use Rattle.fileset_files.proofs.SetFirst
+pub use Rattle.fileset_files.proofs.ShownOnce
+pub use Rattle.fileset_files.proofs.Tags
+pub use Rattle.fileset_files.proofs.Told
+pub use Rattle.fileset_files.proofs.Truncated

@@ -1,3 +1,0 @@
-pub mod CountRuns
-pub mod ReadRuns
-pub mod SaidPlaces

@@ -1,6 +1,0 @@
-use Rattle.std.proofs.Common.{◌≡◌, ◌++◌, take}
-use Rattle.file_runs.specs.Reading.{runs_at}
-use Rattle.file_runs.proofs.reading.push_rows.Given as goal
-
-abbrev pub invariant-loop-row : goal.invariant-loop-row
-invariant-loop-row l = l.runs.items ≡ l.initial.runs.items ++ runs_at l.at (take l.row-index l.rows)

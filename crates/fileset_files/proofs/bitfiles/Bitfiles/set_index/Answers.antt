@@ -1,0 +1,67 @@
+use Rattle.std.proofs.Common.{◌≡◌, Option, Some, None, IfSome, true, refl, subst, sym, arith}
+use Rattle.std.specs.Option.{option_map}
+use Rattle.file_chains.specs.domain_base.declared.place.CellAt.{CellAt}
+use Rattle.file_chains.specs.cell_records.Records.{kind_of}
+use Rattle.file_chains.specs.metadata_cells.Chain.{LeavesOthers, StandsAt, is_at}
+use Rattle.fileset_files.specs.declared.indexing.IndexPlace.{IndexPlace}
+use Rattle.fileset_files.specs.Files.{IsLiveCell, is_first_kind}
+use Rattle.fileset_files.specs.Index.{index_record, says_index}
+use Rattle.fileset_files.proofs.RemoveFile.{files_mid, first_beside, no_live, room, the_first}
+use Rattle.fileset_files.proofs.SetFirst.{map_ok}
+use Rattle.fileset_files.proofs.FirstTogether.{index_keeps, runs_kept, together_first}
+use Rattle.fileset_files.proofs.bitfiles.Bitfiles.set_index.Goals as goal
+
+index_kind : (o : Option IndexPlace) → IfSome (option_map index_record o) (λ r. kind_of r ≡ 9)
+index_kind None = tt
+index_kind (Some index) = refl
+
+index_first : (o : Option IndexPlace) → IfSome (option_map index_record o) (λ r. is_first_kind (kind_of r) ≡ true)
+index_first None = tt
+index_first (Some index) = refl
+
+pub put_index-requires : goal.put_index-requires
+put_index-requires g c =
+    let pages = g.M.MetaPages.pages c.args.pages.now in
+    let chains = c.requires.files.0 in
+    let are = c.requires.files.1 in
+    room pages c.args.self.now.fileset c.args.self.now.tags c.args.tag chains c.in-Some.at are (subst (IsLiveCell pages (chains c.args.tag)) c.in-Some.is (c.live_cell.ensures chains are))
+
+pub returns-in-Some-clause-ok : goal.returns-in-Some-clause-ok
+returns-in-Some-clause-ok g c = λ chains are.
+    let pages = g.M.MetaPages.pages c.args.pages.now in
+    let fileset = c.args.self.now.fileset in
+    let places = c.args.self.now.tags in
+    let live = subst (IsLiveCell pages (chains c.args.tag)) c.in-Some.is (c.live_cell.ensures chains are) in
+    let of = the_first pages fileset places c.args.tag chains c.in-Some.at are live in
+    map_ok
+    (λ stands. files_mid pages fileset places c.args.tag chains c.in-Some.at are live 9 (option_map index_record c.args.index) (index_kind c.args.index) (index_first c.args.index) refl (λ is. omega (arith, is))
+    (g.M.MetaPages.pages c.put_index.new.pages) stands c.put_index.ensures.others c.put_index.ensures.elsewhere)
+    c.put_index.result (c.put_index.ensures.ok of.first.cell (subst (λ (a : CellAt). StandsAt pages a of.first.cell) of.is_at of.file.links.stands))
+
+pub returns-in-Some-clause-beside : goal.returns-in-Some-clause-beside
+returns-in-Some-clause-beside g c = λ chains are.
+    let pages = g.M.MetaPages.pages c.args.pages.now in
+    let live = subst (IsLiveCell pages (chains c.args.tag)) c.in-Some.is (c.live_cell.ensures chains are) in
+    first_beside pages c.args.self.now.fileset c.args.self.now.tags c.args.tag chains c.in-Some.at are live (g.M.MetaPages.pages c.put_index.new.pages) c.put_index.ensures.others c.put_index.ensures.elsewhere
+
+pub returns-in-None-clause-ok : goal.returns-in-None-clause-ok
+returns-in-None-clause-ok g c = λ chains are.
+    let pages = g.M.MetaPages.pages c.args.pages.now in
+    absurd (no_live pages c.args.tag chains (c.requires.live chains are) (subst (IsLiveCell pages (chains c.args.tag)) c.in-None.is (c.live_cell.ensures chains are)))
+
+pub returns-in-Some-clause-together : goal.returns-in-Some-clause-together
+returns-in-Some-clause-together g c = λ space cells chains are.
+    let pages = g.M.MetaPages.pages c.args.pages.now in
+    let new = g.M.MetaPages.pages c.put_index.new.pages in
+    let live = subst (IsLiveCell pages (chains c.args.tag)) c.in-Some.is (c.live_cell.ensures chains are.files) in
+    let of = the_first pages c.args.self.now.fileset c.args.self.now.tags c.args.tag chains c.in-Some.at are.files live in
+    map_ok
+    (λ files. together_first pages new c.args.self.now.fileset c.args.self.now.tags c.args.tag chains space cells (says_index c.args.index) are files of.first of.rest of.is of.file.links.stands
+    (subst (λ (a : CellAt). LeavesOthers (is_at a) pages new) (sym of.is_at) c.put_index.ensures.others) c.put_index.ensures.well_formed c.put_index.ensures.headers
+    (runs_kept (says_index c.args.index) of.first of.rest (index_keeps pages of.first of.rest of.file c.args.index)))
+    c.put_index.result (returns-in-Some-clause-ok g c chains are.files)
+
+pub returns-in-None-clause-together : goal.returns-in-None-clause-together
+returns-in-None-clause-together g c = λ space cells chains are.
+    let pages = g.M.MetaPages.pages c.args.pages.now in
+    absurd (no_live pages c.args.tag chains (c.requires.live chains are.files) (subst (IsLiveCell pages (chains c.args.tag)) c.in-None.is (c.live_cell.ensures chains are.files)))

@@ -1,2 +1,0 @@
-pub mod PartsRead
-pub mod Filled

@@ -1,8 +1,0 @@
-use Rattle.fileset_laws.proofs.CutLemmas.{cut_below, cut_behind}
-use Rattle.fileset_laws.proofs.laws.a_cut_leaves_zeros.Goals as goal
-
-pub returns-clause-below : goal.returns-clause-below
-returns-clause-below c = cut_below
-
-pub returns-clause-behind : goal.returns-clause-behind
-returns-clause-behind c = cut_behind

@@ -1,0 +1,2 @@
+-- What is named above of the proofs of quota_book.
+pub use Rattle.domain_memory.proofs.OfQuotaBook.Unchanged

@@ -1,6 +1,0 @@
-pub mod OneWay
-pub mod Counted
-pub mod Grown
-pub mod BelowMissing
-pub mod OutOfSync
-pub mod Made

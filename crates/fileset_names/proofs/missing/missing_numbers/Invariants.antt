@@ -1,5 +1,0 @@
-use Rattle.fileset_names.proofs.OutOfSync.{AreOut}
-use Rattle.fileset_names.proofs.missing.missing_numbers.Given as goal
-
-abbrev pub invariant-loop-one : goal.invariant-loop-one
-invariant-loop-one l = AreOut l.nodes l.led l.one-index l.out

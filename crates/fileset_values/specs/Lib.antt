@@ -1,0 +1,3 @@
+pub mod Orders
+pub mod Shuffle
+pub use Rattle.domain_base.specs as domain_base

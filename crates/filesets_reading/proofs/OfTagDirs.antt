@@ -1,0 +1,3 @@
+-- What is named above of the proofs of tag_dirs.
+pub use Rattle.domain_layout.proofs.OfTagDirs.Reading
+pub use Rattle.domain_layout.proofs.OfTagDirs.Slots

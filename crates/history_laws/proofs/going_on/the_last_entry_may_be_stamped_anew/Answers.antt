@@ -1,5 +1,0 @@
-use Rattle.history_laws.proofs.Restamped.{restamped}
-use Rattle.history_laws.proofs.going_on.the_last_entry_may_be_stamped_anew.Goals as goal
-
-pub returns : goal.returns
-returns c = restamped

@@ -1,5 +1,0 @@
-use Rattle.history_laws.proofs.GoesOn.{command_steps}
-use Rattle.history_laws.proofs.going_on.what_a_command_means_is_a_step.Goals as goal
-
-pub returns : goal.returns
-returns c = command_steps

@@ -1,6 +1,0 @@
-use Rattle.home_sets.proofs.Joined.{AreIn}
-use Rattle.home_sets.specs.Members.{IsIn}
-use Rattle.home_sets.proofs.set.HomeSet.insert_all.Given as goal
-
-abbrev pub invariant-loop-home : goal.invariant-loop-home
-invariant-loop-home l = AreIn (IsIn l.initial.self) (IsIn l.self) l.homes l.home-index

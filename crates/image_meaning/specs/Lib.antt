@@ -1,3 +1,0 @@
-pub mod Meaning
-pub mod Pages
-pub use Rattle.member_laws.specs.Faulty

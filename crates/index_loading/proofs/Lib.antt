@@ -1,3 +1,0 @@
-pub mod Named
-pub use Rattle.index_faults.proofs.FilesFound
-pub use Rattle.index_faults.proofs.OneMaps

@@ -1,2 +1,0 @@
-pub mod Indexes
-pub use Rattle.index_faults.specs.Files

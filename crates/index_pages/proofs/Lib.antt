@@ -1,0 +1,14 @@
+pub mod Linked
+pub mod Homes
+pub mod Walked
+pub mod Changed
+pub mod Held
+pub mod Dropped
+pub mod OfCellRecords
+pub mod OfFileChains
+pub mod OfFileRelease
+pub mod OfFilesetFiles
+pub mod OfFreeCells
+pub mod OfFreeSpace
+pub mod OfMetadataCells
+pub mod OfTagDirs

@@ -1,0 +1,3 @@
+-- What is named above of the proofs of free_cells.
+pub use Rattle.file_release.proofs.OfFreeCells.Belongs
+pub use Rattle.file_release.proofs.OfFreeCells.PutThere

@@ -1,0 +1,15 @@
+-- What is named above of the proofs of domain_layout.
+pub use Rattle.page_faults.proofs.OfDomainLayout.CellsAlike
+pub use Rattle.page_faults.proofs.OfDomainLayout.Files
+pub use Rattle.page_faults.proofs.OfDomainLayout.FilledAlike
+pub use Rattle.page_faults.proofs.OfDomainLayout.Named
+pub use Rattle.page_faults.proofs.OfDomainLayout.NoTables
+pub use Rattle.page_faults.proofs.OfDomainLayout.OneMeaning
+pub use Rattle.page_faults.proofs.OfDomainLayout.OnePage
+pub use Rattle.page_faults.proofs.OfDomainLayout.OneShape
+pub use Rattle.page_faults.proofs.OfDomainLayout.Owned
+pub use Rattle.page_faults.proofs.OfDomainLayout.OwnedOnce
+pub use Rattle.page_faults.proofs.OfDomainLayout.Reached
+pub use Rattle.page_faults.proofs.OfDomainLayout.SameFaults
+pub use Rattle.page_faults.proofs.OfDomainLayout.Sides
+pub use Rattle.page_faults.proofs.OfDomainLayout.TablesAgree

@@ -1,0 +1,2 @@
+-- What is named above of the proofs of fileset_files.
+pub use Rattle.page_faults.proofs.OfFilesetFiles.Room

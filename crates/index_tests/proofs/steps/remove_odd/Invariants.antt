@@ -1,5 +1,0 @@
-use Rattle.index_tests.specs.Steps.{HasIndex}
-use Rattle.index_tests.proofs.steps.remove_odd.Given as goal
-
-abbrev pub invariant-loop-number : goal.invariant-loop-number
-invariant-loop-number g l = HasIndex l.dir (g.S.BitfileSet.files l.set)

@@ -1,4 +1,0 @@
-pub mod NewDomain
-pub mod Agreeing
-pub mod Alike
-pub mod Metadata

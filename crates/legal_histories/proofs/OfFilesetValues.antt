@@ -1,0 +1,2 @@
+-- What is named above of the proofs of fileset_values.
+pub use Rattle.fileset_model.proofs.OfFilesetValues.MapLemmas

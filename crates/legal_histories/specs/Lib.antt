@@ -1,0 +1,21 @@
+pub mod AfterStop
+pub mod Changed
+pub mod Example
+pub mod Legal
+pub mod Marks
+pub mod PlainRun
+pub mod Point
+pub mod Room
+pub mod State
+pub mod Step
+pub mod Synced
+pub mod VolumeReply
+pub mod Volumes
+pub mod Valid
+pub mod WholePages
+pub mod GoingOn
+pub mod HistoryValid
+pub use Rattle.fileset_model.specs.domain_base
+pub use Rattle.fileset_model.specs as fileset_model
+pub use Rattle.fileset_model.specs.fileset_values
+pub use Rattle.fileset_model.specs.sorted_sets

@@ -1,0 +1,5 @@
+-- What is named above of the proofs of disk_label.
+pub use Rattle.log_ring.proofs.OfDiskLabel.Bodies
+pub use Rattle.log_ring.proofs.OfDiskLabel.Elsewhere
+pub use Rattle.log_ring.proofs.OfDiskLabel.Gates
+pub use Rattle.log_ring.proofs.OfDiskLabel.Slots

@@ -1,0 +1,8 @@
+-- What is named above of the proofs of log_ring.
+pub use Rattle.log_ring.proofs.HeaderPages
+pub use Rattle.log_ring.proofs.HomePages
+pub use Rattle.log_ring.proofs.OnImages
+pub use Rattle.log_ring.proofs.Overlays
+pub use Rattle.log_ring.proofs.RingPlaces
+pub use Rattle.log_ring.proofs.SameHomes
+pub use Rattle.log_ring.proofs.Staying

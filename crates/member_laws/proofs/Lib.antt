@@ -1,2 +1,0 @@
-pub mod FaultsWithin
-pub mod FilesetsWithin

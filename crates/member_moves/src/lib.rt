@@ -1,0 +1,32 @@
+//! What movers and members do to pages: pages on their way from one home to another, which page a
+//! mover takes next, and the anchors by which members change.
+#![tactic(auto)]
+
+mod anchor_laws;
+mod balance;
+pub mod calls;
+mod counts;
+mod even_laws;
+mod in_flight;
+mod member_states;
+mod move_laws;
+mod page_move;
+mod search;
+mod table;
+
+pub use anchor_laws::member_laws;
+pub use balance::uneven;
+pub use counts::VolCount;
+pub use even_laws::balance_laws;
+pub use in_flight::{MOST_MOVES, Moves};
+pub use member_states::in_state;
+pub use move_laws::{
+    changes_are_of_one_move, copies_stay_alike, homes_are_of_one_move,
+    moving_pages_are_written_twice, steps_keep_copies,
+};
+pub use page_move::{Move, Phase};
+pub use search::first_on;
+pub use table::VolumeTable;
+
+// What stands below and is named above.
+pub use log_ring::{Anchor, Home, Member, VolIx, is_member};

@@ -1,3 +1,0 @@
-pub mod Homes
-pub mod PageChanges
-pub mod Tags

@@ -1,0 +1,14 @@
+pub mod Changed
+pub mod Frames
+pub mod Headers
+pub mod CellKinds
+pub mod Places
+pub mod Spellings
+pub mod OneByOne
+pub mod Found
+pub mod Walk
+pub mod Unique
+pub mod Linked
+pub mod Written
+pub mod OfCellRecords
+pub mod OfSortedSets

@@ -1,9 +1,0 @@
-pub mod Brought
-pub mod Image
-pub mod PagesRead
-pub mod Walking
-pub use Rattle.fault_laws.proofs.Files
-pub use Rattle.fault_laws.proofs.Owned
-pub use Rattle.fault_laws.proofs.TablesAgree
-pub use Rattle.fault_laws.proofs.SameFaults
-pub use Rattle.fault_laws.proofs.Sides

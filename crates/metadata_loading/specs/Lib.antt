@@ -1,3 +1,0 @@
-pub mod Loading
-pub mod Rows
-pub use Rattle.fault_laws.specs.Looks

@@ -1,8 +1,0 @@
-pub mod Even
-pub mod Exists
-pub mod Falls
-pub mod Found
-pub mod Moved
-pub mod Nearer
-pub mod Shares
-pub mod Spread

@@ -1,0 +1,11 @@
+pub mod WellFormed
+pub mod Bare
+pub mod AtHand
+pub mod SaidParents
+pub mod Calls
+pub mod Parents
+pub mod Books
+pub mod Roomy
+pub mod Left
+pub mod Same
+pub mod Looked

@@ -1,0 +1,27 @@
+use Rattle.fileset_lending.specs.domain_base.declared.place.Kind.TheVariants.{Directory}
+use Rattle.fileset_lending.proofs.OfNameSpace.Originals.{all_shown}
+use Rattle.fileset_lending.proofs.OfNameSpace.Spots.{has_names as names_of}
+use Rattle.name_changes.proofs.Calls.{has_names, names_were, ok_by}
+use Rattle.name_changes.proofs.Looked.{led_here, shown_there}
+use Rattle.name_changes.proofs.Same.{had_back}
+use Rattle.fileset_lending.specs.Chosen.{files_in}
+use Rattle.name_changes.proofs.looking.list_names.Goals as goal
+
+pub list_rows-list-requires-clause-names : goal.list_rows-list-requires-clause-names
+list_rows-list-requires-clause-names c =
+    names_of (files_in c.choose-chosen.result) (has_names c.args.memory c.args.number c.args.settings c.choose-chosen.result c.choose-chosen.ensures c.requires.stands c.requires.back c.requires.original)
+
+pub list_rows-list-requires-clause-live : goal.list_rows-list-requires-clause-live
+list_rows-list-requires-clause-live c =
+    shown_there c.args.memory c.args.number c.args.settings c.choose-chosen.result c.choose-chosen.ensures c.requires.back c.args.tag Directory c.requires.live
+
+pub returns-clause-same : goal.returns-clause-same
+returns-clause-same c = had_back c.args.memory c.back.result c.args.number c.args.settings c.choose-chosen.result c.choose-chosen.ensures c.back.ensures
+
+pub returns-clause-names : goal.returns-clause-names
+returns-clause-names c = λ all entry fileset path has at.
+    let files = files_in c.choose-chosen.result in
+    let was = names_were c.args.memory c.args.number c.args.settings c.choose-chosen.result c.choose-chosen.ensures c.requires.stands c.requires.back c.requires.original all entry fileset has in
+    let shown = shown_there c.args.memory c.args.number c.args.settings c.choose-chosen.result c.choose-chosen.ensures c.requires.back c.args.tag Directory c.requires.live in
+    ok_by _ _ c.list_rows-list.result c.list_rows-list.ensures (λ list is.
+    is fileset was.names path (all_shown files fileset was.names was.role path) (led_here files fileset was path c.args.tag Directory shown at))

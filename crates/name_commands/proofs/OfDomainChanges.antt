@@ -1,0 +1,2 @@
+-- What is named above of the proofs of domain_changes.
+pub use Rattle.domain_changes.proofs.BooksFollow

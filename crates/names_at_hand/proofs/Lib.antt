@@ -1,3 +1,0 @@
-pub mod WellFormed
-pub mod Bare
-pub mod AtHand

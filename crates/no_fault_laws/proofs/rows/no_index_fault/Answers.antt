@@ -1,5 +1,0 @@
-use Rattle.no_fault_laws.proofs.NoIndexes.{no_indexes}
-use Rattle.no_fault_laws.proofs.rows.no_index_fault.Goals as goal
-
-pub returns : goal.returns
-returns c = no_indexes

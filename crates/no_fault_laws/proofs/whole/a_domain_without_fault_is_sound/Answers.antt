@@ -1,5 +1,0 @@
-use Rattle.no_fault_laws.proofs.Faultless.{faultless}
-use Rattle.no_fault_laws.proofs.whole.a_domain_without_fault_is_sound.Goals as goal
-
-pub returns : goal.returns
-returns c = faultless

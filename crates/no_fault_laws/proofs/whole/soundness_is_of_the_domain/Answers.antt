@@ -1,5 +1,0 @@
-use Rattle.no_fault_laws.proofs.OneSound.{one_sound}
-use Rattle.no_fault_laws.proofs.whole.soundness_is_of_the_domain.Goals as goal
-
-pub returns : goal.returns
-returns c = one_sound

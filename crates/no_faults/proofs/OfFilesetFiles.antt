@@ -1,0 +1,3 @@
+-- What is named above of the proofs of fileset_files.
+pub use Rattle.domain_memory.proofs.OfFilesetFiles.Created
+pub use Rattle.domain_memory.proofs.OfFilesetFiles.ShownOnce

@@ -1,0 +1,4 @@
+-- What is named above of the proofs of fileset_model.
+pub use Rattle.domain_memory.proofs.OfFilesetModel.ChangeLemmas
+pub use Rattle.domain_memory.proofs.OfFilesetModel.MoveLemmas
+pub use Rattle.domain_memory.proofs.OfFilesetModel.OwnerLemmas

@@ -1,0 +1,43 @@
+pub mod ToDo
+pub mod Listing
+pub mod Attached
+pub mod Going
+pub use Rattle.cell_faults.specs.cell_chains
+pub use Rattle.cell_faults.specs as cell_faults
+pub use Rattle.domain_memory.specs.cell_records
+pub use Rattle.domain_memory.specs.directory_pages
+pub use Rattle.domain_memory.specs.directory_rows
+pub use Rattle.domain_memory.specs.disk_label
+pub use Rattle.domain_memory.specs.domain_base
+pub use Rattle.domain_memory.specs.domain_layout
+pub use Rattle.domain_memory.specs.domain_making
+pub use Rattle.domain_memory.specs as domain_memory
+pub use Rattle.domain_memory.specs.domain_standing
+pub use Rattle.domain_memory.specs.extent_maps
+pub use Rattle.domain_memory.specs.extent_records
+pub use Rattle.domain_memory.specs.file_chains
+pub use Rattle.domain_memory.specs.fileset_files
+pub use Rattle.domain_memory.specs.fileset_model
+pub use Rattle.domain_memory.specs.fileset_shapes
+pub use Rattle.domain_memory.specs.fileset_table
+pub use Rattle.domain_memory.specs.fileset_values
+pub use Rattle.filesets_filled.specs as filesets_filled
+pub use Rattle.domain_memory.specs.filesets_reading
+pub use Rattle.domain_memory.specs.free_cells
+pub use Rattle.domain_memory.specs.free_space
+pub use Rattle.domain_memory.specs.legal_histories
+pub use Rattle.domain_memory.specs.log_recovery
+pub use Rattle.domain_memory.specs.log_ring
+pub use Rattle.domain_memory.specs.metadata_cells
+pub use Rattle.domain_memory.specs.name_space
+pub use Rattle.domain_memory.specs.page_store
+pub use Rattle.domain_memory.specs.page_ways
+pub use Rattle.domain_memory.specs.plain_program
+pub use Rattle.domain_memory.specs.quota_book
+pub use Rattle.domain_memory.specs.release_list
+pub use Rattle.domain_memory.specs.sorted_sets
+pub use Rattle.domain_memory.specs.staged_pages
+pub use Rattle.domain_memory.specs.standing_laws
+pub use Rattle.domain_memory.specs.tag_dirs
+pub use Rattle.domain_memory.specs.volume_disk
+pub use Rattle.domain_memory.specs.word_forms

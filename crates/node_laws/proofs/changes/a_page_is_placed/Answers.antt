@@ -1,5 +1,0 @@
-use Rattle.node_laws.proofs.Changed.{joined}
-use Rattle.node_laws.proofs.changes.a_page_is_placed.Goals as goal
-
-pub returns : goal.returns
-returns c = λ contents now state page home node within agree was. joined contents now state page home within agree node was

@@ -1,4 +1,0 @@
-pub mod HeaderPages
-pub mod Overlays
-pub mod Places
-pub mod SameHomes

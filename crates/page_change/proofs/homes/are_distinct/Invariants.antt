@@ -1,6 +1,0 @@
-use Rattle.std.proofs.Common.{drop}
-use Rattle.page_change.specs.Images.{AreDistinct}
-use Rattle.page_change.proofs.homes.are_distinct.Given as goal
-
-abbrev pub invariant-loop-i : goal.invariant-loop-i
-invariant-loop-i l = AreDistinct (drop l.i l.homes) → AreDistinct l.homes

@@ -1,5 +1,0 @@
-use Rattle.page_change.specs.Header.{AreHomesOf}
-use Rattle.page_change.proofs.page.read_homes.Given as goal
-
-abbrev pub invariant-loop-i : goal.invariant-loop-i
-invariant-loop-i l = AreHomesOf l.bytes l.i l.homes.items

@@ -1,3 +1,0 @@
-pub mod Header
-pub mod Images
-pub mod Laws

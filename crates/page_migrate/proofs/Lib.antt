@@ -1,7 +1,0 @@
-mod Alike
-mod HomeTests
-mod OneMove
-mod StayApart
-mod Stepping
-mod PartChanged
-mod Writing

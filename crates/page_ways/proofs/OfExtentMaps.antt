@@ -1,0 +1,2 @@
+-- What is named above of the proofs of extent_maps.
+pub use Rattle.domain_layout.proofs.OfExtentMaps.EditLemmas

@@ -1,7 +1,0 @@
-use Rattle.std.proofs.Common.{◌<◌, ℕ, length, get_or}
-use Rattle.history_model.specs.Volumes.{AreApart}
-use Rattle.fileset_model.specs.declared.reply.ExtentItem.{ExtentItem}
-use Rattle.plain_volumes.proofs.extents.are_apart.Given as goal
-
-abbrev pub invariant-loop-i : goal.invariant-loop-i
-invariant-loop-i l = (k j : ℕ) (d : ExtentItem) → k < l.i → k < j → j < length l.runs → AreApart (get_or l.runs k d) (get_or l.runs j d)

@@ -1,7 +1,0 @@
-use Rattle.std.proofs.Common.{◌<◌, ℕ, get_or}
-use Rattle.history_model.specs.Volumes.{AreApart}
-use Rattle.fileset_model.specs.declared.reply.ExtentItem.{ExtentItem}
-use Rattle.plain_volumes.proofs.extents.is_apart_from.Given as goal
-
-abbrev pub invariant-loop-other : goal.invariant-loop-other
-invariant-loop-other l = (k : ℕ) (d : ExtentItem) → k < l.other-index → AreApart l.run (get_or l.others k d)

@@ -1,7 +1,0 @@
-use Rattle.std.proofs.Common.{◌<◌, ℕ, get_or}
-use Rattle.history_model.specs.Volumes.{IsInRun}
-use Rattle.fileset_model.specs.declared.reply.ExtentItem.{ExtentItem}
-use Rattle.plain_volumes.proofs.extents.is_in_runs.Given as goal
-
-abbrev pub invariant-loop-run : goal.invariant-loop-run
-invariant-loop-run l = (k : ℕ) (d : ExtentItem) → k < l.run-index → ¬ (IsInRun l.q (get_or l.runs k d))

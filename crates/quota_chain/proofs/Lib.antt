@@ -1,9 +1,0 @@
-pub mod AddedCell
-pub mod Chains
-pub mod InPlace
-pub mod LastCell
-pub mod Once
-pub mod PickedCell
-pub mod ReadCells
-pub mod SaidRecords
-pub mod Touched

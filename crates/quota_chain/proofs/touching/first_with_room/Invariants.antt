@@ -1,7 +1,0 @@
-use Rattle.std.proofs.Common.{◌≡◌, None, map, take}
-use Rattle.quota_book.specs.QuotaCells.{first_where, has_room}
-use Rattle.quota_chain.specs.QuotaChain.{says_of}
-use Rattle.quota_chain.proofs.touching.first_with_room.Given as goal
-
-abbrev pub invariant-loop-place : goal.invariant-loop-place
-invariant-loop-place l = first_where (has_room) (take l.place (map says_of l.cells)) ≡ None

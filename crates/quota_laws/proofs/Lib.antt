@@ -1,3 +1,0 @@
-pub mod AllWell
-pub mod PagesWritten
-pub mod TagsTogether

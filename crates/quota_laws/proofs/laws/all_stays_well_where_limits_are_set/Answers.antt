@@ -1,5 +1,0 @@
-use Rattle.quota_laws.proofs.AllWell.{all_well}
-use Rattle.quota_laws.proofs.laws.all_stays_well_where_limits_are_set.Goals as goal
-
-pub returns : goal.returns
-returns c = all_well

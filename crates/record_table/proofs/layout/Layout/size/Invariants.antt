@@ -1,5 +1,0 @@
-use Rattle.std.proofs.Common.{◌≡◌, sum, take}
-use Rattle.record_table.proofs.layout.Layout.size.Given as goal
-
-abbrev pub invariant-loop-width : goal.invariant-loop-width
-invariant-loop-width g l = l.size ≡ sum (take l.width-index l.self.widths)

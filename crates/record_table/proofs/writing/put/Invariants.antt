@@ -1,6 +1,0 @@
-use Rattle.std.proofs.Common.{◌≡◌, ◌++◌, sum, take, drop}
-use Rattle.record_table.specs.Records.{spelled}
-use Rattle.record_table.proofs.writing.put.Given as goal
-
-abbrev pub invariant-loop-i : goal.invariant-loop-i
-invariant-loop-i l = record { counted : l.at ≡ sum (take l.i l.widths); written : l.out ≡ spelled (take l.i l.widths) (take l.i l.numbers) ++ drop l.at l.initial.out }

@@ -1,0 +1,2 @@
+-- What is named above of the proofs of cell_records.
+pub use Rattle.file_release.proofs.OfCellRecords.WholeRecord

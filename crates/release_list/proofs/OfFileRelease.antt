@@ -1,0 +1,6 @@
+-- What is named above of the proofs of file_release.
+pub use Rattle.file_release.proofs.Chains
+pub use Rattle.file_release.proofs.Given
+pub use Rattle.file_release.proofs.Once
+pub use Rattle.file_release.proofs.Outcome
+pub use Rattle.file_release.proofs.Stepped

@@ -1,0 +1,14 @@
+-- What is named above of the proofs of fileset_files.
+pub use Rattle.file_release.proofs.OfFilesetFiles.Again
+pub use Rattle.file_release.proofs.OfFilesetFiles.Created
+pub use Rattle.file_release.proofs.OfFilesetFiles.FirstCell
+pub use Rattle.file_release.proofs.OfFilesetFiles.FirstRoom
+pub use Rattle.file_release.proofs.OfFilesetFiles.FirstTogether
+pub use Rattle.file_release.proofs.OfFilesetFiles.Given
+pub use Rattle.file_release.proofs.OfFilesetFiles.Grown
+pub use Rattle.file_release.proofs.OfFilesetFiles.OneChain
+pub use Rattle.file_release.proofs.OfFilesetFiles.OneFile
+pub use Rattle.file_release.proofs.OfFilesetFiles.RemovedTogether
+pub use Rattle.file_release.proofs.OfFilesetFiles.Room
+pub use Rattle.file_release.proofs.OfFilesetFiles.Tags
+pub use Rattle.file_release.proofs.OfFilesetFiles.Truncated

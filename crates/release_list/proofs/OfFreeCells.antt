@@ -1,0 +1,2 @@
+-- What is named above of the proofs of free_cells.
+pub use Rattle.file_release.proofs.OfFreeCells.Volumes

@@ -1,0 +1,4 @@
+-- What is named above of the proofs of free_space.
+pub use Rattle.file_release.proofs.OfFreeSpace.Apart
+pub use Rattle.file_release.proofs.OfFreeSpace.Places
+pub use Rattle.file_release.proofs.OfFreeSpace.Used

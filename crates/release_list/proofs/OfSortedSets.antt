@@ -1,0 +1,2 @@
+-- What is named above of the proofs of sorted_sets.
+pub use Rattle.file_release.proofs.OfSortedSets.EntryLemmas

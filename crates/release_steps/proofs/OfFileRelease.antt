@@ -1,0 +1,2 @@
+-- What is named above of the proofs of file_release.
+pub use Rattle.release_list.proofs.OfFileRelease.Once

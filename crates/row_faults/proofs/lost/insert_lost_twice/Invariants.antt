@@ -1,7 +1,0 @@
-use Rattle.home_sets.specs.Members.{IsIn}
-use Rattle.row_faults.specs.Lost.{LeadsLostTwice}
-use Rattle.row_faults.proofs.Inserted.{AreIn}
-use Rattle.row_faults.proofs.lost.insert_lost_twice.Given as goal
-
-abbrev pub invariant-loop-row : goal.invariant-loop-row
-invariant-loop-row l = AreIn l.rows (LeadsLostTwice l.kinds l.counts) (IsIn l.initial.found) (IsIn l.found) l.row-index

@@ -1,8 +1,0 @@
-use Rattle.page_ways.specs.Frame.{frame_in}
-use Rattle.home_sets.specs.Members.{IsIn}
-use Rattle.row_faults.proofs.Inserted.{AreIn}
-use Rattle.row_faults.proofs.RowPages.{IsBadHome}
-use Rattle.row_faults.proofs.pages.insert_bad_pages.Given as goal
-
-abbrev pub invariant-loop-home : goal.invariant-loop-home
-invariant-loop-home g l = AreIn l.homes (IsBadHome (g.M.MetaPages.pages l.pages) (frame_in l.frame)) (IsIn l.initial.found) (IsIn l.found) l.home-index

@@ -1,7 +1,0 @@
-use Rattle.home_sets.specs.Members.{IsIn}
-use Rattle.row_faults.specs.Parents.{IsAstrayAt}
-use Rattle.row_faults.proofs.Inserted.{AreIn}
-use Rattle.row_faults.proofs.parents.insert_wrong_parents.Given as goal
-
-abbrev pub invariant-loop-file : goal.invariant-loop-file
-invariant-loop-file l = AreIn l.files (IsAstrayAt l.astray) (IsIn l.initial.found) (IsIn l.found) l.file-index

@@ -1,0 +1,7 @@
+use Rattle.std.proofs.Common.{◌≡◌, ◌++◌, map, take}
+use Rattle.command_text.specs.word_forms.Texts.{behind_spaces}
+use Rattle.script_text.specs.History.{extent_item_text}
+use Rattle.script_text.proofs.reply_text.push_extents.Given as goal
+
+abbrev pub invariant-loop-item : goal.invariant-loop-item
+invariant-loop-item l = l.out.items ≡ l.fn.out.items ++ behind_spaces (map extent_item_text (take l.item-index l.items))

@@ -1,6 +1,0 @@
-use Rattle.set_laws.proofs.AnotherSet.{stands_again}
-use Rattle.set_laws.proofs.laws.another_set_stays.Goals as goal
-
-pub returns : goal.returns
-returns c = λ fileset places space space_now cells cells_now old new chains indexes files was stay.
-    stands_again fileset places space space_now cells cells_now old new chains indexes files was stay

@@ -1,6 +1,0 @@
-use Rattle.set_laws.proofs.Owned.{set}
-use Rattle.set_laws.proofs.laws.attributes_are_set.Goals as goal
-
-pub returns : goal.returns
-returns c = λ fileset places space cells old new chains indexes files tag value was can changes together.
-    set fileset places space cells old new chains indexes files was tag value can changes together

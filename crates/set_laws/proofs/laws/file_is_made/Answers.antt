@@ -1,6 +1,0 @@
-use Rattle.set_laws.proofs.Made.{made}
-use Rattle.set_laws.proofs.laws.file_is_made.Goals as goal
-
-pub returns : goal.returns
-returns c = λ fileset prefer places places_now space space_now cells cells_now old new chains indexes files tag version what was creates takes beside.
-    made fileset prefer places places_now space space_now cells cells_now old new chains indexes files was tag version what creates takes beside

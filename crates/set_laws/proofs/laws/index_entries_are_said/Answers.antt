@@ -1,6 +1,0 @@
-use Rattle.set_laws.proofs.EntriesSaid.{said}
-use Rattle.set_laws.proofs.laws.index_entries_are_said.Goals as goal
-
-pub returns : goal.returns
-returns c = λ fileset places space cells old new chains indexes files tag index was begins changes together.
-    said fileset places space cells old new chains indexes files was tag index begins changes together

@@ -1,6 +1,0 @@
-use Rattle.set_laws.proofs.TakenOut.{taken_out}
-use Rattle.set_laws.proofs.laws.tag_is_taken_out.Goals as goal
-
-pub returns : goal.returns
-returns c = λ fileset places space cells old new chains indexes files tag was live beside together.
-    taken_out fileset places space cells old new chains indexes files was tag live beside together

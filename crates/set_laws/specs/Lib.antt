@@ -1,3 +1,0 @@
-pub mod Elsewhere
-pub mod Standing
-pub mod Whole

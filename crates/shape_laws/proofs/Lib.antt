@@ -1,5 +1,0 @@
-pub mod MayStand
-pub mod InShapes
-pub mod SameShapes
-pub use Rattle.fileset_shapes.proofs.Held
-pub use Rattle.fileset_shapes.proofs.OriginalFiles

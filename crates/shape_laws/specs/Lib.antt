@@ -1,1 +1,0 @@
-pub use Rattle.fileset_shapes.specs.Found

@@ -1,7 +1,0 @@
-use Rattle.std.proofs.Common.{◌∙◌, sym}
-use Rattle.shape_reading.proofs.ReadHomes.{first_volume}
-use Rattle.shape_reading.proofs.sources.source_at.Goals as goal
-
-pub source_in-requires : goal.source_in-requires
-source_in-requires g c =
-    first_volume (g.M.MetaPages.pages c.args.pages.now) c.args.at.now 2 c.in_ok-first_record.field-0 c.requires (λ cells is. sym c.in_ok-first_record.was ∙ c.first_record.ensures cells is)

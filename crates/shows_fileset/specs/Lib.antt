@@ -1,1 +1,0 @@
-pub use Rattle.directory_facts.specs.Showing

@@ -1,0 +1,9 @@
+-- What is named above of the proofs of fileset_shapes.
+pub use Rattle.index_row_faults.proofs.OfFilesetShapes.Answered
+pub use Rattle.index_row_faults.proofs.OfFilesetShapes.FaultsWithin
+pub use Rattle.index_row_faults.proofs.OfFilesetShapes.FilesetsWithin
+pub use Rattle.index_row_faults.proofs.OfFilesetShapes.Held
+pub use Rattle.index_row_faults.proofs.OfFilesetShapes.InShapes
+pub use Rattle.index_row_faults.proofs.OfFilesetShapes.MayStand
+pub use Rattle.index_row_faults.proofs.OfFilesetShapes.OriginalFiles
+pub use Rattle.index_row_faults.proofs.OfFilesetShapes.SameShapes

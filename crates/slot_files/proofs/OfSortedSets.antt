@@ -1,0 +1,3 @@
+-- What is named above of the proofs of sorted_sets.
+pub use Rattle.index_row_faults.proofs.OfSortedSets.Placed
+pub use Rattle.index_row_faults.proofs.OfSortedSets.Search

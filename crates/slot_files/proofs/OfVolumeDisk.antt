@@ -1,0 +1,3 @@
+-- What is named above of the proofs of volume_disk.
+pub use Rattle.index_row_faults.proofs.OfVolumeDisk.Bytes
+pub use Rattle.index_row_faults.proofs.OfVolumeDisk.Laws

@@ -1,0 +1,10 @@
+pub mod EntryLemmas
+pub mod Removal
+pub mod SearchLemmas
+pub mod Search
+pub mod Items
+pub mod Joined
+pub mod Placed
+pub mod Below
+pub mod Found
+pub mod Counting

@@ -1,5 +1,0 @@
-use Rattle.no_fault_laws.proofs.SoundIndexed.{sound_added}
-use Rattle.sound_laws.proofs.indexes.soundness_stays_where_an_index_page_is_put_in.Goals as goal
-
-pub returns : goal.returns
-returns c = λ number tag start d now chains files indexes place prefer bytes below sound names same good. sound_added number tag d now chains files indexes place prefer bytes below sound same good start names

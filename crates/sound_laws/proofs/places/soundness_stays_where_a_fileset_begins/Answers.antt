@@ -1,5 +1,0 @@
-use Rattle.no_fault_laws.proofs.SoundInPlace.{sound_begun}
-use Rattle.sound_laws.proofs.places.soundness_stays_where_a_fileset_begins.Goals as goal
-
-pub returns : goal.returns
-returns c = sound_begun

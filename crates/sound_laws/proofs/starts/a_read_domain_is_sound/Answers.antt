@@ -1,5 +1,0 @@
-use Rattle.sound_laws.proofs.Started.{sound_read}
-use Rattle.sound_laws.proofs.starts.a_read_domain_is_sound.Goals as goal
-
-pub returns : goal.returns
-returns c = sound_read

@@ -1,0 +1,3 @@
+-- What is named above of the proofs of extent_records.
+pub use Rattle.domain_standing.proofs.OfExtentRecords.ChainLemmas
+pub use Rattle.domain_standing.proofs.OfExtentRecords.PutLemmas

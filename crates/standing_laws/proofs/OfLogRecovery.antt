@@ -1,0 +1,4 @@
+-- What is named above of the proofs of log_recovery.
+pub use Rattle.domain_standing.proofs.OfLogRecovery.GoodAnchors
+pub use Rattle.domain_standing.proofs.OfLogRecovery.OneOutcome
+pub use Rattle.domain_standing.proofs.OfLogRecovery.Settled

@@ -1,0 +1,21 @@
+-- What is named above of the proofs of stored_set.
+pub use Rattle.domain_standing.proofs.OfStoredSet.AnotherSet
+pub use Rattle.domain_standing.proofs.OfStoredSet.Beside
+pub use Rattle.domain_standing.proofs.OfStoredSet.Entries
+pub use Rattle.domain_standing.proofs.OfStoredSet.FirstTells
+pub use Rattle.domain_standing.proofs.OfStoredSet.GivenBack
+pub use Rattle.domain_standing.proofs.OfStoredSet.IndexPut
+pub use Rattle.domain_standing.proofs.OfStoredSet.Indexed
+pub use Rattle.domain_standing.proofs.OfStoredSet.Kept
+pub use Rattle.domain_standing.proofs.OfStoredSet.Lengthened
+pub use Rattle.domain_standing.proofs.OfStoredSet.Live
+pub use Rattle.domain_standing.proofs.OfStoredSet.Sound
+pub use Rattle.domain_standing.proofs.OfStoredSet.Stable
+pub use Rattle.domain_standing.proofs.OfStoredSet.StableCells
+pub use Rattle.domain_standing.proofs.OfStoredSet.StableFiles
+pub use Rattle.domain_standing.proofs.OfStoredSet.StableSet
+pub use Rattle.domain_standing.proofs.OfStoredSet.StableSets
+pub use Rattle.domain_standing.proofs.OfStoredSet.TakenAway
+pub use Rattle.domain_standing.proofs.OfStoredSet.Together
+pub use Rattle.domain_standing.proofs.OfStoredSet.Told
+pub use Rattle.domain_standing.proofs.OfStoredSet.Written

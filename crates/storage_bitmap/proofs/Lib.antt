@@ -1,6 +1,0 @@
-pub mod Blank
-pub mod Longest
-pub mod Runs
-pub mod Used
-pub mod Walks
-pub mod Words

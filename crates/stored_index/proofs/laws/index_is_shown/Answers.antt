@@ -1,5 +1,0 @@
-use Rattle.stored_index.proofs.Homes.{shown}
-use Rattle.stored_index.proofs.laws.index_is_shown.Goals as goal
-
-pub returns : goal.returns
-returns c = λ pages first homes are. shown pages first homes are

@@ -1,6 +1,0 @@
-use Rattle.stored_index.proofs.Walked.{HasPassed, IsCome}
-use Rattle.stored_index.proofs.walk.count_index.Given as goal
-
-abbrev pub invariant-loop-count : goal.invariant-loop-count
-invariant-loop-count g l =
-    IsCome (g.M.MetaPages.pages l.fn.pages) l.fn.first l.count l.home × HasPassed (g.M.MetaPages.pages l.fn.pages) l.fn.first l.count

@@ -1,6 +1,0 @@
-use Rattle.stored_set.proofs.Sound.{sound_at}
-use Rattle.stored_set.proofs.laws.sets_are_sound.Goals as goal
-
-pub returns : goal.returns
-returns c = λ fileset places space cells pages files whole was tag.
-    sound_at fileset places space cells pages files whole was tag

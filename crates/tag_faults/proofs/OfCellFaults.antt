@@ -1,0 +1,2 @@
+-- What is named above of the proofs of cell_faults.
+pub use Rattle.cell_faults.proofs.Walks

@@ -1,0 +1,2 @@
+-- What is named above of the proofs of fileset_table.
+pub use Rattle.cell_faults.proofs.OfFilesetTable.Unique

@@ -1,5 +1,0 @@
-use Rattle.tag_tests.specs.Trial.{IsTrial}
-use Rattle.tag_tests.proofs.lines.fill.Given as goal
-
-abbrev pub invariant-loop-page : goal.invariant-loop-page
-invariant-loop-page l = IsTrial l.trial.pages l.trial.dir l.trial.last

@@ -1,5 +1,0 @@
-use Rattle.tag_tests.specs.Trial.{IsTrial}
-use Rattle.tag_tests.proofs.random.same_calls.Given as goal
-
-abbrev pub invariant-loop-call : goal.invariant-loop-call
-invariant-loop-call l = IsTrial l.trial.pages l.trial.dir l.trial.last

@@ -1,5 +1,0 @@
-use Rattle.history_reading.proofs.LineLemmas.{one_entry}
-use Rattle.text_laws.proofs.laws.lines_tell_entries_apart.Goals as goal
-
-pub returns : goal.returns
-returns c = one_entry

@@ -1,9 +1,0 @@
-use Rattle.command_text.proofs.CommandLemmas.{printed_says}
-use Rattle.text_laws.proofs.OneCommand.{one_command}
-use Rattle.text_laws.proofs.laws.printed_commands_are_read.Goals as goal
-
-pub returns-clause-said : goal.returns-clause-said
-returns-clause-said c = printed_says
-
-pub returns-clause-one : goal.returns-clause-one
-returns-clause-one c = one_command

@@ -1,6 +1,0 @@
-use Rattle.tree_faults.specs.Walk.{Notes}
-use Rattle.tree_faults.proofs.Walked.{InFront}
-use Rattle.tree_faults.proofs.walk.note_tags.Given as goal
-
-abbrev pub invariant-loop-tag : goal.invariant-loop-tag
-invariant-loop-tag l = Notes (InFront l.tags l.tag-index) l.initial.walk l.walk

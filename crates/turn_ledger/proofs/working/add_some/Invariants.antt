@@ -1,8 +1,0 @@
-use Rattle.turn_ledger.specs.Working.{IsReady}
-use Rattle.turn_ledger.proofs.working.add_some.Given as goal
-
-abbrev pub invariant-loop-left : goal.invariant-loop-left
-invariant-loop-left g l = IsReady l.turn l.client l.left l.pass
-
-abbrev pub decreases-loop-left : goal.decreases-loop-left
-decreases-loop-left g l = l.left

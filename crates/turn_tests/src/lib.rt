@@ -1,5 +1,0 @@
-//! Tests of the turn, on threads.
-#![tactic(auto)]
-
-#[cfg(test)]
-mod taking;
