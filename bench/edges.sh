@@ -1,8 +1,9 @@
 #!/bin/sh
-# Tries the program where something outside of it goes wrong: an image or a script that is not there, an image that may
-# not be written, a folder in its place, the image named twice, standard output that takes nothing, and an image on a
-# device that is full. Each has to end with its number, and, but for the device, to leave the image as it was. What this
-# machine does not let try is said so. Wants a few MB in the folder that is named, or in the one for temporary files.
+# Tries the program when something outside of it goes wrong: an image or a script that does not
+# exist, an image that may not be written, a folder in place of an image, an image that is named
+# twice, standard output that takes nothing, and an image on a full device. Each has to end with its
+# number and, except on the full device, to leave the image as it was. It says what cannot be tried
+# on this machine. It needs a few MB in the folder that is named, or in the one for temporary files.
 top=$(cd "$(dirname "$0")/.." && pwd) || exit 1
 "$top/advfs" --version >&2 || exit 1
 folder=$(mktemp -d "${1:-${TMPDIR:-/tmp}}/advfs_edges.XXXXXX") || exit 1
@@ -10,7 +11,8 @@ trap 'umount "$folder/small" 2>/dev/null; rm -rf "$folder"' EXIT
 image=$folder/image
 failed=0
 
-# says whether the words behind the first two end with the number, and whether the image is as it was
+# says whether the command after the first two words ends with the number and leaves the image as
+# it was
 ends() {
     number=$1
     name=$2
@@ -43,7 +45,7 @@ ends 2 "the image named twice" "$top/advfs" run "$folder/script" "$image" "$imag
 ends 8 "standard output is full" to_full "$top/advfs" run "$folder/looks" "$image"
 
 if [ "$(id -u)" = 0 ]; then
-    echo "an image that may not be written: not tried, since root may write all"
+    echo "an image that may not be written: not tried, since root may write everything"
 else
     chmod a-w "$image"
     ends 12 "an image that may not be written" "$top/advfs" run "$folder/script" "$image"

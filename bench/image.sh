@@ -1,15 +1,16 @@
 #!/bin/sh
-# Times calls of the program on an image of 65,536 pages of 8,192 bytes, each as a ratio to a copy of that image that is
-# synced: mkfdmn, a run of 2,000 writes of one page each, a run that makes and writes 2,000 files in 20 directories, and
-# behind each of the two a run of a script without a command, which attaches the domain and closes it, and verify. Wants
-# 1.1 GB in the folder that is named, or in the one for temporary files.
+# Times calls of the program on an image of 65,536 pages of 8,192 bytes, each as a ratio to the time
+# of copying that image and syncing the copy: mkfdmn; a run of 2,000 writes of one page each; a run
+# that makes and writes 2,000 files in 20 directories; after each of these runs one of a script
+# without a command, which attaches the domain and closes it; and verify. It needs 1.1 GB in the
+# folder that is named, or in the one for temporary files.
 top=$(cd "$(dirname "$0")/.." && pwd) || exit 1
 "$top/advfs" --version >&2 || exit 1
 folder=$(mktemp -d "${1:-${TMPDIR:-/tmp}}/advfs_bench.XXXXXX") || exit 1
 trap 'rm -rf "$folder"' EXIT
 image=$folder/image
 
-# the time of the words behind the first, in seconds, as the first word names it
+# the time of the command after the first word, in seconds; the first word is its name
 timed() {
     name=$1
     shift
@@ -19,7 +20,7 @@ timed() {
     seconds=$(echo "$began $ended" | awk '{ printf "%.3f", $2 - $1 }')
 }
 
-# prints a time, and its ratio to that of the copy
+# prints the time, and its ratio to that of the copy
 told() {
     echo "$name $seconds $copy" | awk '{ printf "%-28s %8.2f s %8.2f\n", $1, $2, $2 / $3 }'
 }
