@@ -42,7 +42,7 @@ pub fn new_world(alloc: Global, count: u32) -> Result<World, Fail>
     })
 }
 
-/// Puts a page in front of that of a number, or behind the last one; false where there is no such
+/// Puts a page before that of a number, or after the last one; false where there is no such
 /// place.
 pub fn insert(
     alloc: Global,

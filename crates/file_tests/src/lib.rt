@@ -1,20 +1,13 @@
-//! Tests of files and directories over pages of metadata in memory, and of the pages of an index
-//! on a volume.
+//! A world of one volume for tests of files: pages of metadata in memory, free space, free cells
+//! and the files of a fileset, with calls on them after which all belongs together still; the pages
+//! of an index on a volume; and lines of calls, read by words and numbers.
 #![tactic(auto)]
 
-#[cfg(test)]
-mod changes;
-#[cfg(test)]
-mod files;
-#[cfg(test)]
-mod index_page_world;
-#[cfg(test)]
-mod making;
-#[cfg(test)]
-mod moves;
-#[cfg(test)]
-mod roots;
+pub mod calls;
+pub mod index_page_world;
+pub mod reading;
 pub mod states;
-#[cfg(test)]
-mod told;
 pub mod world;
+
+// What stands below and is named above.
+pub use index_pages::{Attributes, PagePlace, RunPlace, count_index, index_home};

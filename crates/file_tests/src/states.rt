@@ -7,7 +7,7 @@ ghost use Rattle.index_pages.specs.fileset_files.State.{FileState, States, with_
 ghost use Rattle.index_pages.specs.fileset_files.States.{CutsFile, described as described_so, indexed, live_at, new_state, placed, put_in as standing_in};
 ghost use Rattle.file_tests.specs.Worlds.{AreStates, IsWorld, HasIndexAlone, new_directory};
 
-use crate::world::{World, new_world, volume};
+use crate::world::{World, home_at, new_world, volume};
 use index_pages::limits::FILE_PAGES;
 use index_pages::{
     Attributes, Home, IndexPlace, Kind, PagePlace, Tag, Version, files_are_told, one_file_is_cut,
@@ -83,6 +83,17 @@ pub fn describe(alloc: Global, world: &mut World, tag: Tag) -> Result<Attributes
         .set_attributes(alloc, &mut world.pages, tag, &value)?;
     one_file_is_described();
     Ok(value)
+}
+
+/// An index of so many entries that begins at that page of the volume, or none for page 0.
+pub fn index_at(page: u32, entries: u32) -> Option<IndexPlace> {
+    if page == 0 {
+        return None;
+    }
+    Some(IndexPlace {
+        first: home_at(page),
+        entries,
+    })
 }
 
 /// Says of a live tag's directory where its index begins.

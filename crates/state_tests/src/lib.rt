@@ -6,8 +6,6 @@ mod answering;
 #[cfg(test)]
 mod closed;
 #[cfg(test)]
-mod filesets;
-#[cfg(test)]
 mod opened;
 #[cfg(test)]
 mod telling;

@@ -1,14 +1,14 @@
 //! Domains that are made, and whose history is begun.
-ghost use Rattle.std.specs.Prelude.{◌≡◌, ◌≤◌};
+ghost use Rattle.std.specs.Prelude.{◌≡◌};
 ghost use Rattle.client_commands.specs.page_ways.Frame.{frame_in};
 ghost use Rattle.client_commands.specs.staged_pages.Store.{before_of};
-ghost use Rattle.state_tests.specs.Sync.{sync_entry};
 
+use crate::answering::answered;
 use crate::telling::all_told;
 use client_commands::from_fileset_values::Command;
 use client_commands::{
-    Actor, Attached, Domain, Entry, FilesetTable, Home, MakeFault, Opening, OutOfMemory, Page,
-    Rack, Reply, Told, Version, VolIx, make, recover,
+    Attached, Domain, FilesetTable, Home, MakeFault, Opening, OutOfMemory, Page, Rack, Told,
+    Version, VolIx, make, recover,
 };
 use memory_disk::MemoryRack;
 use std::alloc::Global;
@@ -25,42 +25,23 @@ struct Seen<R: Rack> {
     rack: R,
 }
 
-/// A sync, and what a client is answered.
-fn synced() -> Entry
-    ensures { result ≡ sync_entry }
-{
-    Entry {
-        actor: Actor::Client(1),
-        command: Command::Sync,
-        reply: Reply::Done,
-        stamp: 0,
-    }
-}
-
-/// Begins the history of a domain, makes room for some entries, discards a change of nothing,
-/// answers a sync, ends that event, and gives the domain's rack back.
-fn opened<R: Rack + Drop, O: Opening>(
-    alloc: Global,
-    attached: Attached<R>,
-    more: usize,
-) -> Result<Seen<R>, OutOfMemory>
-    requires some { 1 ≤ more }
+/// Begins the history of a domain, discards a change of nothing, answers a sync, and gives the
+/// domain's rack back.
+fn opened<R: Rack + Drop, O: Opening>(alloc: Global, attached: Attached<R>) -> Seen<R>
     requires pages { O.pages ≡ before_of attached.memory.pages }
     requires frame { O.frame ≡ frame_in attached.memory.frame }
     requires sizes { O.sizes ≡ (R.disk attached.rack).sizes }
 {
     let mut domain: Domain<R, O> = Domain::begin(alloc, attached);
-    domain.reserve_history(more)?;
     domain.discard();
-    domain.commit(synced());
-    domain.end_event();
-    Ok(Seen {
+    let domain = answered(domain, alloc, Command::Sync);
+    Seen {
         entries: domain.entries().len(),
         committed: domain.committed(),
         durable: domain.durable(),
         stamp: domain.entries().last().map(|entry| entry.stamp),
         rack: domain.into_rack(),
-    })
+    }
 }
 
 /// What comes of a domain that is made on a volume of zeros and opened.
@@ -113,7 +94,7 @@ fn made_and_opened(alloc: Global, pages: u32, version: Version) -> Result<Outcom
     }
     match make(alloc, rack, version) {
         Ok(attached) => {
-            let seen = opened::<MemoryRack, Brand>(alloc, attached, 3)?;
+            let seen = opened::<MemoryRack, Brand>(alloc, attached);
             Ok(outcome_of(alloc, seen))
         }
         Err((_, MakeFault::VolumeSmall { pages })) => Ok(Outcome::Small { pages }),
@@ -197,7 +178,7 @@ fn looked_at<R: Rack + Drop, O: Opening>(
     domain.reserve_history(3)?;
     domain.discard();
     let first = looks_of(alloc, &domain, vol, 3);
-    let domain = all_told(domain, alloc, &[("mkfset home", "ok")]);
+    let domain = all_told(domain, alloc, &["mkfset home"]);
     let second = looks_of(alloc, &domain, vol, 2);
     Ok([first, second])
 }

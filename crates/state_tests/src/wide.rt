@@ -5,7 +5,7 @@ ghost use Rattle.client_commands.specs.staged_pages.Store.{before_of};
 ghost use Rattle.client_commands.specs.domain_memory.Staged.{IsSettled};
 
 use crate::answering::answered;
-use crate::telling::{Row, all_told};
+use crate::telling::all_told;
 use client_commands::from_fileset_values::Command;
 use client_commands::limits::PAGE_BYTES;
 use client_commands::{
@@ -69,7 +69,7 @@ fn told_write<R: Rack + Drop, O: Opening>(
 }
 
 /// A fileset with a file.
-static MADE: [Row; 2] = [("mkfset home", "ok"), ("create home:/a 10 20", "ok")];
+static MADE: [&str; 2] = ["mkfset home", "create home:/a 10 20"];
 
 /// What the write of so many pages to a new file is answered.
 fn written<R: Rack + Drop, O: Opening>(alloc: Global, attached: Attached<R>, pages: usize) -> Answer

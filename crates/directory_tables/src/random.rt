@@ -1,0 +1,146 @@
+//! Random calls on a page and on a plain list of rows, side by side.
+ghost use Rattle.std.specs.Prelude.{◌<◌};
+
+use crate::text::shown;
+use anyhow::{Context, Result};
+use directory_rows::from_directory_pages::{add_row, find_row, remove_row};
+use directory_rows::{Kind, Page, Tag, clear_rows, is_row_name, is_row_page};
+use hex::encode;
+use std::alloc::Global;
+
+/// Numbers that are always the same ones.
+#[derive(Drop)]
+struct Random {
+    state: u64,
+}
+
+impl Random {
+    /// The next number, below 32,768.
+    fn next(&mut self) -> u32
+        ensures { result < 32_768 }
+    {
+        let next = (self.state % 2_147_483_648 * 1_103_515_245 + 12_345) % 2_147_483_648;
+        self.state = next;
+        (next / 65_536) as u32
+    }
+}
+
+/// A row of the plain list: a slot, and a letter that its name has so many times.
+#[derive(Clone, Copy)]
+struct Plain {
+    slot: u32,
+    letter: u8,
+    times: usize,
+}
+
+/// One of 150 names of up to 246 bytes, so that not all of them fit into a page.
+fn some_row(random: &mut Random) -> Plain {
+    Plain {
+        slot: random.next(),
+        letter: b'a' + (random.next() % 3) as u8,
+        times: 1 + 5 * (random.next() % 50) as usize,
+    }
+}
+
+fn name_of(alloc: Global, row: &Plain) -> Result<Vec<u8>> {
+    Ok(vec![in alloc; row.letter; row.times]?)
+}
+
+/// Where the list has a row with the name of this one.
+fn place_in(list: &[Plain], row: &Plain) -> Option<usize> {
+    list.iter().position(|other| other.letter == row.letter && other.times == row.times)
+}
+
+/// The bytes that the rows of a list take.
+fn size_of(list: &[Plain]) -> usize {
+    let mut size: usize = 0;
+    for row in list {
+        size = size.saturating_add(8).saturating_add(row.times);
+    }
+    size
+}
+
+/// Adds a row that the list does not have, and tells whether the page took it as the list says.
+fn add(page: &mut Page, list: &mut Vec<Plain>, row: &Plain, name: &[u8]) -> Result<bool> {
+    let fits = size_of(list).saturating_add(row.times) <= 8_168;
+    let tag = Tag {
+        slot: row.slot,
+        seq: 7,
+    };
+    if !is_row_page(page) || !is_row_name(name) {
+        return Ok(false);
+    }
+    let added = add_row(page, tag, Kind::Directory, name);
+    if added {
+        list.push(*row)?;
+    }
+    Ok(added == fits)
+}
+
+/// Removes a row that the list has, and tells whether the page had it.
+fn remove(page: &mut Page, list: &mut Vec<Plain>, at: usize, name: &[u8]) -> bool {
+    if at >= list.len() || !is_row_page(page) {
+        return false;
+    }
+    list.remove(at);
+    remove_row(page, name)
+}
+
+/// Whether a directory page has no row of the name.
+fn lacks(page: &Page, name: &[u8]) -> bool {
+    is_row_page(page) && find_row(page, name).is_none()
+}
+
+/// Adds a row or removes it, and tells whether the page did as the list says.
+fn step(alloc: Global, page: &mut Page, list: &mut Vec<Plain>, row: &Plain) -> Result<bool> {
+    let name = name_of(alloc, row)?;
+    match place_in(list, row) {
+        None => {
+            let lacking = lacks(page, &name);
+            let added = add(page, list, row, &name)?;
+            Ok(lacking && added)
+        }
+        Some(at) => Ok(remove(page, list, at, &name)),
+    }
+}
+
+/// The rows of the list, as those of a page are shown.
+fn shown_list(alloc: Global, list: &[Plain]) -> Result<String> {
+    let mut text = String::new(alloc);
+    for row in list {
+        let space = if text.is_empty() { "" } else { " " };
+        let name = encode(alloc, name_of(alloc, row)?)?;
+        text.push_str(format!(in alloc; "{space}{}.7 d {}", row.slot, name)?.as_str())?;
+    }
+    Ok(text)
+}
+
+/// How many of so many steps went as the list says, and whether the page ends as the list does.
+fn run(alloc: Global, seed: u64, steps: u32) -> Result<(u32, bool)> {
+    let mut random = Random { state: seed };
+    let mut list = Vec::new(alloc);
+    let mut page = Page::zeros(alloc)?;
+    clear_rows(&mut page);
+    let mut right: u32 = 0;
+    for _ in 0..steps {
+        let row = some_row(&mut random);
+        if step(alloc, &mut page, &mut list, &row)? {
+            right = right.saturating_add(1);
+        }
+    }
+    let same = shown(alloc, &page)?.as_str() == shown_list(alloc, &list)?.as_str();
+    Ok((right, same))
+}
+
+/// How many of the steps from a seed went as the list says, and whether the page ends as the list
+/// does.
+pub fn random_rows(alloc: Global, line: &str) -> Result<String> {
+    let (seed, steps) = line.split_once(' ').context("two numbers")?;
+    let (right, is_same) = run(alloc, seed.parse()?, steps.parse()?)?;
+    let word = if is_same {
+        "the same rows"
+    } else {
+        "other rows"
+    };
+    Ok(format!(in alloc; "{right} right, {word}")?)
+}

@@ -1,5 +1,0 @@
-use Rattle.directory_tests.specs.Steps.{HasIndex}
-use Rattle.directory_tests.proofs.index_steps.remove_odd.Given as goal
-
-abbrev pub invariant-loop-number : goal.invariant-loop-number
-invariant-loop-number g l = HasIndex l.dir (g.S.BitfileSet.files l.set)

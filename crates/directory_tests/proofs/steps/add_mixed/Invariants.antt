@@ -1,5 +1,0 @@
-use Rattle.directory_rows.specs.Directory.{IsWellFormed}
-use Rattle.directory_tests.proofs.steps.add_mixed.Given as goal
-
-abbrev pub invariant-loop-step : goal.invariant-loop-step
-invariant-loop-step g l = IsWellFormed (g.S.BitfileSet.files l.set) l.dir

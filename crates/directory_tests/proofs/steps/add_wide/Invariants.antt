@@ -1,5 +1,0 @@
-use Rattle.directory_rows.specs.Directory.{IsWellFormed}
-use Rattle.directory_tests.proofs.steps.add_wide.Given as goal
-
-abbrev pub invariant-loop-number : goal.invariant-loop-number
-invariant-loop-number g l = IsWellFormed (g.S.BitfileSet.files l.set) l.dir

@@ -1,7 +1,0 @@
-use Rattle.std.proofs.Common.{sym, subst}
-use Rattle.directory_rows.specs.page_store.Bitfiles.{Bitfiles}
-use Rattle.directory_rows.specs.Directory.{IsWellFormed}
-use Rattle.directory_tests.proofs.tests.looks_for.Goals as goal
-
-pub slot_of-requires : goal.slot_of-requires
-slot_of-requires g c = subst (λ (fs : Bitfiles). IsWellFormed fs (record { slot = 1; seq = 1 })) (sym c.new-looks.ensures) c.requires

@@ -1,0 +1,23 @@
+//! Where the pages of a file stand: maps and records of extents that are changed by rows of words.
+//! Below a row stands what comes of it.
+#![tactic(auto)]
+
+mod changes;
+mod maps;
+mod random;
+mod records;
+mod rows;
+mod words;
+mod writing;
+
+use anyhow::Result;
+use rows::push_row;
+
+fn main(rt: HostRuntime) -> Result<()> {
+    let mut answers = String::new(rt.alloc());
+    for row in rt.lines(rt.alloc()) {
+        push_row(rt.alloc(), &mut answers, row?.as_str())?;
+    }
+    rt.print(answers.as_str())?;
+    Ok(())
+}

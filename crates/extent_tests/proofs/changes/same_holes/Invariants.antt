@@ -1,7 +1,0 @@
-use Rattle.std.proofs.Common.{◌≡◌}
-use Rattle.extent_records.specs.cell_records.Records.{kind_of}
-use Rattle.extent_records.specs.Writing.{IsMapRecord, hole_kind}
-use Rattle.extent_tests.proofs.changes.same_holes.Given as goal
-
-abbrev pub invariant-loop-call : goal.invariant-loop-call
-invariant-loop-call l = record { is_map : IsMapRecord l.value; same_kind : kind_of l.value ≡ hole_kind }

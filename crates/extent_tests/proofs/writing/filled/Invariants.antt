@@ -1,7 +1,0 @@
-use Rattle.std.proofs.Common.{◌≡◌}
-use Rattle.extent_records.specs.cell_records.Records.{kind_of}
-use Rattle.extent_records.specs.Writing.{IsMapRecord}
-use Rattle.extent_tests.proofs.writing.filled.Given as goal
-
-abbrev pub invariant-loop-page : goal.invariant-loop-page
-invariant-loop-page l = record { is_map : IsMapRecord l.value; same_kind : kind_of l.value ≡ kind_of l.empty }

@@ -1,0 +1,5 @@
+use Rattle.file_tests.specs.Worlds.{IsWorld}
+use Rattle.file_tables.proofs.files.spend_all.Given as goal
+
+abbrev pub invariant-loop : goal.invariant-loop
+invariant-loop l = IsWorld l.world

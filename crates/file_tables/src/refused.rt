@@ -1,0 +1,80 @@
+//! A volume of which no page is free: a directory gets no page, and no index.
+ghost use Rattle.std.specs.Prelude.{OnErr};
+ghost use Rattle.release_steps.specs.domain_base.declared.place.Kind.TheVariants.{Directory};
+ghost use Rattle.file_tables.specs.Worlds.{IsSet, only_new};
+
+use crate::sets::{length_told, make_one, world_of};
+use file_tests::reading::{say_numbers, say_whether};
+use file_tests::world::{World, volume};
+use release_steps::{Kind, Page, StoreFault, Tag, Version};
+use std::alloc::Global;
+use std::test::Fail;
+use stored_set::{add_page, insert_index_page, one_set_is_shown};
+
+/// Tries to give the only directory its first page.
+fn try_add(alloc: Global, world: &mut World, tag: Tag) -> Result<(), StoreFault>
+    requires { IsSet world.old (only_new Directory tag) }
+    ensures { OnErr result (IsSet world.new (only_new Directory tag)) }
+{
+    one_set_is_shown();
+    let page = Page::zeros(alloc)?;
+    add_page(
+        alloc,
+        &mut world.pages,
+        &mut world.space,
+        &mut world.cells,
+        &world.files,
+        tag,
+        0,
+        page,
+        volume(),
+        Version::Four,
+    )
+}
+
+/// Tries to put the first page into the directory's index.
+fn try_index(alloc: Global, world: &mut World, tag: Tag) -> Result<(), StoreFault>
+    requires { IsSet world.old (only_new Directory tag) }
+    ensures { OnErr result (IsSet world.new (only_new Directory tag)) }
+{
+    one_set_is_shown();
+    let page = Page::zeros(alloc)?;
+    insert_index_page(
+        alloc,
+        &mut world.pages,
+        &mut world.space,
+        &world.cells,
+        &world.files,
+        tag,
+        0,
+        page,
+        volume(),
+    )
+}
+
+fn say_fault(out: &mut String, fault: &StoreFault) -> Result<(), Fail> {
+    out.push_str(match fault {
+        StoreFault::NoPage => ": no page",
+        StoreFault::OutOfMemory => ": no memory",
+    })?;
+    Ok(())
+}
+
+/// Tries both on a volume of which each page is used, and says the two faults, the length of the
+/// directory then, whether it has an index, and how often no page was found.
+pub fn say_refused(alloc: Global, out: &mut String) -> Result<(), Fail> {
+    let mut world = world_of(alloc, 3)?;
+    let tag = make_one(alloc, &mut world, Kind::Directory)?;
+    let Err(page) = try_add(alloc, &mut world, tag) else {
+        return Err(Fail::from("a page was found"));
+    };
+    say_fault(out, &page)?;
+    let Err(index) = try_index(alloc, &mut world, tag) else {
+        return Err(Fail::from("a page of an index was found"));
+    };
+    say_fault(out, &index)?;
+    let (pages, size) = length_told(&world, tag)?;
+    say_numbers(out, &[u64::from(pages), size])?;
+    say_whether(out, &[world.files.index(&world.pages, tag).is_some()])?;
+    say_numbers(out, &[world.space.misses()])
+}

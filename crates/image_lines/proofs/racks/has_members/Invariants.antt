@@ -1,0 +1,6 @@
+use Rattle.std.proofs.Common.{ℕ, ◌<◌, ◌≤◌}
+use Rattle.image_lines.specs.Members.{HasMember}
+use Rattle.image_lines.proofs.racks.has_members.Given as goal
+
+abbrev pub invariant-loop-number : goal.invariant-loop-number
+invariant-loop-number g l = (vol : ℕ) → 1 ≤ vol → vol < l.number → HasMember (g.R.Rack.disk l.rack).sizes l.anchor vol

@@ -1,0 +1,178 @@
+//! Images of domains, which lines tell one after another.
+use crate::drawing::{draw, draw_bitmap};
+use crate::words::Words;
+use page_faults::{
+    Anchor, Home, Member, MemoryPages, MetaPages, OutOfMemory, Page, Version, VolIx,
+};
+use std::alloc::{AllocFailed, Global};
+
+/// Why a line tells nothing.
+#[derive(Clone, Copy, Debug, PartialEq, Eq)]
+pub enum NotRead {
+    /// It is none of an image, or has a word too few or of another form.
+    Malformed,
+    OutOfMemory,
+}
+
+impl From<OutOfMemory> for NotRead {
+    fn from(_: OutOfMemory) -> NotRead {
+        NotRead::OutOfMemory
+    }
+}
+
+impl<T: Drop> From<AllocFailed<T>> for NotRead {
+    fn from(_: AllocFailed<T>) -> NotRead {
+        NotRead::OutOfMemory
+    }
+}
+
+/// An image that is written.
+#[derive(Drop)]
+pub struct Image {
+    alloc: Global,
+    pub pages: MemoryPages,
+    pub anchor: Anchor,
+    pub version: Version,
+}
+
+/// The anchor of a domain of version 3 with no members, whose log stands on volume 1.
+fn first_anchor() -> Anchor {
+    let none = Member { pages: 0, state: 0 };
+    Anchor {
+        number: 1,
+        version: 3,
+        log_vol: 1,
+        log_page: 4,
+        log_pages: 128,
+        start: 0,
+        group: 1,
+        table: None,
+        members: [none; 8],
+        slot: 0,
+    }
+}
+
+/// Whether words are read to their end, and each was right.
+fn all_read(words: &Words) -> Result<(), NotRead> {
+    if words.is_right() && words.is_at_end() {
+        Ok(())
+    } else {
+        Err(NotRead::Malformed)
+    }
+}
+
+impl Image {
+    /// An image of version 3 with no member, and no page.
+    pub fn new(alloc: Global) -> Image {
+        Image {
+            alloc,
+            pages: MemoryPages::new(alloc),
+            anchor: first_anchor(),
+            version: Version::Three,
+        }
+    }
+
+    /// Adds what a line tells: a word that says its kind, and what belongs to that.
+    pub fn add(&mut self, line: &str) -> Result<(), NotRead> {
+        let mut words = Words::new(line);
+        match words.until(' ') {
+            "version" => self.add_version(&mut words),
+            "member" => {
+                let _ = self.add_member(&mut words);
+            }
+            "volume" => self.add_volume(&mut words)?,
+            "named" => self.anchor.table = words.home(' '),
+            kind => self.add_to_page(kind, &mut words)?,
+        }
+        all_read(&words)
+    }
+
+    /// The version of the layout.
+    fn add_version(&mut self, words: &mut Words) {
+        let number = words.number(' ');
+        match Version::from_number(number) {
+            Some(version) => {
+                self.version = version;
+                self.anchor.version = number;
+            }
+            None => words.check(false),
+        }
+    }
+
+    /// A member: its number, its pages, and its state as the anchor says it. Gives that volume and
+    /// its pages.
+    fn add_member(&mut self, words: &mut Words) -> Option<(VolIx, u32)> {
+        let (number, pages, state) = (words.number(' '), words.number(' '), words.number(' '));
+        let vol = VolIx::new(number);
+        words.check(vol.is_some());
+        let vol = vol?;
+        self.anchor.members[vol.index()] = Member { pages, state };
+        Some((vol, pages))
+    }
+
+    /// A member all of whose pages are there, and the runs of pages that its bitmap says to be
+    /// used. The bitmap is page 2.
+    fn add_volume(&mut self, words: &mut Words) -> Result<(), NotRead> {
+        let Some((vol, pages)) = self.add_member(words) else {
+            return Ok(());
+        };
+        for page in 0..pages {
+            self.put(&Home { vol, page }, Page::zeros(self.alloc)?)?;
+        }
+        let mut bits = Page::zeros(self.alloc)?;
+        draw_bitmap(pages, words, &mut bits);
+        self.put(&Home { vol, page: 2 }, bits)
+    }
+
+    /// What a line tells of a page, which is made if it is not there.
+    fn add_to_page(&mut self, kind: &str, words: &mut Words) -> Result<(), NotRead> {
+        match self.home_of(kind, words) {
+            Some(home) => self.draw_on(&home, kind, words),
+            None => Err(NotRead::Malformed),
+        }
+    }
+
+    /// The page on which a line of a kind writes. That of a table is what
+    /// the anchor names from then on.
+    fn home_of(&mut self, kind: &str, words: &mut Words) -> Option<Home> {
+        match kind {
+            "slot" => self.anchor.table,
+            "cell" => words.home('.'),
+            "table" => {
+                self.anchor.table = words.home(' ');
+                self.anchor.table
+            }
+            _ => words.home(' '),
+        }
+    }
+
+    /// Writes what a line of a kind tells on a page.
+    fn draw_on(&mut self, home: &Home, kind: &str, words: &mut Words) -> Result<(), NotRead> {
+        let mut page = self.page(home)?;
+        draw(self.alloc, kind, words, &mut page);
+        self.put(home, page)
+    }
+
+    /// The page that stands at a home, or one of zeros if there is none.
+    fn page(&self, home: &Home) -> Result<Page, NotRead> {
+        match self.pages.get(*home) {
+            Some(page) => Ok(page.copy(self.alloc)?),
+            None => Ok(Page::zeros(self.alloc)?),
+        }
+    }
+
+    /// Puts a page at a home.
+    fn put(&mut self, home: &Home, page: Page) -> Result<(), NotRead> {
+        self.pages.reserve(self.alloc, 1)?;
+        self.pages.put(*home, page);
+        Ok(())
+    }
+
+    /// Adds what several lines tell.
+    pub fn add_lines(&mut self, text: &str) -> Result<(), NotRead> {
+        for line in text.lines() {
+            self.add(line)?;
+        }
+        Ok(())
+    }
+}

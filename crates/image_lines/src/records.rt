@@ -1,0 +1,169 @@
+//! Records of cells as words: the name of the kind, and what its fields say, with commas between.
+//! Each function writes from a place of a page on, and gives the place after what it wrote.
+use crate::pen::{put, put_number};
+use crate::words::Words;
+use page_faults::Page;
+
+/// Where a number of the attributes stands behind the beginning of their record.
+fn place_of(name: &str) -> Option<usize> {
+    match name {
+        "uid" => Some(8),
+        "gid" => Some(12),
+        "logged" => Some(16),
+        "keep" => Some(28),
+        "links" => Some(32),
+        "birth" => Some(36),
+        "unsynced" => Some(44),
+        _ => None,
+    }
+}
+
+/// Writes what is said of the attributes beside the kind and the size, as `uid=7`.
+fn put_extras(fields: &mut Words, page: &mut Page, at: usize) {
+    for _ in 0..fields.rest().len() {
+        if fields.is_at_end() {
+            break;
+        }
+        let place = place_of(fields.until('='));
+        fields.check(place.is_some());
+        let value = fields.number(',');
+        put_number(page, at.saturating_add(place.unwrap_or(0)), value);
+    }
+}
+
+/// The record of attributes: the kind, the size, and what is said beside them. All else is as of a
+/// file that was just made: all its pages are kept, and it has one link.
+fn put_attributes(kind: u32, fields: &mut Words, page: &mut Page, at: usize) -> usize {
+    let size = fields.long(',');
+    put(page, at, &[1, 0, 52, 0]);
+    put_number(page, at.saturating_add(4), kind);
+    put(page, at.saturating_add(20), &size.to_le_bytes());
+    put_number(page, at.saturating_add(28), 65536);
+    put_number(page, at.saturating_add(32), 1);
+    put_extras(fields, page, at);
+    at.saturating_add(52)
+}
+
+/// The head of a record: its kind, and its length.
+fn put_head(kind: u8, len: u8, page: &mut Page, at: usize) -> usize {
+    put(page, at, &[kind, 0, len, 0])
+}
+
+/// A row of an extent: the first page of the file, how many there are, and the first one's home. A
+/// dense row has 12 bytes, and others 16.
+fn put_run(is_dense: bool, fields: &mut Words, page: &mut Page, at: usize) -> usize {
+    let (first, count) = (fields.short('+'), fields.short('@'));
+    let home = fields.page(',');
+    let end = if is_dense {
+        let middle = put(page, at, &first.to_le_bytes());
+        put(page, middle, &count.to_le_bytes())
+    } else {
+        let middle = put_number(page, at, u32::from(first));
+        put_number(page, middle, u32::from(count))
+    };
+    put(page, end, &home)
+}
+
+/// A record of extents of a kind, with its length.
+fn put_extents(kind: u8, len: u16, fields: &mut Words, page: &mut Page, at: usize) -> usize {
+    let [low, high] = len.to_le_bytes();
+    let mut end = put(page, at, &[kind, 0, low, high]);
+    for _ in 0..fields.rest().len() {
+        if fields.is_at_end() {
+            break;
+        }
+        end = put_run(12 < kind, fields, page, end);
+    }
+    at.saturating_add(usize::from(len))
+}
+
+/// The record of holes: the first page and the number of pages of each.
+fn put_holes(fields: &mut Words, page: &mut Page, at: usize) -> usize {
+    let mut end = put_head(5, 132, page, at);
+    for _ in 0..fields.rest().len() {
+        if fields.is_at_end() {
+            break;
+        }
+        end = put_number(page, end, fields.number('+'));
+        end = put_number(page, end, fields.number(','));
+    }
+    at.saturating_add(132)
+}
+
+/// The record of limits of an owner: its number, and its files and blocks.
+fn put_limits(kind: u8, fields: &mut Words, page: &mut Page, at: usize) -> usize {
+    let end = put_head(kind, 28, page, at);
+    put_number(page, end, fields.number(','));
+    put(page, at.saturating_add(12), &fields.long(',').to_le_bytes());
+    put(page, at.saturating_add(20), &fields.long(',').to_le_bytes())
+}
+
+/// The record that a clone's own file has: its source, and how many pages are frozen.
+fn put_clone(fields: &mut Words, page: &mut Page, at: usize) -> usize {
+    put_head(2, 20, page, at);
+    put(page, at.saturating_add(6), &fields.cell(','));
+    put_number(page, at.saturating_add(12), fields.number(','));
+    at.saturating_add(20)
+}
+
+/// The record of a volume: its number, its pages and those of its bitmap.
+fn put_volume(fields: &mut Words, page: &mut Page, at: usize) -> usize {
+    let end = put_head(12, 16, page, at);
+    let end = put_number(page, end, fields.number(','));
+    let end = put_number(page, end, fields.number(','));
+    put_number(page, end, fields.number(','))
+}
+
+/// The record of a directory's index: its first page, and how many entries there are.
+fn put_index(fields: &mut Words, page: &mut Page, at: usize) -> usize {
+    let end = put_head(9, 20, page, at);
+    let end = put(page, end, &fields.page(','));
+    put_number(page, end, fields.number(','));
+    at.saturating_add(20)
+}
+
+/// The record of a directory's parent: its tag.
+fn put_parent(fields: &mut Words, page: &mut Page, at: usize) -> usize {
+    put_head(10, 12, page, at);
+    put(page, at.saturating_add(4), &fields.tag(','));
+    at.saturating_add(12)
+}
+
+/// The record of what is left to do with a file: 1 to cut it, 2 to remove it.
+fn put_rest(what: u8, page: &mut Page, at: usize) -> usize {
+    put(page, at, &[6, 0, 12, 0, what, 0, 0, 0, 0, 0, 0, 0])
+}
+
+/// Writes the record that fields tell, as of a table of extents.
+fn put_pages(kind: &str, fields: &mut Words, page: &mut Page, at: usize) -> usize {
+    match kind {
+        "runs" => put_extents(3, 260, fields, page, at),
+        "short" => put_extents(4, 68, fields, page, at),
+        "dense" => put_extents(13, 268, fields, page, at),
+        "short_dense" => put_extents(14, 52, fields, page, at),
+        "holes" => put_holes(fields, page, at),
+        "unknown" => put_head(15, 4, page, at),
+        _ => {
+            fields.check(false);
+            at
+        }
+    }
+}
+
+/// Writes the record that fields tell.
+pub(crate) fn put_record(fields: &mut Words, page: &mut Page, at: usize) -> usize {
+    let kind = fields.until(',');
+    match kind {
+        "file" => put_attributes(1, fields, page, at),
+        "dir" => put_attributes(2, fields, page, at),
+        "from" => put_clone(fields, page, at),
+        "trim" => put_rest(1, page, at),
+        "removal" => put_rest(2, page, at),
+        "user" => put_limits(7, fields, page, at),
+        "group" => put_limits(8, fields, page, at),
+        "index" => put_index(fields, page, at),
+        "parent" => put_parent(fields, page, at),
+        "volume" => put_volume(fields, page, at),
+        _ => put_pages(kind, fields, page, at),
+    }
+}

@@ -1,0 +1,33 @@
+//! Tells of images that are written as lines what faults they have, what they mean and what is
+//! brought of them from a rack, in a table: each row names what is asked, an image of the table, and
+//! lines that change that, and is printed with the answer. A line that begins with a `#` says what
+//! the rows below it show.
+#![tactic(auto)]
+
+mod asking;
+mod attached;
+mod brought;
+mod faults;
+mod fetched;
+mod left;
+mod meant;
+mod told;
+
+use asking::Images;
+use image_lines::answers;
+use std::io::{self, Lock};
+use std::process::ExitCode;
+
+fn main(rt: HostRuntime) -> ExitCode {
+    let alloc = rt.alloc();
+    let Ok(table) = io::read_to_string(alloc, rt.stdin().lock()) else {
+        return ExitCode::FAILURE;
+    };
+    let Ok(told) = answers(alloc, &Images, table.as_str()) else {
+        return ExitCode::FAILURE;
+    };
+    match rt.print(told) {
+        Ok(()) => ExitCode::SUCCESS,
+        Err(_) => ExitCode::FAILURE,
+    }
+}

@@ -1,6 +1,0 @@
-use Rattle.std.proofs.Common.{ℕ, ◌<◌, ◌≤◌}
-use Rattle.image_tests.specs.Members.{HasMember}
-use Rattle.image_tests.proofs.brought.has_members.Given as goal
-
-abbrev pub invariant-loop-number : goal.invariant-loop-number
-invariant-loop-number g l = (vol : ℕ) → 1 ≤ vol → vol < l.number → HasMember (g.R.Rack.disk l.rack).sizes l.anchor vol

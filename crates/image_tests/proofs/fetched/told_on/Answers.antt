@@ -1,4 +1,0 @@
-use Rattle.image_tests.proofs.fetched.told_on.Goals as goal
-
-pub tell_brought-requires : goal.tell_brought-requires
-tell_brought-requires c = (_, c.in-Ok.ensures.brought)

@@ -1,0 +1,26 @@
+//! Tells what is brought of images from racks, in a table: each row names what is brought one after
+//! another of an image of the table, and lines that change that, and is printed with the answer. A
+//! line that begins with a `#` says what the row below it shows.
+#![tactic(auto)]
+
+mod asking;
+mod loading;
+
+use asking::Loads;
+use image_lines::answers;
+use std::io::{self, Lock};
+use std::process::ExitCode;
+
+fn main(rt: HostRuntime) -> ExitCode {
+    let alloc = rt.alloc();
+    let Ok(table) = io::read_to_string(alloc, rt.stdin().lock()) else {
+        return ExitCode::FAILURE;
+    };
+    let Ok(told) = answers(alloc, &Loads, table.as_str()) else {
+        return ExitCode::FAILURE;
+    };
+    match rt.print(told) {
+        Ok(()) => ExitCode::SUCCESS,
+        Err(_) => ExitCode::FAILURE,
+    }
+}

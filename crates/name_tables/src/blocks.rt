@@ -1,0 +1,72 @@
+//! Blocks of lines, and what is answered.
+
+use crate::filesets::fileset;
+use crate::looking::looked_along;
+use crate::lost::refusal_along;
+use crate::misses::push_misses;
+use crate::runs::push_names;
+use crate::steps::fault;
+use crate::stored::{last_parent, push_stored};
+use std::alloc::Global;
+use std::test::Fail;
+
+/// What a line answers by itself.
+fn answer(alloc: Global, kind: &str, line: &str) -> Result<String, Fail> {
+    match kind {
+        "lost" => refusal_along(alloc, line),
+        "looks" => looked_along(alloc, line.parse()?),
+        "filesets" => fileset(alloc, line),
+        "parents" => last_parent(alloc, line),
+        "faults" => fault(alloc, line),
+        _ => Err(Fail::from("no such block")),
+    }
+}
+
+/// Adds lines that stand alone, each with what it answers.
+fn push_single(alloc: Global, answers: &mut String, kind: &str, lines: &str) -> Result<(), Fail> {
+    for line in lines.lines() {
+        if is_idle(line) {
+            push_answer(answers, line, "")?;
+        } else {
+            let answer = answer(alloc, kind, line)?;
+            push_answer(answers, line, answer.as_str())?;
+        }
+    }
+    Ok(())
+}
+
+/// Adds a block with what it answers.
+pub fn push_block(alloc: Global, answers: &mut String, block: &str) -> Result<(), Fail> {
+    let (head, lines) = block.split_once('\n').ok_or("a first line")?;
+    let (kind, _) = head.split_once(": ").ok_or("a kind of block")?;
+    answers.push_str(head)?;
+    answers.push('\n')?;
+    match kind {
+        "names" => push_names(alloc, answers, lines),
+        "misses" => push_misses(alloc, answers, lines),
+        "stored" => push_stored(alloc, answers, lines),
+        _ => push_single(alloc, answers, kind, lines),
+    }
+}
+
+/// Whether nothing is to be done at a line: it is empty, or a comment.
+pub fn is_idle(line: &str) -> bool {
+    line.is_empty() || line.starts_with('#')
+}
+
+/// Adds a line and its answer, which stands below it where it has lines of its own.
+pub fn push_answer(answers: &mut String, line: &str, answer: &str) -> Result<(), Fail> {
+    answers.push_str(line)?;
+    let mut first = if answer.contains('\n') {
+        "\n  "
+    } else {
+        " -> "
+    };
+    for part in answer.lines() {
+        answers.push_str(first)?;
+        answers.push_str(part)?;
+        first = "\n  ";
+    }
+    answers.push('\n')?;
+    Ok(())
+}

@@ -1,0 +1,41 @@
+//! Commands where one changing call finds no page. A block has the lines that stand before each
+//! command, and then lines `at` with the number of the call that finds none, from 0 on.
+
+use crate::blocks::{is_idle, push_answer};
+use crate::reading::{command, said};
+use crate::runs::said_all;
+use crate::steps::{answer, empty_set};
+use fileset_lending::{BitfileSet, StoreFault};
+use std::alloc::Global;
+use std::test::Fail;
+
+/// What a command answers where one changing call finds no page, and how often none was found.
+fn missed(alloc: Global, before: &str, line: &str) -> Result<String, Fail> {
+    let (call, line) = line.split_once(' ').ok_or("a number")?;
+    let mut set = empty_set(alloc, vec![in alloc; call.parse()?]?)?;
+    said_all(&mut set, alloc, before)?;
+    let command = command(alloc, line)?;
+    let answer = match answer(&mut set, alloc, &command) {
+        Ok(reply) => said(alloc, reply)?,
+        Err(StoreFault::NoPage) => String::from_str(alloc, "no page")?,
+        Err(StoreFault::OutOfMemory) => return Err(Fail::from("out of memory")),
+    };
+    Ok(format!(in alloc; "{answer}, {} misses", set.misses())?)
+}
+
+/// Adds the lines of a block, with what the commands answer.
+pub fn push_misses(alloc: Global, answers: &mut String, lines: &str) -> Result<(), Fail> {
+    let (before, rest) = lines.split_once("\nat ").ok_or("a command")?;
+    answers.push_str(before)?;
+    answers.push_str("\nat ")?;
+    for line in rest.lines() {
+        let line_told = line.strip_prefix("at ").unwrap_or(line);
+        if is_idle(line) {
+            push_answer(answers, line, "")?;
+        } else {
+            let answer = missed(alloc, before, line_told)?;
+            push_answer(answers, line, answer.as_str())?;
+        }
+    }
+    Ok(())
+}

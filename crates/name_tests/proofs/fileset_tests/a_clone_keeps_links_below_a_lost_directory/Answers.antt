@@ -1,5 +1,0 @@
-use Rattle.name_tests.proofs.Directories.{once_by}
-use Rattle.name_tests.proofs.fileset_tests.a_clone_keeps_links_below_a_lost_directory.Goals as goal
-
-pub make_fileset-requires : goal.make_fileset-requires
-make_fileset-requires g c = once_by c.in_ok-directories.directories.items c.in_ok-directories.ensures

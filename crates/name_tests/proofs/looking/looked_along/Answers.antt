@@ -1,6 +1,0 @@
-use Rattle.fileset_lending.specs.page_store.Tags.{files_of}
-use Rattle.fileset_lending.proofs.OfNameSpace.Spots.{has_names}
-use Rattle.name_tests.proofs.looking.looked_along.Goals as goal
-
-pub looks_along-requires-clause-names : goal.looks_along-requires-clause-names
-looks_along-requires-clause-names c = has_names (files_of c.answers_all.new.set.files.items) c.in_ok-answers_all.ensures

@@ -1,0 +1,22 @@
+//! What the plain programs answer, in tables of text: standard input has commands of clients over
+//! filesets of which there are none at first, and commands on volumes over lists of members, and
+//! each is printed with its reply. What a line means tells its first word: see `sheet`.
+#![tactic(auto)]
+
+mod commands;
+mod filesets;
+mod sheet;
+mod volumes;
+
+use sheet::Desk;
+use std::io;
+use std::io::Write;
+
+fn main(rt: HostRuntime) -> io::Result<()> {
+    let alloc = rt.alloc();
+    let mut desk = Desk::new(alloc);
+    for line in rt.lines(alloc) {
+        desk.read(alloc, line?.as_str())?;
+    }
+    io::writer(&rt).write_all(desk.text())
+}

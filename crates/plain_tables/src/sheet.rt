@@ -1,0 +1,105 @@
+//! The lines of a table, by their first words.
+//!
+//! - `# TEXT`: a heading, at which filesets begin anew.
+//! - `c1 COMMAND`: a command of a client over the filesets.
+//! - `mark CLONE ORIGINAL PATHS`: marks what stands at these paths of a clone as out of sync.
+//! - `sizes PAGES`: the pages of the volumes of a rack; `members LINES`: members, as `showfdmn` shows
+//!   them; `m COMMAND`: a command on volumes, as these answer it; `log VOLUME`: whether a domain with
+//!   its log there may show these members.
+//! - `extents RUNS`: whether these, as `showfile` shows them, are a file with the pages 0, 1 and 5.
+//!
+//! Headings and settings are printed, and commands with their replies.
+use crate::{filesets, volumes};
+use plain_program::{Filesets, VolumeItem};
+use std::alloc::{AllocError, Global};
+
+/// What is at hand while tables are read, and what is to be printed.
+#[derive(Drop)]
+pub struct Desk {
+    text: Vec<u8>,
+    filesets: Filesets,
+    sizes: Vec<u32>,
+    members: Vec<VolumeItem>,
+}
+
+/// The numbers that words say.
+fn numbers(alloc: Global, words: &str) -> Result<Vec<u32>, AllocError> {
+    let mut all = Vec::new(alloc);
+    for word in words.split_whitespace() {
+        all.push(word.parse::<u32>().unwrap_or(0))?;
+    }
+    Ok(all)
+}
+
+/// The answer to a question, behind its line.
+fn said(answer: bool) -> &'static str {
+    if answer { " -> yes" } else { " -> no" }
+}
+
+/// A line with its answer.
+fn line_with(alloc: Global, line: &str, answer: &str) -> Option<Vec<u8>> {
+    let mut text = Vec::from_slice(alloc, line.as_bytes()).ok()?;
+    text.extend_from_slice(answer.as_bytes()).ok()?;
+    text.push(b'\n').ok()?;
+    Some(text)
+}
+
+impl Desk {
+    /// There are no filesets and no members.
+    pub fn new(alloc: Global) -> Desk {
+        Desk {
+            text: Vec::new(alloc),
+            filesets: Filesets::new(alloc),
+            sizes: Vec::new(alloc),
+            members: Vec::new(alloc),
+        }
+    }
+
+    /// What is to be printed.
+    pub fn text(&self) -> &[u8] {
+        self.text.as_slice()
+    }
+
+    /// Does what a line says that is none of a command, and gives the line.
+    fn set(&mut self, alloc: Global, line: &str) -> Option<Vec<u8>> {
+        let (word, words) = line.split_once(' ')?;
+        match word {
+            "#" => self.filesets = Filesets::new(alloc),
+            "mark" => filesets::mark(alloc, &mut self.filesets, words)?,
+            "sizes" => self.sizes = numbers(alloc, words).ok()?,
+            "members" => self.members = volumes::members_of(alloc, words)?,
+            _ => return None,
+        }
+        line_with(alloc, line, "")
+    }
+
+    /// Does what a line says, and gives the line with its answer, if it has one.
+    fn told(&mut self, alloc: Global, line: &str) -> Option<Vec<u8>> {
+        let (word, words) = line.split_once(' ')?;
+        match word {
+            "c1" => filesets::answered(alloc, &mut self.filesets, words),
+            "m" => volumes::answered(alloc, &self.sizes, &self.members, words),
+            "log" => {
+                let log_volume = words.parse::<u32>().ok()?;
+                let is_shown = volumes::are_shown(&self.members, log_volume);
+                line_with(alloc, line, said(is_shown))
+            }
+            "extents" => {
+                let is_file = volumes::is_file(alloc, &self.members, words)?;
+                line_with(alloc, line, said(is_file))
+            }
+            _ => self.set(alloc, line),
+        }
+    }
+
+    /// Reads a line; one that is not read is told as such.
+    pub fn read(&mut self, alloc: Global, line: &str) -> Result<(), AllocError> {
+        if line.is_empty() {
+            return Ok(());
+        }
+        match self.told(alloc, line) {
+            Some(text) => self.text.extend_from_slice(text.as_slice()),
+            None => self.text.extend_from_slice(b"a line that is not read\n"),
+        }
+    }
+}

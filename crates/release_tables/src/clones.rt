@@ -1,0 +1,442 @@
+//! Files that a clone's file reads through, let go of.
+ghost use Rattle.std.specs.Prelude.{◌≤◌, IfOk, IfSome};
+ghost use Rattle.file_tests.specs.Worlds.{IsWorld};
+ghost use Rattle.release_tables.specs.Going.{HasWell};
+ghost use Rattle.release_tables.specs.Pairs.{HasPair, HasTwo, IsCloneOf};
+
+use crate::going::{counts, may_go, release, release_all};
+use crate::making::{first_pages, give_pages, make, second_pages};
+use crate::pair::Pair;
+use crate::seen::{say_counts, say_times};
+use file_tests::reading::{all_small, at, say_numbers, say_whether, small};
+use file_tests::world::{World, new_world, volume};
+use release_steps::{
+    CellAt, Deferred, Entry, ExtentField, Kind, Record, StoreFault, Tag, Version, find_record,
+    set_record,
+};
+use std::alloc::Global;
+use std::test::Fail;
+
+/// Takes the names of two files.
+fn remove_two(alloc: Global, world: &mut World, file: Tag, clone: Tag) -> Result<Pair, Fail>
+    requires { IsWorld world.old }
+    ensures { IfOk result (HasTwo world.new) }
+{
+    if file.slot == clone.slot {
+        return Err(Fail::from("two tags"));
+    }
+    if world.files.attributes(&world.pages, clone).is_none() {
+        return Err(Fail::from("a live tag"));
+    }
+    let clone_at = world.files.remove(alloc, &mut world.pages, clone)?;
+    if world.files.attributes(&world.pages, file).is_none() {
+        return Err(Fail::from("a live tag"));
+    }
+    let at = world.files.remove(alloc, &mut world.pages, file)?;
+    Ok(Pair {
+        at,
+        clone: clone_at,
+    })
+}
+
+/// Takes the name of the second of two files, and sets the size of the first, of which something is
+/// to be let go of then.
+fn remove_and_cut(
+    alloc: Global,
+    world: &mut World,
+    file: Tag,
+    clone: Tag,
+    size: u64,
+) -> Result<Pair, Fail>
+    requires { IsWorld world.old }
+    ensures { IfOk result (HasTwo world.new) }
+{
+    if file.slot == clone.slot {
+        return Err(Fail::from("two tags"));
+    }
+    if world.files.attributes(&world.pages, clone).is_none() {
+        return Err(Fail::from("a live tag"));
+    }
+    let clone_at = world.files.remove(alloc, &mut world.pages, clone)?;
+    if world.files.attributes(&world.pages, file).is_none() {
+        return Err(Fail::from("a live tag"));
+    }
+    let left = world.files.truncate(alloc, &mut world.pages, file, size)?;
+    let at = left.ok_or("a trim")?;
+    Ok(Pair {
+        at,
+        clone: clone_at,
+    })
+}
+
+/// The record of a clone's file that reads through the one that begins there, of which so many
+/// pages were frozen. None where no cell has that number.
+fn clone_record(at: CellAt, frozen: u32) -> Option<Record>
+    ensures { IfSome result (IsCloneOf at frozen) }
+{
+    if 28 <= at.cell {
+        return None;
+    }
+    Some(Record::CloneFile {
+        source_vol: at.vol.number() as u8,
+        source_cell: at.cell,
+        source_page: at.page,
+        frozen,
+    })
+}
+
+/// Says of the second file that it reads through the first, of which so many pages were frozen:
+/// a list on which nothing is.
+fn unlisted_pair(
+    alloc: Global,
+    world: &mut World,
+    pair: &Pair,
+    frozen: u32,
+) -> Result<Deferred, Fail>
+    requires { HasTwo world.old pair.now }
+    ensures { IfOk result (λ list. HasPair world.new pair.now list.list) }
+{
+    if !may_go(world, &pair.clone) || !may_go(world, &pair.at) {
+        return Err(Fail::from("two files that go and are of no clone"));
+    }
+    let record = clone_record(pair.at, frozen).ok_or("a cell")?;
+    set_record(alloc, &mut world.pages, pair.clone, &record)?;
+    Ok(Deferred::new(alloc))
+}
+
+/// Which files are put on a list: the one that is read through alone, or the clone's that reads
+/// through it as well, before it or after it.
+#[derive(Clone, Copy, PartialEq, Eq)]
+enum Listed {
+    First,
+    SecondThenFirst,
+    FirstThenSecond,
+}
+
+/// Puts a clone's file on a list, if it is to be there.
+fn list_second(world: &World, list: &mut Deferred, pair: &Pair, is_listed: bool) -> Result<(), Fail>
+    requires { HasPair world.now pair.now list.old.list }
+    ensures { IfOk result (λ _. HasPair world.now pair.now list.new.list) }
+{
+    if is_listed {
+        list.add(pair.clone, None)?;
+    }
+    Ok(())
+}
+
+/// Puts the file on a list through which the clone's reads.
+fn list_first(world: &World, list: &mut Deferred, pair: &Pair) -> Result<(), Fail>
+    requires { HasPair world.now pair.now list.old.list }
+    ensures { IfOk result (λ _. HasPair world.now pair.now list.new.list) }
+{
+    list.add(pair.at, Some(pair.clone))?;
+    Ok(())
+}
+
+/// Says of the second file that it reads through the first, of which so many pages were frozen, and
+/// lists them.
+fn listed_pair(
+    alloc: Global,
+    world: &mut World,
+    pair: &Pair,
+    frozen: u32,
+    listed: Listed,
+) -> Result<Deferred, Fail>
+    requires { HasTwo world.old pair.now }
+    ensures { IfOk result (λ list. HasWell world.new list.list) }
+{
+    let mut list = unlisted_pair(alloc, world, pair, frozen)?;
+    list_second(world, &mut list, pair, listed == Listed::SecondThenFirst)?;
+    list_first(world, &mut list, pair)?;
+    list_second(world, &mut list, pair, listed == Listed::FirstThenSecond)?;
+    Ok(list)
+}
+
+/// A list of two files of which neither reads through the other, and of a page of a tag directory,
+/// which is taken for it.
+fn listed_unrelated(alloc: Global, world: &mut World, pair: &Pair) -> Result<Deferred, Fail>
+    requires { HasTwo world.old pair.now }
+    ensures { IfOk result (λ list. HasWell world.new list.list) }
+{
+    if !may_go(world, &pair.at) || !may_go(world, &pair.clone) {
+        return Err(Fail::from("two files that go and are of no clone"));
+    }
+    let Some(home) = world.space.allocate(volume()) else {
+        return Err(Fail::from("a free page"));
+    };
+    let mut list = Deferred::new(alloc);
+    list.add(pair.at, None)?;
+    list.add(pair.clone, None)?;
+    list.add_tag_page(home)?;
+    Ok(list)
+}
+
+/// Says what is seen of two removed files of the pages 0 to 5 and 0 to 2 and of a page of a tag
+/// directory that are on one list: the steps, and the free and waiting pages before, after, once
+/// the group is durable, and once the log has passed it.
+pub fn say_unrelated(alloc: Global, out: &mut String) -> Result<(), Fail> {
+    let scene = Scene {
+        pages: 64,
+        others: 0,
+        own: 6,
+        frozen: 0,
+        listed: Listed::First,
+    };
+    let (mut world, pair) = two_files(alloc, &scene, &[0, 1, 2])?;
+    let mut list = listed_unrelated(alloc, &mut world, &pair)?;
+    let first = counts(&world);
+    let steps = release_all(alloc, &mut world, &mut list, Version::Four)?;
+    if !list.is_empty() {
+        return Err(Fail::from("an empty list"));
+    }
+    say_numbers(out, &[u64::from(steps)])?;
+    say_counts(out, first)?;
+    say_times(&mut world, out)
+}
+
+/// A run of a file's pages: the first one, its home's number, and how many they are.
+pub type Row = [u32; 3];
+
+fn row(field: &ExtentField) -> Row {
+    [field.page, field.first, field.count]
+}
+
+/// The runs that a file's first cell names.
+pub fn rows(world: &World, at: &CellAt) -> [Row; 4] {
+    match find_record(&world.pages, *at, 14) {
+        Some(Record::ShortDense { rows }) => {
+            [row(&rows[0]), row(&rows[1]), row(&rows[2]), row(&rows[3])]
+        }
+        _ => [[0; 3]; 4],
+    }
+}
+
+/// The first runs that a record of a cell after a file's first one names.
+fn rows_in(value: &Option<Record>) -> Option<[Row; 4]> {
+    match value {
+        Some(Record::DenseExtents { rows }) => {
+            Some([row(&rows[0]), row(&rows[1]), row(&rows[2]), row(&rows[3])])
+        }
+        _ => None,
+    }
+}
+
+/// The first runs that a cell of page 13 names, if one of them is a cell after a file's first one.
+fn rows_on_page_13(world: &World) -> [Row; 4] {
+    for cell in 0..28 {
+        let at = CellAt {
+            vol: volume(),
+            page: 13,
+            cell,
+        };
+        if let Some(found) = rows_in(&find_record(&world.pages, at, 13)) {
+            return found;
+        }
+    }
+    [[0; 3]; 4]
+}
+
+/// Says runs, up to the first that has no page.
+pub fn say_rows(out: &mut String, rows: [Row; 4]) -> Result<(), Fail> {
+    for row in rows {
+        if row[2] == 0 {
+            return Ok(());
+        }
+        say_numbers(out, &row.map(u64::from))?;
+    }
+    Ok(())
+}
+
+/// Whether a file reads through another.
+fn reads_through(world: &World, at: &CellAt) -> bool {
+    match find_record(&world.pages, *at, 2) {
+        Some(Record::CloneFile { source_vol, .. }) => source_vol != 0,
+        _ => false,
+    }
+}
+
+/// Says how many steps were done, or why one was not.
+fn say_steps(out: &mut String, answer: &Result<u32, StoreFault>) -> Result<(), Fail> {
+    match answer {
+        Ok(steps) => say_numbers(out, &[u64::from(*steps)]),
+        Err(StoreFault::NoPage) => Ok(out.push_str(": no page")?),
+        Err(StoreFault::OutOfMemory) => Ok(out.push_str(": no memory")?),
+    }
+}
+
+/// Makes so many files.
+fn make_all(alloc: Global, world: &mut World, count: u32) -> Result<(), Fail>
+    requires { IsWorld world.old }
+    ensures { IfOk result (λ _. IsWorld world.new) }
+{
+    for _ in 0..count {
+        make(alloc, world, Kind::File, Version::Four)?;
+    }
+    Ok(())
+}
+
+/// A volume of so many pages with so many other files, a file of so many pages, and one that reads
+/// those of them through it that were frozen; and which of the two are listed.
+#[derive(Clone, Copy)]
+struct Scene {
+    pages: u32,
+    others: u32,
+    own: u32,
+    frozen: u32,
+    listed: Listed,
+}
+
+/// The two files.
+fn made_files(alloc: Global, scene: &Scene, own: &[u32]) -> Result<(World, [Tag; 2]), Fail>
+    ensures { IfOk result (λ made. IsWorld made.0) }
+{
+    if scene.pages < 3 || 128 < scene.pages {
+        return Err(Fail::from("a volume of 3 to 128 pages"));
+    }
+    let mut world = new_world(alloc, scene.pages)?;
+    make_all(alloc, &mut world, scene.others)?;
+    let file = make(alloc, &mut world, Kind::File, Version::Four)?;
+    let pages = first_pages(alloc, scene.own)?;
+    give_pages(alloc, &mut world, file, pages.as_slice(), Version::Four)?;
+    let clone = make(alloc, &mut world, Kind::File, Version::Four)?;
+    give_pages(alloc, &mut world, clone, own, Version::Four)?;
+    Ok((world, [file, clone]))
+}
+
+/// The two files, whose names were taken.
+fn two_files(alloc: Global, scene: &Scene, own: &[u32]) -> Result<(World, Pair), Fail>
+    ensures { IfOk result (λ made. HasTwo made.0 made.1) }
+{
+    let (mut world, tags) = made_files(alloc, scene, own)?;
+    let pair = remove_two(alloc, &mut world, tags[0], tags[1])?;
+    Ok((world, pair))
+}
+
+/// A file of so many extents that is on a list, beside a clone's file of so many of its own, which
+/// reads those of its pages through it that were frozen.
+pub fn listed_beside(
+    alloc: Global,
+    extents: u32,
+    own: u32,
+    frozen: u32,
+) -> Result<(World, Deferred), Fail>
+    requires extents { extents ≤ 1000 }
+    requires own { own ≤ 1000 }
+    ensures { IfOk result (λ made. HasWell made.0 made.1.list) }
+{
+    let mut world = new_world(alloc, 4_096)?;
+    let file = make(alloc, &mut world, Kind::File, Version::Four)?;
+    let pages = second_pages(alloc, extents)?;
+    give_pages(alloc, &mut world, file, pages.as_slice(), Version::Four)?;
+    let clone = make(alloc, &mut world, Kind::File, Version::Four)?;
+    let pages = second_pages(alloc, own)?;
+    give_pages(alloc, &mut world, clone, pages.as_slice(), Version::Four)?;
+    let pair = remove_two(alloc, &mut world, file, clone)?;
+    let list = listed_pair(alloc, &mut world, &pair, frozen, Listed::First)?;
+    Ok((world, list))
+}
+
+/// The two files, of which the first was cut and the name of the second was taken.
+fn cut_files(alloc: Global, scene: &Scene, own: &[u32], size: u64) -> Result<(World, Pair), Fail>
+    ensures { IfOk result (λ made. HasTwo made.0 made.1) }
+{
+    let (mut world, tags) = made_files(alloc, scene, own)?;
+    let pair = remove_and_cut(alloc, &mut world, tags[0], tags[1], size)?;
+    Ok((world, pair))
+}
+
+/// Lets go of the first of two files, and says the steps, the runs of both, whether the second still
+/// reads through the first, the free and waiting pages, and the misses; and the runs that a cell of
+/// page 13 names, where other files fill the cells before it.
+fn say_handed_by(
+    alloc: Global,
+    scene: &Scene,
+    made: (World, Pair),
+    out: &mut String,
+) -> Result<(), Fail>
+    requires { HasTwo made.0 made.1 }
+{
+    let (mut world, pair) = made;
+    let mut list = listed_pair(alloc, &mut world, &pair, scene.frozen, scene.listed)?;
+    let answer = release_all(alloc, &mut world, &mut list, Version::Four);
+    if list.is_empty() != answer.is_ok() {
+        return Err(Fail::from("an empty list where all was let go of"));
+    }
+    say_steps(out, &answer)?;
+    out.push_str(": file")?;
+    say_rows(out, rows(&world, &pair.at))?;
+    out.push_str(": clone")?;
+    say_rows(out, rows(&world, &pair.clone))?;
+    out.push_str(": reads")?;
+    say_whether(out, &[reads_through(&world, &pair.clone)])?;
+    say_counts(out, counts(&world))?;
+    say_numbers(out, &[world.space.misses()])?;
+    if scene.others > 0 {
+        out.push_str(": page 13")?;
+        say_rows(out, rows_on_page_13(&world))?;
+    }
+    Ok(())
+}
+
+/// The scene of five numbers: the pages of the volume, the other files, the pages of the file, how
+/// many of them were frozen, and which files are listed: 0 for the first alone, 1 for the clone's
+/// before it, and 2 for the clone's after it.
+fn scene_of(numbers: &[u64]) -> Scene {
+    Scene {
+        pages: small(numbers, 0),
+        others: small(numbers, 1),
+        own: small(numbers, 2),
+        frozen: small(numbers, 3),
+        listed: match at(numbers, 4) {
+            0 => Listed::First,
+            1 => Listed::SecondThenFirst,
+            _ => Listed::FirstThenSecond,
+        },
+    }
+}
+
+/// The two files of a scene, of which the first was cut to a size, or its name was taken if that is
+/// 0.
+fn made_by(alloc: Global, scene: &Scene, own: &[u32], size: u64) -> Result<(World, Pair), Fail>
+    ensures { IfOk result (λ made. HasTwo made.0 made.1) }
+{
+    if size == 0 {
+        two_files(alloc, scene, own)
+    } else {
+        cut_files(alloc, scene, own, size)
+    }
+}
+
+/// The same of the two files that numbers say: a scene, the size to which the first is cut, and the
+/// pages of the clone's.
+pub fn say_handed(alloc: Global, numbers: &[u64], out: &mut String) -> Result<(), Fail> {
+    let scene = scene_of(numbers);
+    let own = all_small(alloc, numbers, 6)?;
+    let made = made_by(alloc, &scene, own.as_slice(), at(numbers, 5))?;
+    say_handed_by(alloc, &scene, made, out)
+}
+
+/// Whether the last entry of a list is that of a pair.
+fn is_left(list: &Deferred, pair: &Pair) -> bool {
+    list.last()
+        == Some(Entry {
+            at: pair.at,
+            clone: Some(pair.clone),
+        })
+}
+
+/// Says what is seen of two calls on such files, of which the first has no room for its second step:
+/// its steps, whether the entry is left, the runs of its file, the second call's answer, the free and
+/// waiting pages, and the misses.
+pub fn say_stopped(alloc: Global, numbers: &[u64], out: &mut String) -> Result<(), Fail> {
+    let scene = scene_of(numbers);
+    let own = all_small(alloc, numbers, 6)?;
+    let (mut world, pair) = two_files(alloc, &scene, own.as_slice())?;
+    let mut list = listed_pair(alloc, &mut world, &pair, scene.frozen, scene.listed)?;
+    say_steps(out, &release(alloc, &mut world, &mut list, Version::Four))?;
+    say_whether(out, &[is_left(&list, &pair)])?;
+    say_rows(out, rows(&world, &pair.at))?;
+    say_steps(out, &release(alloc, &mut world, &mut list, Version::Four))?;
+    say_counts(out, counts(&world))?;
+    say_numbers(out, &[world.space.misses()])
+}

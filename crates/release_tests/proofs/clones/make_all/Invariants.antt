@@ -1,5 +1,0 @@
-use Rattle.file_tests.specs.Worlds.{IsWorld}
-use Rattle.release_tests.proofs.clones.make_all.Given as goal
-
-abbrev pub invariant-loop : goal.invariant-loop
-invariant-loop l = IsWorld l.world

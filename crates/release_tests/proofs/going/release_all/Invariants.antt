@@ -1,6 +1,0 @@
-use Rattle.std.proofs.Common.{◌*◌, ◌≤◌}
-use Rattle.release_tests.specs.Going.{HasWell}
-use Rattle.release_tests.proofs.going.release_all.Given as goal
-
-abbrev pub invariant-loop : goal.invariant-loop
-invariant-loop l = (l.steps ≤ 16 * l.counter) × HasWell l.world l.list.list

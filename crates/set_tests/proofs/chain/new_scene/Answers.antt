@@ -1,6 +1,0 @@
-use Rattle.std.proofs.Common.{[], refl}
-use Rattle.set_tests.proofs.Answered.{if_ok}
-use Rattle.set_tests.proofs.chain.new_scene.Goals as goal
-
-pub returns : goal.returns
-returns c = if_ok c.new_world.result (λ world together. record { allocated = together.1.allocated; chain = []; is = refl; on_tables = tt }) c.new_world.ensures.together

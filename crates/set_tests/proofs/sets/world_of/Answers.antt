@@ -1,6 +1,0 @@
-use Rattle.release_steps.specs.page_store.Homes.{pages_of}
-use Rattle.set_tests.proofs.First.{first_set, if_ok}
-use Rattle.set_tests.proofs.sets.world_of.Goals as goal
-
-pub returns : goal.returns
-returns c = if_ok (λ world empty. first_set world.files.fileset world.files.tags world.space world.cells (pages_of world.pages.entries.items) empty.together empty.low) c.new_world.result c.new_world.ensures.empty

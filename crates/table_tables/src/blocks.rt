@@ -1,0 +1,75 @@
+//! Blocks of lines, and what is answered.
+
+use crate::books::random_books;
+use crate::quotas::push_quotas;
+use crate::random::random_tables;
+use crate::tables::push_table;
+use crate::tag_random::random_tags;
+use crate::tags::{push_tags, unlinked};
+use anyhow::{Context, Result, bail};
+use std::alloc::Global;
+
+/// What a line answers by itself.
+fn answer(alloc: Global, kind: &str, line: &str) -> Result<String> {
+    match kind {
+        "random quotas" => random_books(alloc, line),
+        "random tables" => random_tables(alloc, line),
+        "random tags" => random_tags(alloc, line),
+        "unlinked" => unlinked(alloc, line),
+        _ => bail!("no such block"),
+    }
+}
+
+/// Adds lines that stand alone, each with what it answers.
+fn push_single(alloc: Global, answers: &mut String, kind: &str, lines: &str) -> Result<()> {
+    for line in lines.lines() {
+        if is_idle(line) {
+            push_answer(answers, line, "")?;
+        } else {
+            let answer = answer(alloc, kind, line).context(line)?;
+            push_answer(answers, line, answer.as_str())?;
+        }
+    }
+    Ok(())
+}
+
+/// Adds the lines of a block with what they answer.
+fn push_lines(alloc: Global, answers: &mut String, kind: &str, lines: &str) -> Result<()> {
+    match kind {
+        "quotas" => push_quotas(alloc, answers, lines),
+        "table" => push_table(alloc, answers, lines),
+        "tags" => push_tags(alloc, answers, lines),
+        _ => push_single(alloc, answers, kind, lines),
+    }
+}
+
+/// Adds a block with what it answers.
+pub fn push_block(alloc: Global, answers: &mut String, block: &str) -> Result<()> {
+    let (head, lines) = block.split_once('\n').context("a first line")?;
+    let (kind, _) = head.split_once(": ").context("a kind of block")?;
+    answers.push_str(head)?;
+    answers.push('\n')?;
+    push_lines(alloc, answers, kind, lines)
+}
+
+/// Whether nothing is to be done at a line: it is empty, or a comment.
+pub fn is_idle(line: &str) -> bool {
+    line.is_empty() || line.starts_with('#')
+}
+
+/// Adds a line and its answer, which stands below it where it has lines of its own.
+pub fn push_answer(answers: &mut String, line: &str, answer: &str) -> Result<()> {
+    answers.push_str(line)?;
+    let mut first = if answer.contains('\n') {
+        "\n  "
+    } else {
+        " -> "
+    };
+    for part in answer.lines() {
+        answers.push_str(first)?;
+        answers.push_str(part)?;
+        first = "\n  ";
+    }
+    answers.push('\n')?;
+    Ok(())
+}

@@ -1,0 +1,19 @@
+//! Scripts and lines of histories, a row each: below a row stands what is read of it.
+#![tactic(auto)]
+
+mod entries;
+mod rows;
+mod scripts;
+mod spelling;
+
+use anyhow::Result;
+use rows::push_row;
+
+fn main(rt: HostRuntime) -> Result<()> {
+    let mut answers = String::new(rt.alloc());
+    for row in rt.lines(rt.alloc()) {
+        push_row(rt.alloc(), &mut answers, row?.as_str())?;
+    }
+    rt.print(answers.as_str())?;
+    Ok(())
+}
