@@ -5,7 +5,7 @@ use Rattle.release_steps.specs.page_store.Homes.{pages_of}
 use Rattle.release_steps.specs.metadata_cells.Chain.{PlacedCell}
 use Rattle.release_steps.specs.file_chains.Allocated.{AreAllocated}
 use Rattle.release_steps.specs.file_chains.FileChanges.{AreOnTables}
-use Rattle.file_tests.specs.declared.world.World.{World}
+use Rattle.file_world.specs.declared.world.World.{World}
 use Rattle.release_steps.specs.QuotaChain.{IsQuotaChain}
 
 -- free cells, free space and pages belong together, and a chain of quota cells begins there, each

@@ -6,7 +6,7 @@ use Rattle.release_steps.specs.domain_base.declared.place.Tag.{Tag}
 use Rattle.release_steps.specs.page_store.Homes.{pages_of}
 use Rattle.release_steps.specs.page_store.Bitfiles.{Bitfiles, IsDirectory, count_index, count_pages, new_file, put_page, with_change, with_file}
 use Rattle.stored_set.specs.Sets.{StandsAsSet}
-use Rattle.file_tests.specs.declared.world.World.{World}
+use Rattle.file_world.specs.declared.world.World.{World}
 
 abbrev pub IsSet : World → Bitfiles → Type 0
 IsSet world set = StandsAsSet world.files.fileset world.files.tags world.space world.cells

@@ -4,7 +4,7 @@ ghost use Rattle.std.specs.Prelude.{◌≡◌, ◌≤◌, ◌^◌, IfOk, None, O
 ghost use Rattle.release_steps.specs.fileset_values.declared.command.Owner.TheVariants.{Fileset};
 ghost use Rattle.file_tables.specs.Chains.{HasChain};
 
-use file_tests::world::{World, new_world, volume};
+use file_world::world::{World, new_world, volume};
 use release_steps::{CellAt, FilesetNo, Limits, Owner, StoreFault, set_limits, take_cell};
 use std::alloc::Global;
 use std::test::Fail;

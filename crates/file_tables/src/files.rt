@@ -1,12 +1,12 @@
 //! Lines of calls on the files of one world.
 ghost use Rattle.std.specs.Prelude.{IfOk};
-ghost use Rattle.file_tests.specs.Worlds.{IsWorld};
+ghost use Rattle.file_world.specs.Worlds.{IsWorld};
 
-use file_tests::calls::{count_in, cut, give, make, move_page, pages_left, world_with_root};
-use file_tests::reading::{at, numbers_of, say_numbers, say_whether, small, word_of};
-use file_tests::states::{describe, index_at, put_in, say_index, take_out};
-use file_tests::world::{World, new_world};
-use file_tests::{Attributes, PagePlace, RunPlace};
+use file_world::calls::{count_in, cut, give, make, move_page, pages_left, world_with_root};
+use file_world::reading::{at, numbers_of, say_numbers, say_whether, small, word_of};
+use file_world::states::{describe, index_at, put_in, say_index, take_out};
+use file_world::world::{World, new_world};
+use file_world::{Attributes, PagePlace, RunPlace};
 use release_steps::{Home, Kind, StoreFault, Tag};
 use std::alloc::Global;
 use std::test::Fail;

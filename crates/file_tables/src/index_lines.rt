@@ -2,11 +2,11 @@
 ghost use Rattle.std.specs.Prelude.{IfOk};
 ghost use Rattle.release_steps.specs.page_store.Homes.{pages_of};
 ghost use Rattle.stored_set.specs.index_pages.Homes.{HasIndexHomes};
-ghost use Rattle.file_tests.specs.IndexPageWorlds.{IsIndexOn};
+ghost use Rattle.file_world.specs.IndexPageWorlds.{IsIndexOn};
 
-use file_tests::index_page_world::{World, drop_first, insert, new_world, put};
-use file_tests::reading::{at, byte, numbers_of, say_numbers, say_whether, small, word_of};
-use file_tests::{count_index, index_home};
+use file_world::index_page_world::{World, drop_first, insert, new_world, put};
+use file_world::reading::{at, byte, numbers_of, say_numbers, say_whether, small, word_of};
+use file_world::{count_index, index_home};
 use release_steps::{Home, MemoryPages, MetaPages, OutOfMemory, Page, StoreFault};
 use std::alloc::Global;
 use std::test::Fail;

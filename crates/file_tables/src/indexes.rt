@@ -3,7 +3,7 @@ ghost use Rattle.std.specs.Prelude.{◌+◌, ◌<◌, ◌≤◌, IfOk, OnOk};
 ghost use Rattle.file_tables.specs.Worlds.{HasIndex, IsSomeSet};
 
 use crate::sets::{empty_world, make_one};
-use file_tests::world::{World, volume};
+use file_world::world::{World, volume};
 use release_steps::{Kind, Page, Tag};
 use std::alloc::Global;
 use std::test::Fail;

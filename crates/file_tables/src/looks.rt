@@ -1,6 +1,6 @@
 //! The cells of a chain as text: a line a cell.
 
-use file_tests::world::World;
+use file_world::world::World;
 use release_steps::{CellAt, CellKind, OutOfMemory, Record, UsedCell, read_used};
 use std::alloc::Global;
 use std::test::Fail;

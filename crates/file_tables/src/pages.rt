@@ -4,7 +4,7 @@ ghost use Rattle.release_steps.specs.domain_base.Limits.{file_pages};
 ghost use Rattle.file_tables.specs.Worlds.{HasPages};
 
 use crate::sets::{empty_world, make_one};
-use file_tests::world::{World, volume};
+use file_world::world::{World, volume};
 use release_steps::{Kind, Page, Tag, Version};
 use std::alloc::Global;
 use std::test::Fail;

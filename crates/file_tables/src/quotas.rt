@@ -4,8 +4,8 @@ ghost use Rattle.file_tables.specs.Chains.{HasChain};
 
 use crate::chain::{new_scene, set_line, use_cells};
 use crate::looks::shown;
-use file_tests::reading::{numbers_of, say_numbers, small, word_of};
-use file_tests::world::World;
+use file_world::reading::{numbers_of, say_numbers, small, word_of};
+use file_world::world::World;
 use release_steps::{CellAt, StoreFault};
 use std::alloc::Global;
 use std::test::Fail;

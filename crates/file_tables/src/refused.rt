@@ -4,8 +4,8 @@ ghost use Rattle.release_steps.specs.domain_base.declared.place.Kind.TheVariants
 ghost use Rattle.file_tables.specs.Worlds.{IsSet, only_new};
 
 use crate::sets::{length_told, make_one, world_of};
-use file_tests::reading::{say_numbers, say_whether};
-use file_tests::world::{World, volume};
+use file_world::reading::{say_numbers, say_whether};
+use file_world::world::{World, volume};
 use release_steps::{Kind, Page, StoreFault, Tag, Version};
 use std::alloc::Global;
 use std::test::Fail;

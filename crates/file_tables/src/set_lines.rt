@@ -4,7 +4,7 @@ use crate::indexes::{told as told_of_index, told_away};
 use crate::pages::told as told_of_pages;
 use crate::refused::say_refused;
 use crate::sets::{told as told_of_file, told_pages};
-use file_tests::reading::{say_numbers, word_of};
+use file_world::reading::{say_numbers, word_of};
 use release_steps::Kind;
 use std::alloc::Global;
 use std::test::Fail;

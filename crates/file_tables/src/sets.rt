@@ -3,7 +3,7 @@ ghost use Rattle.std.specs.Prelude.{◌^◌, ◌≤◌, IfOk, None, OnOk};
 ghost use Rattle.release_steps.specs.domain_base.declared.place.Kind.TheVariants.{Directory, File};
 ghost use Rattle.file_tables.specs.Worlds.{HasTag, IsSet, IsSomeSet, only_new, with_first_page};
 
-use file_tests::world::{World, new_world, volume};
+use file_world::world::{World, new_world, volume};
 use release_steps::{Kind, Page, Tag, Version};
 use std::alloc::Global;
 use std::test::Fail;

@@ -2,7 +2,7 @@
 ghost use Rattle.std.specs.Prelude.{IfOk};
 ghost use Rattle.fileset_lending.specs.name_space.Changes.{HasOriginal};
 
-use file_tests::world::{new_world, volume};
+use file_world::world::{new_world, volume};
 use fileset_lending::{
     BitfileSet, CallSettings, Kind, MemoryPages, StoredBitfiles, StoredParts, Tag, Version,
 };

@@ -22,7 +22,7 @@ use Rattle.release_steps.specs.Beside.{StandsBeside}
 use Rattle.release_steps.specs.Calls.{Call, FilesetNow, StandsWell, made, no_call, one_more}
 use Rattle.release_steps.proofs.CallsWell.{stands_still}
 use Rattle.release_steps.proofs.OtherFilesets.{other_filesets_same}
-use Rattle.file_tests.specs.First.{IsEmpty}
+use Rattle.file_world.specs.First.{IsEmpty}
 use Rattle.release_tables.specs.Called.{Parts, fileset_in}
 use Rattle.release_tables.proofs.Wells.{no_files, none_stands}
 

@@ -27,7 +27,7 @@ use Rattle.release_steps.proofs.OfReleaseList.Standings.{apart_from, each_from, 
 use Rattle.release_tables.specs.Going.{IsGoing}
 use Rattle.release_steps.specs.tag_dirs.declared.dir.TagPlace.{TagPlace}
 use Rattle.release_steps.specs.Calls.{StandsWell}
-use Rattle.file_tests.specs.First.{IsEmpty}
+use Rattle.file_world.specs.First.{IsEmpty}
 use Rattle.release_tables.specs.Called.{fileset_in}
 
 abbrev pub listing : List Entry → List Home → Listing

@@ -6,7 +6,7 @@ use Rattle.release_steps.specs.release_list.Listing.{Listing}
 use Rattle.release_steps.specs.release_list.Standing.{Files}
 use Rattle.release_steps.specs.Beside.{StandsBeside}
 use Rattle.release_steps.specs.Calls.{StandsWell}
-use Rattle.file_tests.specs.declared.world.World.{World}
+use Rattle.file_world.specs.declared.world.World.{World}
 use Rattle.release_tables.specs.Called.{fileset_in, parts_of}
 
 -- a world's fileset belongs together with the domain's files and the list, and another one beside

@@ -21,7 +21,7 @@ use Rattle.release_steps.specs.Lists.{with_list}
 use Rattle.release_steps.specs.Tags.{AreAmong, chains_in, start_of}
 use Rattle.release_steps.specs.Taken.{IsHeldAt, IsTaken}
 use Rattle.release_steps.specs.Waits.{IsGivenUp}
-use Rattle.file_tests.specs.declared.world.World.{World}
+use Rattle.file_world.specs.declared.world.World.{World}
 
 -- what a world and a list hold
 pub record Parts : Type 0 where

@@ -15,7 +15,7 @@ use Rattle.release_steps.specs.fileset_files.Together.{IsHeldApart}
 use Rattle.release_steps.specs.release_list.Listing.{Listing}
 use Rattle.release_steps.specs.release_list.Standing.{Files}
 use Rattle.release_steps.specs.release_list.Steps.{IsWell, now_of}
-use Rattle.file_tests.specs.declared.world.World.{World}
+use Rattle.file_world.specs.declared.world.World.{World}
 
 -- the chain of a file begins there, whose cells and pages stand where free space and free cells
 -- know of it

@@ -7,7 +7,7 @@ use Rattle.release_steps.specs.release_list.Standing.{Files}
 use Rattle.release_steps.specs.release_list.Steps.{now_of}
 use Rattle.release_steps.specs.Ahead.{GoesOnIn}
 use Rattle.release_steps.specs.Calls.{StandsWell}
-use Rattle.file_tests.specs.declared.world.World.{World}
+use Rattle.file_world.specs.declared.world.World.{World}
 use Rattle.release_tables.specs.Called.{HasNoClone, Parts, fileset_in, parts_of}
 
 -- all belongs together for some files, none of which reads through another, and steps go on in one

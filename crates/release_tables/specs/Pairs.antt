@@ -16,7 +16,7 @@ use Rattle.release_steps.specs.release_list.Listed.{IsEntry}
 use Rattle.release_steps.specs.release_list.Listing.{Listing}
 use Rattle.release_steps.specs.release_list.Standing.{Files, source_in}
 use Rattle.release_steps.specs.release_list.Steps.{IsWell, now_of}
-use Rattle.file_tests.specs.declared.world.World.{World}
+use Rattle.file_world.specs.declared.world.World.{World}
 use Rattle.release_tables.specs.declared.pair.Pair.{Pair}
 use Rattle.release_tables.specs.Going.{IsGoing}
 

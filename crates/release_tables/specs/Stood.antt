@@ -4,7 +4,7 @@ use Rattle.release_steps.specs.fileset_files.Files.{Chains}
 use Rattle.release_steps.specs.release_list.Listing.{Listing}
 use Rattle.release_steps.specs.release_list.Standing.{Files}
 use Rattle.release_steps.specs.Calls.{StandsWell}
-use Rattle.file_tests.specs.declared.world.World.{World}
+use Rattle.file_world.specs.declared.world.World.{World}
 use Rattle.release_tables.specs.Called.{HasNoClone, Parts, fileset_in, parts_of}
 
 -- all belongs together for some files, none of which reads through another

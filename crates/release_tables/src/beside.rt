@@ -3,7 +3,7 @@ ghost use Rattle.std.specs.Prelude.{◌≡◌, [], IfOk};
 ghost use Rattle.release_steps.specs.release_list.Listing.{IsEmpty as IsEmptyList, Listing};
 ghost use Rattle.release_tables.specs.Beside.{HasBeside};
 
-use file_tests::world::{World, new_world, volume};
+use file_world::world::{World, new_world, volume};
 use release_steps::{Bitfiles, FilesetNo, Kind, Tag, TagDir, Version};
 use std::alloc::Global;
 use std::test::Fail;

@@ -1,6 +1,6 @@
 //! Files that a clone's file reads through, let go of.
 ghost use Rattle.std.specs.Prelude.{◌≤◌, IfOk, IfSome};
-ghost use Rattle.file_tests.specs.Worlds.{IsWorld};
+ghost use Rattle.file_world.specs.Worlds.{IsWorld};
 ghost use Rattle.release_tables.specs.Going.{HasWell};
 ghost use Rattle.release_tables.specs.Pairs.{HasPair, HasTwo, IsCloneOf};
 
@@ -8,8 +8,8 @@ use crate::going::{counts, may_go, release, release_all};
 use crate::making::{first_pages, give_pages, make, second_pages};
 use crate::pair::Pair;
 use crate::seen::{say_counts, say_times};
-use file_tests::reading::{all_small, at, say_numbers, say_whether, small};
-use file_tests::world::{World, new_world, volume};
+use file_world::reading::{all_small, at, say_numbers, say_whether, small};
+use file_world::world::{World, new_world, volume};
 use release_steps::{
     CellAt, Deferred, Entry, ExtentField, Kind, Record, StoreFault, Tag, Version, find_record,
     set_record,

@@ -1,14 +1,14 @@
 //! What letting go costs, counted in looks at pages of metadata and in changes of them.
 ghost use Rattle.std.specs.Prelude.{IfOk};
-ghost use Rattle.file_tests.specs.Worlds.{IsWorld};
+ghost use Rattle.file_world.specs.Worlds.{IsWorld};
 ghost use Rattle.release_tables.specs.Going.{HasWell, HasWellBy};
 
 use crate::clones::listed_beside;
 use crate::going::{listed, release_by};
 use crate::looks::Counted;
 use crate::making::{cut, give_pages, make, mixed_pages, remove, second_pages, second_pages_down};
-use file_tests::reading::small;
-use file_tests::world::{World, new_world};
+use file_world::reading::small;
+use file_world::world::{World, new_world};
 use release_steps::{Deferred, FreeCells, FreeSpace, Kind, MetaPages, StoreFault, Tag, Version};
 use std::alloc::Global;
 use std::test::Fail;

@@ -7,10 +7,10 @@ ghost use Rattle.release_steps.specs.fileset_files.Files.{first_record};
 ghost use Rattle.release_steps.specs.file_release.Sharing.{IsKnown};
 ghost use Rattle.release_steps.specs.release_list.Cursors.{IsAhead};
 ghost use Rattle.release_steps.specs.release_list.Standing.{source_of};
-ghost use Rattle.file_tests.specs.Worlds.{IsWorld};
+ghost use Rattle.file_world.specs.Worlds.{IsWorld};
 ghost use Rattle.release_tables.specs.Going.{HasGoing, HasWell, HasWellBy};
 
-use file_tests::world::{World, volume};
+use file_world::world::{World, volume};
 use release_steps::{
     CellAt, Deferred, FreeCells, FreeSpace, MetaPages, Record, StoreFault, Version, find_record,
 };

@@ -25,7 +25,7 @@ use crate::onward::say_nine_files;
 use crate::removing::say_removed_fileset;
 use crate::room::last_of_three;
 use crate::seen::{say_many_removed, say_removed, say_tag_page, say_trim};
-use file_tests::reading::{at, numbers_of, say_numbers, say_whether, word_of};
+use file_world::reading::{at, numbers_of, say_numbers, say_whether, word_of};
 use release_steps::Kind;
 use std::alloc::Global;
 use std::test::Fail;

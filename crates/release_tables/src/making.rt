@@ -5,11 +5,11 @@ ghost use Rattle.release_steps.specs.fileset_files.Files.{Chains};
 ghost use Rattle.release_steps.specs.release_list.Listing.{Listing};
 ghost use Rattle.release_steps.specs.release_list.Standing.{Files};
 ghost use Rattle.release_steps.specs.Calls.{FilesetNow, StandsWell};
-ghost use Rattle.file_tests.specs.Worlds.{IsWorld};
+ghost use Rattle.file_world.specs.Worlds.{IsWorld};
 ghost use Rattle.release_tables.specs.Called.{HasCalled, HasCut, fileset_in, parts_of};
 ghost use Rattle.release_tables.specs.Going.{HasGoing};
 
-use file_tests::world::{World, volume};
+use file_world::world::{World, volume};
 use release_steps::from_domain_base::limits::FILE_PAGES;
 use release_steps::{CellAt, Home, Kind, PagePlace, StoreFault, Tag, Version};
 use std::alloc::Global;

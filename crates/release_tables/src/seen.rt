@@ -1,11 +1,11 @@
 //! What is seen of files and pages that are let go of.
 ghost use Rattle.std.specs.Prelude.{IfOk};
-ghost use Rattle.file_tests.specs.Worlds.{IsWorld};
+ghost use Rattle.file_world.specs.Worlds.{IsWorld};
 
 use crate::going::{counts, listed, listed_page, release_all};
 use crate::making::{cut, give_pages, make, remove, second_pages};
-use file_tests::reading::{at, say_numbers, say_whether};
-use file_tests::world::{World, new_world};
+use file_world::reading::{at, say_numbers, say_whether};
+use file_world::world::{World, new_world};
 use release_steps::{CellAt, Kind, Record, Tag, Version, find_record};
 use std::alloc::Global;
 use std::test::Fail;

@@ -1,4 +1,4 @@
-use Rattle.file_tests.specs.Worlds.{IsWorld}
+use Rattle.file_world.specs.Worlds.{IsWorld}
 use Rattle.release_tables.proofs.clones.make_all.Given as goal
 
 abbrev pub invariant-loop : goal.invariant-loop

@@ -3,7 +3,7 @@ use Rattle.release_steps.specs.page_store.Homes.{pages_of}
 use Rattle.release_steps.specs.free_space.Spaces.{Spaces}
 use Rattle.release_steps.specs.fileset_files.Together.{IsHeldApart}
 use Rattle.release_steps.proofs.OfFilesetFiles.Grown.{apart_now}
-use Rattle.file_tests.proofs.Kept.{together}
+use Rattle.file_world.proofs.Kept.{together}
 use Rattle.release_tables.proofs.Wells.{page_well}
 use Rattle.release_tables.proofs.going.listed_page.Goals as goal
 

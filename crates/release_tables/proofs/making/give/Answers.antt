@@ -1,5 +1,5 @@
 use Rattle.release_steps.specs.page_store.Homes.{pages_of}
-use Rattle.file_tests.proofs.Kept.{given_or_kept}
+use Rattle.file_world.proofs.Kept.{given_or_kept}
 use Rattle.release_tables.proofs.Callings.{gave, stands_now}
 use Rattle.release_tables.proofs.making.give.Goals as goal
 

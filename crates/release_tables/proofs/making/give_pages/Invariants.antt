@@ -1,7 +1,7 @@
 use Rattle.std.proofs.Common.{◌≡◌}
 use Rattle.release_steps.specs.release_list.Listing.{Listing}
 use Rattle.release_steps.specs.Calls.{FilesetNow, StandsWell}
-use Rattle.file_tests.specs.Worlds.{IsWorld}
+use Rattle.file_world.specs.Worlds.{IsWorld}
 use Rattle.release_tables.specs.Called.{HasCalled, parts_of}
 use Rattle.release_tables.proofs.making.give_pages.Given as goal
 

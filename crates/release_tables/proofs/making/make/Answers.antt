@@ -1,5 +1,5 @@
 use Rattle.release_steps.specs.page_store.Homes.{pages_of}
-use Rattle.file_tests.proofs.Kept.{created}
+use Rattle.file_world.proofs.Kept.{created}
 use Rattle.release_tables.proofs.Callings.{made_one}
 use Rattle.release_tables.proofs.making.make.Goals as goal
 
