@@ -1,5 +1,5 @@
 -- What the calls on an order of use make of the frames in it.
-use Rattle.std.proofs.Common.{List, ◌≡◌, ◌==◌, ◌∙◌, ◌+◌, ◌-◌, ◌<◌, ℕ, true, false, cond, [], ◌∷◌, ◌++◌, Option, Some, None, IsNone, IsSome, is_none, is_some, length, take, nat_eq, nat_lt, if◌then◌else◌, eqb-true, refl, sym, ap, subst, arith, append-nil, length-append}
+use Rattle.std.proofs.Common.{◌≡◌, ◌==◌, ◌∙◌, ◌+◌, ◌-◌, ◌<◌, ℕ, true, false, cond, [], ◌∷◌, ◌++◌, Option, Some, None, IsNone, IsSome, is_none, is_some, length, take, nat_eq, nat_lt, if◌then◌else◌, eqb-true, refl, sym, ap, subst, arith, append-nil, length-append}
 use Rattle.std.specs.Cmp.{nat_eq_equiv}
 use Rattle.std.specs.List.{AllByRecursion, IsDistinct}
 use Rattle.std.specs.Map.{keys_of, lookup, lookup_entry, remove_entry, set_value}

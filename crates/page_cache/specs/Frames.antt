@@ -1,5 +1,5 @@
 -- Frames by their homes, and which of them comes first.
-use Rattle.std.specs.Prelude.{◌≡◌, ◌==◌, ◌<◌, ◌≤◌, ◌⊎◌, ℕ, Bool, List, [], ◌∷◌, Option, Some, None, false, is_none, if◌then◌else◌}
+use Rattle.std.specs.Prelude.{◌≡◌, ◌==◌, ◌<◌, ◌≤◌, ◌⊎◌, ℕ, Bool, List, [], ◌∷◌, Option, Some, None, false, is_none, max, if◌then◌else◌}
 use Rattle.std.specs.Option.{option_and_then, option_map_or}
 use Rattle.page_store.specs.domain_base.declared.place.Home.{Home}
 use Rattle.page_store.specs.Pages.{same_home}
@@ -28,6 +28,11 @@ group_of frame = option_and_then (λ (f : Frame). f.waits) frame
 -- the same, at each home that has a dirty frame
 abbrev pub groups : Frames → Home → Option ℕ
 groups frames home = group_of (frames home)
+
+-- the later of a group and the one that a frame waits for, if it waits for one
+abbrev pub later_of : Option ℕ → ℕ → ℕ
+later_of None group = group
+later_of (Some waits) group = max waits group
 
 abbrev pub is_clean : Option Frame → Bool
 is_clean frame = option_map_or (λ (f : Frame). is_none f.waits) frame false

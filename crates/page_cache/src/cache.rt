@@ -3,10 +3,10 @@ ghost use Rattle.std.specs.Prelude.{◌≡◌, ◌+◌, ◌^◌, ◌≤◌, ◌<
 ghost use Rattle.std.specs.Borrow.{sem};
 ghost use Rattle.std.specs.Option.{option_copied, option_map};
 ghost use Rattle.page_cache.specs.Entries.{last_dirty};
-ghost use Rattle.page_cache.specs.Frames.{IsFirst, cleaned, groups, no_frames};
+ghost use Rattle.page_cache.specs.Frames.{IsFirst, cleaned, groups, later_of, no_frames};
 ghost use Rattle.page_cache.specs.Queues.{IsSound};
 
-use crate::frame::Frame;
+use crate::frame::{Frame, later_of};
 use crate::frames::{
     FRAMES, Kept, add_frame, bring_clean_to_end, clean_frame, drop_frame, set_frame, use_frame,
 };
@@ -56,6 +56,14 @@ impl PageCache {
         self.page_at(&home)
     }
 
+    /// The group of the log that the frame of a home waits for, if a dirty one is kept. Asking does
+    /// not count as a use.
+    pub fn waits(&self, home: Home) -> Option<u64>
+        ensures { result ≡ groups (frames_of self.now) home }
+    {
+        self.group_at(&home)
+    }
+
     /// Whether a frame of a home is kept. Asking does not count as a use.
     pub fn is_kept(&self, home: Home) -> bool
         ensures { result ≡ is_some (frames_of self.now home) }
@@ -85,15 +93,16 @@ impl PageCache {
     }
 
     /// Gives the frame of a home these bytes, and makes it dirty, waiting for a group of the log. A
-    /// frame that waits for group 0 waits for no group. This counts as a use of the frame.
+    /// frame that waits for a later group already goes on waiting for that one. A frame that waits
+    /// for group 0 waits for no group. This counts as a use of the frame.
     pub fn write(&mut self, home: Home, page: Page, waits: u64)
         requires { IsSome (frames_of self.old home) }
-        ensures { Changes home (Some (record { page = page; waits = Some waits })) self.old
-            self.new }
+        ensures { let group = later_of (groups (frames_of self.old) home) waits in
+            Changes home (Some (record { page = page; waits = Some group })) self.old self.new }
     {
         let number = home_number(&home);
         let old = self.group_at(&home);
-        let waits = Some(waits);
+        let waits = Some(later_of(old, waits));
         set_frame(&mut self.frames, number, Frame { page, waits });
         self.dirty.move_home(&home, old, waits);
     }
@@ -110,15 +119,20 @@ impl PageCache {
         self.dirty.move_home(&home, old, None);
     }
 
-    /// Forgets the frame of a home.
-    pub fn drop_frame(&mut self, home: Home)
+    /// Forgets the frame of a home, and hands its page back.
+    pub fn drop_frame(&mut self, home: Home) -> Page
         requires { IsSome (frames_of self.old home) }
-        ensures { Changes home None self.old self.new }
+        ensures changes { Changes home None self.old self.new }
+        ensures page { Some result
+            ≡ option_map (λ (f : Frame). f.page) (frames_of self.old home) }
     {
         let number = home_number(&home);
         let old = self.group_at(&home);
-        drop_frame(&mut self.frames, number);
+        let Some(page) = drop_frame(&mut self.frames, number) else {
+            unreachable!()
+        };
         self.dirty.move_home(&home, old, None);
+        page
     }
 
     /// The law that the cache keeps at most 1,024 frames, as many as are in the order of use or

@@ -73,13 +73,18 @@ pub(crate) fn clean_frame(frames: &mut Kept, number: u64, alone: bool)
     }
 }
 
-/// Forgets the frame of a number.
-pub(crate) fn drop_frame(frames: &mut Kept, number: u64)
+/// Forgets the frame of a number, and hands its page back if there was one.
+pub(crate) fn drop_frame(frames: &mut Kept, number: u64) -> Option<Page>
     ensures becomes { Becomes number None frames.old.entries frames.new.entries }
+    ensures page { result
+        ≡ option_map (λ (f : Frame). f.page) (frame_at frames.old.entries number) }
     ensures cap { frames.new.cap ≡ frames.old.cap }
 {
     prove!(frames.len() < usize::MAX);
-    let _ = frames.pop(&number);
+    match frames.pop(&number) {
+        Some(frame) => Some(frame.page),
+        None => None,
+    }
 }
 
 /// Keeps a clean frame of a number that has none. If there is no room, the last one goes, which is

@@ -8,7 +8,7 @@ move_home-requires c = record { room = has_room _ _ _ _ c.args.self.now.sound c.
 
 pub invariant_of-self : goal.invariant_of-self
 invariant_of-self c =
-    let frame : Frame = record { page = c.args.page; waits = Some c.args.waits } in
+    let frame : Frame = record { page = c.args.page; waits = Some c.later_of.result } in
     record {
       cap = c.set_frame.ensures.cap ∙ c.args.self.now.cap;
       sound = sound_after c.args.home c.group_at-old.ensures.width (Some frame) _ _ _ _ _ _ _ _ _ _ _ c.home_number-number.ensures.value c.set_frame.ensures.becomes c.group_at-old.ensures.value refl c.move_home.ensures.moves c.move_home.ensures.capacity c.args.self.now.sound;
