@@ -1,6 +1,7 @@
 //! Pages that are kept in memory. A row has calls on a new cache: `keep:2:70:5` keeps page 70 of
 //! volume 2 with mark 5 at its end, `write:2:70:6:9` writes it for group 9, `show:2:70` shows its
-//! mark, `drop:2:70` forgets it, and `flush:9` writes the next home that is durable by that group.
+//! mark, `waits:2:70` the group that it waits for, `drop:2:70` forgets it and shows the mark of the
+//! page that is handed back, and `flush:9` writes the next home that is durable by that group.
 //! `fill:2` fills the cache with the pages of volume 1 and writes the first two.
 
 use crate::callers::write_and_show;
@@ -101,6 +102,23 @@ pub fn forget(cache: &mut PageCache, home: &Home) {
     }
 }
 
+/// The mark of the page that a home's frame hands back as it is forgotten.
+fn drop_frame(alloc: Global, cache: &mut PageCache, home: &Home) -> Result<String> {
+    if !cache.is_kept(*home) {
+        return shown_mark(alloc, None);
+    }
+    let page = cache.drop_frame(*home);
+    shown_mark(alloc, Some(mark_of(&page)))
+}
+
+/// The group that a home's frame waits for.
+fn waits(alloc: Global, cache: &PageCache, home: &Home) -> Result<String> {
+    match cache.waits(*home) {
+        Some(group) => Ok(format!(in alloc; "{group}")?),
+        None => Ok(String::from_str(alloc, "none")?),
+    }
+}
+
 pub fn shown_mark(alloc: Global, mark: Option<u8>) -> Result<String> {
     match mark {
         Some(mark) => Ok(format!(in alloc; "{mark}")?),
@@ -154,6 +172,8 @@ fn answer(alloc: Global, cache: &mut PageCache, word: &str, rest: &str) -> Resul
             let mark = cache.frame(told_by(rest)?.home).map(mark_of);
             shown_mark(alloc, mark)
         }
+        "waits" => waits(alloc, cache, &told_by(rest)?.home),
+        "drop" => drop_frame(alloc, cache, &told_by(rest)?.home),
         "write-first" => write_first(alloc, cache, &told_by(rest)?),
         "flush" => flush(alloc, cache, rest.parse()?),
         "dirty" => Ok(format!(in alloc; "{}", cache.dirty())?),
@@ -170,7 +190,6 @@ fn is_done(alloc: Global, cache: &mut PageCache, word: &str, rest: &str) -> Resu
             keep(alloc, cache, &home, mark)?;
         }
         "write" => write(alloc, cache, &told_by(rest)?)?,
-        "drop" => forget(cache, &told_by(rest)?.home),
         "fill" => fill(alloc, cache, rest.parse()?)?,
         _ => return Ok(false),
     }

@@ -7,8 +7,8 @@ use Rattle.storage_tables.proofs.callers.write_and_show.Goals as goal
 
 pub returns-in-Some : goal.returns-in-Some
 returns-in-Some c =
-    let page = same_Some _ _ (c.in-Some.ensures.page ∙ shown c.args.home.now c.args.page (Some c.args.waits) _ _ c.write.ensures.frames) in
+    let page = same_Some _ _ (c.in-Some.ensures.page ∙ shown c.args.home.now c.args.page _ _ _ c.write.ensures.frames) in
     ap (λ (l : List ℕ). Some (slice_index l 0)) (c.bytes.ensures.value ∙ page)
 
 pub returns-in-None : goal.returns-in-None
-returns-in-None c = absurd (false≢true (ap is_some (c.in-None.ensures.page ∙ shown c.args.home.now c.args.page (Some c.args.waits) _ _ c.write.ensures.frames)))
+returns-in-None c = absurd (false≢true (ap is_some (c.in-None.ensures.page ∙ shown c.args.home.now c.args.page _ _ _ c.write.ensures.frames)))
