@@ -15,7 +15,7 @@ use std::alloc::{AllocError, Global};
 pub struct Call {
     pub words: Vec<String>,
     pub script: Vec<u8>,
-    /// The calls of the source and of the sink that are refused.
+    /// Which calls of the source and of the sink are refused.
     pub source_fails: Vec<u64>,
     pub sink_fails: Vec<u64>,
 }
@@ -42,7 +42,8 @@ fn told(alloc: Global, status: Status, sink: &MemorySink) -> Result<Vec<u8>, All
 
 /// How a run ends over a rack, and the rack after it.
 fn ended(alloc: Global, rack: MemoryRack, call: Call) -> Result<(MemoryRack, Outcome), AllocError>
-    requires { IfOk (form_of (map string_bytes call.words.items)) (FitsForm (memory_disk rack).sizes) }
+    requires { let form = form_of (map string_bytes call.words.items) in
+        IfOk form (FitsForm (memory_disk rack).sizes) }
 {
     let before = rack.calls();
     let gate = Recorder::new();
@@ -58,8 +59,8 @@ fn ended(alloc: Global, rack: MemoryRack, call: Call) -> Result<(MemoryRack, Out
     Ok((rack, outcome))
 }
 
-/// How a call ends, over a new domain where it asks for one and else over an image, and the image
-/// after it.
+/// How a call ends, over a new domain if it asks for one or else over an image, and the image after
+/// it.
 pub fn run_on(alloc: Global, image: Image, call: Call) -> Result<(Image, Outcome), AllocError> {
     if let Ok(Form::Try { pages }) = form_asked(&call.words) {
         let (_, outcome) = ended(alloc, new_rack(alloc, pages)?, call)?;

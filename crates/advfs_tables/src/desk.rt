@@ -8,14 +8,14 @@ use std::alloc::{AllocError, Global};
 pub struct Desk {
     /// What is to be printed.
     pub text: Vec<u8>,
-    /// The script of the next call, and the calls of its source and of its sink that are refused.
+    /// The script of the next call, and which calls of its source and of its sink are refused.
     pub draft: Draft,
     pub source_fails: Vec<u64>,
     pub sink_fails: Vec<u64>,
     /// The script that the last call was given, and how it came out.
     pub script: Vec<u8>,
     pub last: Outcome,
-    /// What the image held when it was kept as one to begin with, and when it was last looked at.
+    /// What the image held when it was kept, and when it was last looked at.
     pub kept: Vec<u8>,
     pub before: Vec<u8>,
     /// How many calls a rack had had, or a run had made, when that was noted.

@@ -42,7 +42,7 @@ fn fits_screen(text: &str) -> bool {
     true
 }
 
-/// Prints the version, and with what words the help begins and ends, where it fits on a screen.
+/// Prints the version, whether the help is too large for a screen, and how it begins and ends.
 pub fn shape(desk: &mut Desk) -> Result<(), AllocError> {
     desk.say(VERSION.trim_end())?;
     if !fits_screen(HELP) {

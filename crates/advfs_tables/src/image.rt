@@ -13,13 +13,13 @@ pub struct Image {
     ghost one: { length (memory_disk rack).sizes ≡ 1 },
 }
 
-/// One with so many pages of zeros, of which these calls fail.
+/// An image of so many pages of zeros; these calls of its rack fail.
 pub fn zeros(alloc: Global, pages: u32, fails: &[u64]) -> Result<Image, AllocError> {
     let rack = MemoryRack::new(alloc, &[pages], fails, false)?;
     Ok(Image { rack })
 }
 
-/// The image on a rack, or a small one of zeros where that has not one volume.
+/// The image on a rack, or a small one of zeros if the rack has not exactly one volume.
 pub fn image_on(alloc: Global, rack: MemoryRack) -> Result<Image, AllocError> {
     if rack.volumes() == 1 {
         Ok(Image { rack })
@@ -28,7 +28,7 @@ pub fn image_on(alloc: Global, rack: MemoryRack) -> Result<Image, AllocError> {
     }
 }
 
-/// Whether a block is one of a volume's.
+/// Whether a volume has a block.
 fn is_there(rack: &MemoryRack, vol: VolIx, block: u32) -> bool
     ensures { result ≡ true → AreBlocks (memory_disk rack.now) vol block 512 }
 {
@@ -36,7 +36,7 @@ fn is_there(rack: &MemoryRack, vol: VolIx, block: u32) -> bool
     vol.number() <= rack.volumes() && end <= 8_192 * u64::from(rack.pages(vol))
 }
 
-/// The image, and what a block of it holds; zeros where it has not that block.
+/// The image, and what a block of it holds; zeros if it has no such block.
 fn block_of(image: Image, block: u32) -> (Image, [u8; 512]) {
     let Image { mut rack, .. } = image;
     let mut bytes = [0; 512];
@@ -48,7 +48,7 @@ fn block_of(image: Image, block: u32) -> (Image, [u8; 512]) {
     (Image { rack }, bytes)
 }
 
-/// The image with these bytes in a block, if it has that, and if they are 512.
+/// The image with these bytes in a block, if it has that block and there are 512 of them.
 fn with_block(image: Image, block: u32, bytes: &[u8]) -> Image {
     let Image { mut rack, .. } = image;
     if let Some(vol) = VolIx::new(1) {
@@ -59,7 +59,7 @@ fn with_block(image: Image, block: u32, bytes: &[u8]) -> Image {
     Image { rack }
 }
 
-/// The image with four zeros where a page begins.
+/// The image with four zeros at the start of a page.
 pub fn harmed(image: Image, page: u32) -> Image {
     let block = page.saturating_mul(16);
     let (image, mut bytes) = block_of(image, block);
@@ -67,7 +67,7 @@ pub fn harmed(image: Image, page: u32) -> Image {
     with_block(image, block, &bytes)
 }
 
-/// The image with one byte turned over of the first ones of a page.
+/// The image with one of the first bytes of a page flipped.
 pub fn flipped(image: Image, page: u32, at: u8) -> Image {
     let block = page.saturating_mul(16);
     let (image, mut bytes) = block_of(image, block);
@@ -98,7 +98,7 @@ pub fn bytes_of(alloc: Global, image: Image) -> Result<(Image, Vec<u8>), AllocEr
     Ok((image, all))
 }
 
-/// An image of so many pages that begins with these bytes, as many as it has room for.
+/// An image of so many pages that begins with as many of these bytes as it has room for.
 pub fn image_with(alloc: Global, pages: u32, bytes: &[u8]) -> Result<Image, AllocError> {
     let mut image = zeros(alloc, pages, &[])?;
     let mut block: u32 = 0;

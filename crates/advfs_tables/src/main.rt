@@ -1,6 +1,6 @@
 //! Whole runs of the program in tables of text: standard input has scripts, images and the calls on
-//! them, and what each call ends with and prints is printed. What a line means tells its first byte:
-//! see `sheet`.
+//! them, and for each call its status and what it prints are printed. The first byte of a line
+//! tells what the line means: see `sheet`.
 #![tactic(auto)]
 
 mod calls;

@@ -31,7 +31,7 @@ fn section_history(alloc: Global, section: Section) -> Result<Vec<u8>, AllocErro
     Ok(history)
 }
 
-/// How the run of a script has to end that has one section; None where it is no script.
+/// How the run of a script with one section has to end; None if it is no script.
 pub fn told(alloc: Global, script: &[u8]) -> Result<Option<Vec<u8>>, AllocError> {
     let Ok(script) = read_script(alloc, script) else {
         return Ok(None);

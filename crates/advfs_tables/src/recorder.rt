@@ -10,14 +10,14 @@ pub struct Recorder {
 }
 
 impl Recorder {
-    /// One that nobody has passed: its digits come behind a 9.
+    /// One that nobody has passed: a 9, which the digits follow.
     pub fn new() -> Recorder {
         Recorder {
             digits: AtomicU64::new(9),
         }
     }
 
-    /// The digits, behind a 9, of all that passed.
+    /// A 9, and then the digits of all that passed.
     pub fn digits(&self) -> u64 {
         self.digits.load(Ordering::Relaxed)
     }

@@ -1,4 +1,4 @@
-//! Scripts that are written down line by line, also with lines that stand there many times.
+//! Scripts that are written line by line, also with lines that are repeated many times.
 use std::alloc::{AllocError, Global};
 
 /// How often lines are repeated, and the number that each time has.
@@ -10,7 +10,7 @@ pub struct Times {
 }
 
 impl Times {
-    /// The number of one of the times, of which the first is 0.
+    /// The number that the lines have at one of the times, counted from 0.
     fn number(self, time: u32) -> u64 {
         self.first
             .saturating_add(self.step.saturating_mul(u64::from(time)))
@@ -25,7 +25,7 @@ pub struct Draft {
     lines: Vec<String>,
 }
 
-/// Adds a line, which has this number for each `@`.
+/// Adds a line with this number in the place of each `@`.
 fn push_line(
     alloc: Global,
     bytes: &mut Vec<u8>,

@@ -1,16 +1,16 @@
 //! The lines of a table of runs, by their first bytes.
 //!
-//! - `# TEXT`: a heading. An empty line is none.
-//! - two spaces: a line of the script that the next call is given.
-//! - `@ WORDS`: something else of that script: `@ times COUNT FIRST STEP` up to `@ end` repeats lines,
-//!   which have numbers for each `@` in them.
-//! - `: WORDS`: sets the image, or which calls are refused of the next run's source and sink.
-//! - `> WORDS`: a call of the program with these words, `""` for an empty one. Printed is the status
-//!   in which it ends with its number, and what it prints.
-//! - `- WORDS`: the same, of which nothing is printed.
-//! - `= WORDS`: prints something of the last call, or of the image.
+//! - `# TEXT`: a heading. Empty lines are skipped.
+//! - two spaces: a line of the script for the next call.
+//! - `@ WORDS`: changes that script: the lines from `@ times COUNT FIRST STEP` to `@ end` are
+//!   repeated, each time with another number for each `@` in them.
+//! - `: WORDS`: sets the image, or which calls of the next run's source and sink are refused.
+//! - `> WORDS`: calls the program with these words, `""` for an empty one, and prints the status in
+//!   which it ends, the number of that status, and what the program prints.
+//! - `- WORDS`: calls the program and prints nothing.
+//! - `= WORDS`: prints something about the last call or the image.
 //!
-//! Lines are printed, too, but for those of scripts.
+//! Lines are printed too, except those of scripts.
 use crate::calls::{Call, run_on};
 use crate::desk::Desk;
 use crate::image::{Image, bytes_of, flipped, harmed, image_with, text_image, zeros};
@@ -20,12 +20,12 @@ use advfs_run::{Rack, zeros as zero_bytes};
 use std::alloc::{AllocError, Global};
 use std::str::SplitWhitespace;
 
-/// The next word as a number, 0 where it is none.
+/// The next word as a number, or 0 if it is no number.
 fn number(words: &mut SplitWhitespace<'_>) -> u64 {
     words.next().unwrap_or("").parse::<u64>().unwrap_or(0)
 }
 
-/// The same as one of 32 bits.
+/// The next word as a number of 32 bits.
 fn small_number(words: &mut SplitWhitespace<'_>) -> u32 {
     u32::try_from(number(words)).unwrap_or(u32::MAX)
 }
@@ -64,15 +64,15 @@ fn called(alloc: Global, desk: &mut Desk, image: Image, words: &str) -> Result<I
     Ok(image)
 }
 
-/// The same, and prints how it came out.
+/// Does what a call of these words asks for, and prints how it came out.
 fn shown(alloc: Global, desk: &mut Desk, image: Image, words: &str) -> Result<Image, AllocError> {
     let image = called(alloc, desk, image, words)?;
     desk.text.extend_from_slice(desk.last.told.as_slice())?;
     Ok(image)
 }
 
-/// A new image of zeros. The number behind its pages, if any, is that of a call that fails, or how
-/// many come behind that before the last one that was noted.
+/// A new image of zeros. A number after its pages is that of a call that fails; after `last` it
+/// counts back from the last call that was noted.
 fn new_image(
     alloc: Global,
     noted: u64,
@@ -86,28 +86,28 @@ fn new_image(
     }
 }
 
-/// One byte of a page is turned over.
+/// The image with one byte of a page flipped.
 fn turned_over(image: Image, words: &mut SplitWhitespace<'_>) -> Image {
     let page = small_number(words);
     let at = number(words);
     flipped(image, page, (at % 256) as u8)
 }
 
-/// The image, and all that it holds, which is kept as one to begin with.
+/// Keeps what the image holds, for images that begin with it.
 fn kept(alloc: Global, desk: &mut Desk, image: Image) -> Result<Image, AllocError> {
     let (image, kept) = bytes_of(alloc, image)?;
     desk.kept = kept;
     Ok(image)
 }
 
-/// The same, which is looked at to see what changes.
+/// Looks at what the image holds, to see later what has changed.
 fn seen(alloc: Global, desk: &mut Desk, image: Image) -> Result<Image, AllocError> {
     let (image, before) = bytes_of(alloc, image)?;
     desk.before = before;
     Ok(image)
 }
 
-/// The image with a setting of it.
+/// Does what a setting says, and gives the image that there is then.
 fn set(alloc: Global, desk: &mut Desk, image: Image, setting: &str) -> Result<Image, AllocError> {
     let mut words = setting.split_whitespace();
     match words.next().unwrap_or("") {
@@ -192,7 +192,7 @@ fn looked_at(
     Ok(image)
 }
 
-/// Does what a line says that is none of a script, and gives the image that there is then.
+/// Does what a line outside scripts says, and gives the image that there is then.
 fn done(
     alloc: Global,
     desk: &mut Desk,

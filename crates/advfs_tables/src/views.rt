@@ -6,14 +6,13 @@ use advfs_run::limits::PAGE_BYTES;
 use std::alloc::{AllocError, Global};
 use std::str::SplitWhitespace;
 
-/// How many pages two images have that are not the same.
+/// How many pages differ between two images.
 fn count_changed(before: &[u8], after: &[u8]) -> usize {
     let pages = before.chunks(PAGE_BYTES).zip(after.chunks(PAGE_BYTES));
     pages.filter(|(old, new)| old != new).count()
 }
 
-/// Prints whether so many pages changed of the image since it was looked at, else how
-/// many.
+/// Prints that so many pages of the image changed since it was looked at, or else how many did.
 pub fn looked_at_image(
     alloc: Global,
     desk: &mut Desk,
@@ -70,7 +69,7 @@ fn begins(desk: &mut Desk, word: &str) -> Result<(), AllocError> {
     desk.say(if is_word { "yes" } else { "no" })
 }
 
-/// Prints the word of the status in which the last call ended, and the line behind that.
+/// Prints the word of the status in which the last call ended, and the line after it.
 fn first(alloc: Global, desk: &mut Desk) -> Result<(), AllocError> {
     let mut text = Vec::new(alloc);
     let mut lines = desk.last.told.split(|byte| *byte == b'\n');
@@ -83,7 +82,7 @@ fn first(alloc: Global, desk: &mut Desk) -> Result<(), AllocError> {
     desk.text.extend_from_slice(text.as_slice())
 }
 
-/// Prints whether the plain program answers what the last call printed.
+/// Prints whether the plain program gives the answers that the last call printed.
 fn compared(alloc: Global, desk: &mut Desk) -> Result<(), AllocError> {
     let is_same = match plain::told(alloc, desk.script.as_slice())? {
         Some(told) => told.as_slice() == desk.last.told.as_slice(),
@@ -92,7 +91,7 @@ fn compared(alloc: Global, desk: &mut Desk) -> Result<(), AllocError> {
     desk.say(if is_same { "yes" } else { "no" })
 }
 
-/// Prints how many calls more the last run made than what was noted.
+/// Prints how many more calls the last run made than were noted.
 fn more(alloc: Global, desk: &mut Desk) -> Result<(), AllocError> {
     let (calls, noted) = (desk.last.calls, desk.noted);
     let line = if calls < noted {

@@ -3,9 +3,10 @@
 //! - `# TEXT`: a heading, at which filesets begin anew.
 //! - `c1 COMMAND`: a command of a client over the filesets.
 //! - `mark CLONE ORIGINAL PATHS`: marks what stands at these paths of a clone as out of sync.
-//! - `sizes PAGES`: the pages of the volumes of a rack; `members LINES`: members, as `showfdmn` shows
-//!   them; `m COMMAND`: a command on volumes, as these answer it; `log VOLUME`: whether a domain with
-//!   its log there may show these members.
+//! - `sizes PAGES`: the pages of the volumes of a rack.
+//! - `members LINES`: members, as `showfdmn` shows them.
+//! - `m COMMAND`: a command on volumes, as these answer it.
+//! - `log VOLUME`: whether a domain with its log there may show these members.
 //! - `extents RUNS`: whether these, as `showfile` shows them, are a file with the pages 0, 1 and 5.
 //!
 //! Headings and settings are printed, and commands with their replies.
@@ -31,7 +32,7 @@ fn numbers(alloc: Global, words: &str) -> Result<Vec<u32>, AllocError> {
     Ok(all)
 }
 
-/// The answer to a question, behind its line.
+/// The answer to a question, as it is printed after its line.
 fn said(answer: bool) -> &'static str {
     if answer { " -> yes" } else { " -> no" }
 }
@@ -60,7 +61,7 @@ impl Desk {
         self.text.as_slice()
     }
 
-    /// Does what a line says that is none of a command, and gives the line.
+    /// Does what a line says that has no command, and gives the line.
     fn set(&mut self, alloc: Global, line: &str) -> Option<Vec<u8>> {
         let (word, words) = line.split_once(' ')?;
         match word {
@@ -92,7 +93,7 @@ impl Desk {
         }
     }
 
-    /// Reads a line; one that is not read is told as such.
+    /// Reads a line; a line that cannot be read is reported.
     pub fn read(&mut self, alloc: Global, line: &str) -> Result<(), AllocError> {
         if line.is_empty() {
             return Ok(());

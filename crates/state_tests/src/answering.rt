@@ -26,8 +26,7 @@ fn answered_with<R: Rack + Drop, O: Opening>(
     domain
 }
 
-/// Makes room in the history for a command, and answers it; where memory is short nothing is
-/// answered.
+/// Makes room in the history for a command, and answers it; if memory is short nothing is answered.
 fn answered_if_room<R: Rack + Drop, O: Opening>(
     domain: Domain<R, O>,
     alloc: Global,
@@ -47,8 +46,8 @@ fn answered_if_room<R: Rack + Drop, O: Opening>(
     }
 }
 
-/// Answers a command, and ends its event; where memory is short nothing is answered, nor where it
-/// is none of those that are answered so far.
+/// Answers a command, and ends its event. Nothing is answered if memory is short, or if it is no
+/// command that is answered so far.
 pub fn answered<R: Rack + Drop, O: Opening>(
     domain: Domain<R, O>,
     alloc: Global,

@@ -34,7 +34,7 @@ fn closed<R: Rack + Drop, O: Opening>(
     }
 }
 
-/// Puts the name of a fileset behind others; a hyphen for one that is being removed.
+/// Puts the name of a fileset after others; a hyphen for one that is being removed.
 fn push_name(item: &SlotItem, names: &mut Vec<u8>) -> Result<(), Fail> {
     match item {
         SlotItem::Free => {}
@@ -86,7 +86,7 @@ fn again(alloc: Global, version: Version, lines: &[&str]) -> Result<Attached<Mem
     }
 }
 
-/// The names of the filesets that a domain has which is attached again after these commands.
+/// The names of the filesets of a domain that is attached again after these commands.
 fn names_again(alloc: Global, version: Version, lines: &[&str]) -> Result<Vec<u8>, Fail> {
     names_kept::<MemoryRack, Brand>(alloc, again(alloc, version, lines)?)
 }
@@ -101,7 +101,7 @@ static NAMED: [Named; 4] = [
     (&["mkfset a", "rmfset a", "mkfset a"], b"-a"),
 ];
 
-/// Which rows have other names in a domain of this version, by their place.
+/// Which rows give other names in a domain of this version, by their place.
 fn wrong_rows(alloc: Global, version: Version) -> Result<String, Fail> {
     let mut wrong = String::new(alloc);
     for (place, (lines, names)) in NAMED.iter().enumerate() {

@@ -47,8 +47,8 @@ fn opened<R: Rack + Drop, O: Opening>(alloc: Global, attached: Attached<R>) -> S
 /// What comes of a domain that is made on a volume of zeros and opened.
 #[derive(Debug, PartialEq, Eq, Drop)]
 enum Outcome {
-    /// It has so many entries, as many are told, and so many of them last; its last one has as its
-    /// stamp how many calls the rack has had, which are some; and recovery finds a domain with this
+    /// It has so many entries; so many are committed, and so many are durable. The stamp of its
+    /// last one is how many calls the rack has had, at least one. Recovery finds a domain with this
     /// table page on its rack.
     Opened {
         entries: usize,
@@ -164,7 +164,7 @@ fn looks_of<R: Rack, O: Opening>(
     }
 }
 
-/// Begins the history of a domain, and looks at it before and behind a fileset that is made in it.
+/// Begins the history of a domain, and looks at it before and after a fileset is made in it.
 fn looked_at<R: Rack + Drop, O: Opening>(
     alloc: Global,
     attached: Attached<R>,

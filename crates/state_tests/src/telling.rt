@@ -7,7 +7,7 @@ use client_commands::{Domain, Opening, Rack, Told};
 use script_text::read_script;
 use std::alloc::Global;
 
-/// The command that a line of a script has; none where memory is short, too.
+/// The command that a line of a script has; none also if memory is short.
 fn command_in(alloc: Global, line: &str) -> Option<Command> {
     let mut text = Vec::new(alloc);
     text.extend_from_slice(b"client 1\n").ok()?;

@@ -1,4 +1,4 @@
-//! Writes to a file of more pages than the bytes of a script lie in.
+//! Writes to a file of more pages than a script can name the bytes of.
 ghost use Rattle.std.specs.Prelude.{◌≡◌};
 ghost use Rattle.client_commands.specs.page_ways.Frame.{frame_in};
 ghost use Rattle.client_commands.specs.staged_pages.Store.{before_of};
@@ -53,7 +53,7 @@ fn write_of(alloc: Global, pages: usize) -> Result<Command, OutOfMemory> {
     })
 }
 
-/// Answers that write; where memory is short nothing is answered.
+/// Answers that write; if memory is short nothing is answered.
 fn told_write<R: Rack + Drop, O: Opening>(
     domain: Domain<R, O>,
     alloc: Global,
@@ -87,7 +87,7 @@ fn written<R: Rack + Drop, O: Opening>(alloc: Global, attached: Attached<R>, pag
     }
 }
 
-/// What that is answered in a domain that was just made, of which 379 pages are free.
+/// What that write is answered in a new domain with 379 free pages.
 fn made_and_written(alloc: Global, pages: usize) -> Result<Answer, Fail> {
     let rack = MemoryRack::new(alloc, &[512], &[], false)?;
     if rack.volumes() != 1 {
@@ -99,7 +99,7 @@ fn made_and_written(alloc: Global, pages: usize) -> Result<Answer, Fail> {
     }
 }
 
-/// At most 24 pages more are held behind a command.
+/// At most 24 more pages are held after a command.
 #[test]
 fn a_write_takes_24_pages_at_most(rt: HostRuntime) -> Result<(), Fail> {
     let alloc = rt.alloc();
