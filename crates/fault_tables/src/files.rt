@@ -34,7 +34,7 @@ fn tag(slot: u32) -> Tag {
     Tag { slot, seq: 1 }
 }
 
-/// The slot behind an `@`, as the tag of the directory in which a file or directory is said to
+/// The slot after an `@`, as the tag of the directory in which a file or directory is said to
 /// stand.
 fn parent_of(kind: &mut Words) -> Option<Tag> {
     if kind.is_at_end() {
@@ -45,7 +45,7 @@ fn parent_of(kind: &mut Words) -> Option<Tag> {
 }
 
 /// A file or directory: its slot, its kind, the slot of the directory that it says to stand in,
-/// behind an `@`, and the pages at which its pages stand. Its first cell stands on the page of its
+/// after an `@`, and the pages at which its pages stand. Its first cell stands on the page of its
 /// slot and 300 more. It has one link, or two where its kind is said with a 2, and a wrong size
 /// where it is said with a gap.
 pub(crate) fn file_of(alloc: Global, line: &str) -> Result<FileThere, NotRead> {

@@ -49,7 +49,7 @@ fn spans_of(alloc: Global, words: &mut Words) -> Result<Vec<Span>, NotRead> {
 }
 
 /// Whether the page of the bitmap is wrong, where it is that of a volume of so many pages from a
-/// page on, and the pages behind these words are owned.
+/// page on, and the pages after these words are owned.
 fn has_bit_fault(alloc: Global, words: &mut Words, given: &Given) -> Result<bool, NotRead> {
     let (pages, first) = (words.number(' '), words.number(' '));
     let mut owned = SpanSet::new(alloc);

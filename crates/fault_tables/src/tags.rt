@@ -3,7 +3,8 @@ use crate::cells::links_of;
 use crate::given::Given;
 use image_lines::{NotRead, directory_faults, entry_faults, unnamed_quota_faults};
 use index_row_faults::{
-    HomeSet, OutOfMemory, bitmap_faults, extent_faults, index_page_faults, tags_faults,
+    HomeSet, OutOfMemory, bitmap_faults, extent_faults, index_page_faults, read_links, read_tables,
+    tags_faults,
 };
 use std::alloc::Global;
 
@@ -12,14 +13,15 @@ fn directories(alloc: Global, given: &Given) -> Result<HomeSet, OutOfMemory> {
 }
 
 fn entries(alloc: Global, given: &Given) -> Result<HomeSet, OutOfMemory> {
-    let links = links_of(alloc, given)?;
-    entry_faults(
-        alloc,
-        &given.image.pages,
-        &given.frame,
-        &given.table,
-        &links,
-    )
+    let Given {
+        image,
+        frame,
+        table,
+        ..
+    } = given;
+    let tables = read_tables(alloc, &image.pages, frame)?;
+    let links = read_links(alloc, &image.pages, frame, &tables)?;
+    entry_faults(alloc, &image.pages, frame, table, &links)
 }
 
 fn quotas(alloc: Global, given: &Given) -> Result<HomeSet, OutOfMemory> {

@@ -36,7 +36,7 @@ pub fn image_of(alloc: Global, table: &str, name: &str) -> Result<Image, NotRead
     Ok(image)
 }
 
-/// Tells a row and its answer: one line behind the row, or several lines below it.
+/// Tells a row and its answer: one line after the row, or several lines below it.
 fn push_answer(told: &mut String, row: &str, answer: &str) -> Result<(), NotRead> {
     let answer = answer.trim();
     let answer = if answer.is_empty() { "none" } else { answer };
@@ -51,7 +51,7 @@ fn push_answer(told: &mut String, row: &str, answer: &str) -> Result<(), NotRead
     Ok(())
 }
 
-/// The answer of a row: behind a colon stand the lines that change its image.
+/// The answer of a row: after a colon stand the lines that change its image.
 fn answer<A: Asking>(alloc: Global, asking: &A, table: &str, row: &str) -> Result<String, NotRead> {
     let (front, lines) = row.split_once(": ").unwrap_or((row, ""));
     let mut words = Words::new(front);

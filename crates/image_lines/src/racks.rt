@@ -1,4 +1,4 @@
-//! Racks in memory on which an image stands: with the labels of its members, its anchor behind an
+//! Racks in memory on which an image stands: with the labels of its members, its anchor after an
 //! open gate, and the gates of the log as the image has them.
 ghost use Rattle.std.specs.Prelude.{IsTrue};
 ghost use Rattle.page_faults.specs.log_ring.Homes.{HasMembers};
@@ -50,7 +50,7 @@ pub fn frame_of(image: &Image) -> DomainFrame {
 /// The blocks of a page.
 const PAGE_BLOCKS: u32 = 16;
 
-/// Puts numbers of four bytes behind bytes.
+/// Appends numbers of four bytes to bytes.
 fn push_words(bytes: &mut Vec<u8>, words: &[u32]) -> Result<(), NotRead> {
     for word in words {
         bytes.extend_from_slice(&word.to_le_bytes())?;
@@ -119,7 +119,7 @@ fn add_label(alloc: Global, image: &mut Image, vol: VolIx) -> Result<(), NotRead
     set(&mut image.pages, &Home { vol, page: 0 }, 0, &bytes)
 }
 
-/// Writes the anchor behind an open gate.
+/// Writes the anchor after an open gate.
 fn add_anchor(alloc: Global, image: &mut Image) -> Result<(), NotRead> {
     let vol = VolIx::new(image.anchor.log_vol).ok_or(NotRead::Malformed)?;
     let bytes = anchor_bytes(alloc, &image.anchor)?;

@@ -4,7 +4,7 @@ use crate::pen::{put, put_number};
 use crate::words::Words;
 use page_faults::Page;
 
-/// Where a number of the attributes stands behind the beginning of their record.
+/// How far a number of the attributes stands from the beginning of their record.
 fn place_of(name: &str) -> Option<usize> {
     match name {
         "uid" => Some(8),

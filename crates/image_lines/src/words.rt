@@ -52,25 +52,25 @@ impl<'a> Words<'a> {
         found.unwrap_or(none)
     }
 
-    /// A number up to the next one of these signs.
+    /// A number of one byte up to the next one of these signs.
     pub fn byte(&mut self, sign: char) -> u8 {
         let word = self.until(sign);
         self.found(word.parse().ok(), 0)
     }
 
-    /// The same of two bytes.
+    /// A number of two bytes up to the next one of these signs.
     pub fn short(&mut self, sign: char) -> u16 {
         let word = self.until(sign);
         self.found(word.parse().ok(), 0)
     }
 
-    /// The same of four bytes.
+    /// A number of four bytes up to the next one of these signs.
     pub fn number(&mut self, sign: char) -> u32 {
         let word = self.until(sign);
         self.found(word.parse().ok(), 0)
     }
 
-    /// The same of eight bytes.
+    /// A number of eight bytes up to the next one of these signs.
     pub fn long(&mut self, sign: char) -> u64 {
         let word = self.until(sign);
         self.found(word.parse().ok(), 0)

@@ -3,7 +3,7 @@ use domain_attaching::{FaultRow, faults};
 use image_lines::{Image, NotRead};
 use std::alloc::Global;
 
-/// Puts faults behind a text: a line with the code, the volume and the page of each.
+/// Appends faults to a text: a line with the code, the volume and the page of each.
 pub(crate) fn push_rows(
     alloc: Global,
     text: &mut String,

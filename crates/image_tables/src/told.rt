@@ -7,7 +7,7 @@ use std::alloc::Global;
 /// The pages of a file at most.
 const FILE_PAGES: u64 = 65_536;
 
-/// Puts the letters of bytes behind a text, up to the first zero.
+/// Appends the letters of bytes to a text, up to the first zero.
 fn push_letters(text: &mut String, bytes: &[u8]) -> Result<(), NotRead> {
     for byte in bytes {
         if *byte == 0 {
@@ -18,7 +18,7 @@ fn push_letters(text: &mut String, bytes: &[u8]) -> Result<(), NotRead> {
     Ok(())
 }
 
-/// Puts the pages of a file behind a text: the number of each, and the letters with which it
+/// Appends the pages of a file to a text: the number of each, and the letters with which it
 /// begins.
 fn push_pages(alloc: Global, text: &mut String, pages: &PageMap) -> Result<(), NotRead> {
     for number in &pages.numbers(alloc)? {
@@ -33,7 +33,7 @@ fn push_pages(alloc: Global, text: &mut String, pages: &PageMap) -> Result<(), N
     Ok(())
 }
 
-/// Puts what a path leads to behind a text.
+/// Appends to a text what stands at the end of a path.
 fn push_node(alloc: Global, text: &mut String, node: &Node) -> Result<(), NotRead> {
     match node {
         Node::File {
@@ -56,7 +56,7 @@ fn push_node(alloc: Global, text: &mut String, node: &Node) -> Result<(), NotRea
     }
 }
 
-/// Puts a path behind a text.
+/// Appends a path to a text.
 fn push_path(text: &mut String, path: &Path) -> Result<(), NotRead> {
     if path.as_slice().is_empty() {
         text.push('/')?;
@@ -76,7 +76,7 @@ fn is_lost(slot: &FilesetSlot, path: &Path) -> bool {
         .is_some_and(|number| slot.role.is_out_of_sync(number))
 }
 
-/// Puts what a path leads to behind a text, or the earlier path that leads there.
+/// Appends to a text what a path leads to, or the earlier path that leads there.
 fn push_target(
     alloc: Global,
     text: &mut String,
@@ -112,8 +112,7 @@ fn path_below(alloc: Global, parent: &Path, name: Name) -> Result<Path, NotRead>
     Ok(Path::from_vec(names))
 }
 
-/// Puts the lines of all paths of a fileset behind a text, each directory ahead of what is below
-/// it.
+/// Appends the lines of all paths of a fileset to a text, each directory before what is below it.
 fn push_paths(alloc: Global, text: &mut String, slot: &FilesetSlot) -> Result<(), NotRead> {
     let mut told: Vec<Path> = Vec::new(alloc);
     let mut to_tell = Vec::new(alloc);
@@ -135,7 +134,7 @@ fn push_paths(alloc: Global, text: &mut String, slot: &FilesetSlot) -> Result<()
     Ok(())
 }
 
-/// Puts the limits of an owner behind a text, if there are some.
+/// Appends the limits of an owner to a text, if there are some.
 fn push_limits(
     alloc: Global,
     text: &mut String,

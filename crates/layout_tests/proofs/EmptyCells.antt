@@ -61,7 +61,7 @@ other_cells n within =
     let e : 16 + 292 * suc n ≡ 52 + (256 + 292 * n) = omega arith in
     ap (λ at. take 292 (drop at cells_page)) e ∙ part_behind cells_front (256 + 292 * n) 292 8140 (omega (arith, within))
 
--- the cells behind the first one
+-- the cells after the first one
 behind_first : ℕ → Bool
 behind_first zero = false
 behind_first (suc n) = true

@@ -107,7 +107,7 @@ first_cell = subst (λ bytes. IsCell bytes volume_cell) (sym first_bytes) says_v
 pub second_cell : IsCell (cell_of cells_page 1) root_cell
 second_cell = subst (λ bytes. IsCell bytes root_cell) (sym second_bytes) says_root
 
--- the cells behind the first two
+-- the cells after the first two
 behind_two : ℕ → Bool
 behind_two zero = false
 behind_two (suc zero) = false

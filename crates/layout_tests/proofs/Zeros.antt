@@ -1,4 +1,4 @@
--- Zeros, and bytes in front of them.
+-- Zeros, and bytes before them.
 use Rattle.std.proofs.Common.{◌≡◌, ◌∙◌, ℕ, zero, suc, ◌+◌, ◌-◌, ◌≤◌, Bool, List, ◌++◌, length, drop, take, count_by, slice_index, refl, sym, ap, arith}
 use Rattle.std.proofs.lemmas.List.{drop-drop, drop-replicate, drop_at, take-replicate, get_or-append-add, get_or-drop}
 use Rattle.byteorder.specs.Endian.{little_from}
@@ -19,7 +19,7 @@ pub first_zeros : (n m : ℕ) → n ≤ m → take n (zero_bytes m) ≡ zero_byt
 unfolding zero_bytes
 first_zeros n m within = take-replicate n m 0 within
 
--- a part of zeros that stand behind other bytes
+-- a part of zeros that stand after other bytes
 pub part_behind : (front : List ℕ) (a n m : ℕ) → a + n ≤ m → take n (drop (length front + a) (front ++ zero_bytes m)) ≡ zero_bytes n
 part_behind front a n m within =
     ap (take n) (sym (drop-drop a (length front) (front ++ zero_bytes m)) ∙ ap (drop a) (drop_at front (zero_bytes m) (length front) refl))
@@ -32,7 +32,7 @@ all_zero : (w i : ℕ) (xs : List ℕ) → ((j : ℕ) → slice_index xs j ≡ 0
 all_zero zero i xs zeros = refl
 all_zero (suc w) i xs zeros = omega (arith, zeros i, all_zero w (suc i) xs zeros)
 
--- a number that stands in zeros behind other bytes
+-- a number that stands in zeros after other bytes
 pub number_behind : (front : List ℕ) (w i m : ℕ) → number_at w (length front + i) (front ++ zero_bytes m) ≡ 0
 unfolding number_at
 number_behind front w i m = all_zero w 0 (drop (length front + i) (front ++ zero_bytes m)) zeros

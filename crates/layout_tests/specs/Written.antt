@@ -14,7 +14,7 @@ use Rattle.domain_making.specs.domain_layout.Reached.{Frame}
 unfoldable pub full_bytes : ℕ → List ℕ
 full_bytes n = replicate n 0xff
 
--- a bitmap page: pages 0 to 127 are used, those of the bits of one byte more, and behind page 511
+-- a bitmap page: pages 0 to 127 are used, those of the bits of one byte more, and after page 511
 -- the volume has none
 abbrev pub bitmap_with : ℕ → List ℕ
 bitmap_with part = full_bytes 16 ++ (part ∷ (zero_bytes 47 ++ full_bytes 8128))
@@ -47,7 +47,7 @@ anchor_front version =
     ∷ 0 ∷ 0 ∷ 0 ∷ 0 ∷ 0 ∷ 0 ∷ 0 ∷ 0 ∷ 0 ∷ 0 ∷ 0 ∷ 0 ∷ 0 ∷ 0 ∷ 0 ∷ 0
     ∷ 0 ∷ 0 ∷ 0 ∷ 0 ∷ 0 ∷ 0 ∷ 0 ∷ 0 ∷ 0 ∷ 0 ∷ 0 ∷ 0 ∷ 0 ∷ 0 ∷ 0 ∷ 0 ∷ []
 
--- an open gate, the anchor, and a closed gate behind which nothing stands
+-- an open gate, the anchor, and a closed gate after which nothing stands
 abbrev pub anchors_page : Version → List ℕ
 anchors_page version = opened ++ (anchor_front version ++ zero_bytes 7568)
 

@@ -38,7 +38,7 @@ pub fn make_alone<R: Rack>(
     Some(make_domain(alloc, rack, version))
 }
 
-/// Whether recovery finds this anchor, and no group behind it.
+/// Whether recovery finds this anchor, and no group after it.
 pub fn is_found<R: Rack>(alloc: Global, rack: &mut R, anchor: &Anchor) -> bool {
     match recover(alloc, rack) {
         Ok(redone) => {

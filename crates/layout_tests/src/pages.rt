@@ -9,7 +9,7 @@ use std::alloc::Global;
 use std::test::Fail;
 
 /// Blocks of volume 1 that follow one another: how the first of them begins, in two parts of
-/// hexadecimal text, and the byte that all is behind that.
+/// hexadecimal text, and the byte that all is after that.
 #[derive(Clone, Copy)]
 struct Run {
     first: u32,
@@ -40,7 +40,7 @@ static FRONT_3: [Run; 2] = [
     },
 ];
 
-/// The same in version 4.
+/// The label and the body in version 4.
 static FRONT_4: [Run; 2] = [
     Run {
         first: 0,
@@ -59,9 +59,9 @@ static FRONT_4: [Run; 2] = [
 ];
 
 /// What is alike in both versions: the open gate of slot 0; slot 1, closed and empty; the bitmap,
-/// with pages 0 to 132 used and none behind page 511; the page of cells, with 27 free ones and one
+/// with pages 0 to 132 used and none after page 511; the page of cells, with 27 free ones and one
 /// that says volume 1, 512 pages, and one of bitmap; the closed gate of the log's first place; the
-/// table, without a fileset; and what stood there before behind the gate and behind the table.
+/// table, without a fileset; and what stood there before, past the gate and past the table.
 static OTHERS: [Run; 8] = [
     Run {
         first: 16,
@@ -121,12 +121,12 @@ static OTHERS: [Run; 8] = [
     },
 ];
 
-/// Whether a block begins so, and is this byte behind that.
+/// Whether a block begins so, and is this byte after that.
 fn is_block(block: &[u8], front: &[u8], rest: u8) -> bool {
     block.starts_with(front) && block.iter().skip(front.len()).all(|byte| *byte == rest)
 }
 
-/// Whether a block of volume 1 begins so, and is this byte behind that.
+/// Whether a block of volume 1 begins so, and is this byte after that.
 fn is_right<R: Rack>(
     alloc: Global,
     rack: &mut R,
