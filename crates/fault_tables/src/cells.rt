@@ -3,7 +3,7 @@ use crate::given::Given;
 use crate::tags;
 use image_lines::{
     NotRead, holes_faults, leads_faults, limits_twice_faults, local_faults, pages_twice_faults,
-    unchained_faults,
+    unchained_faults, unnamed_quota_faults,
 };
 use index_row_faults::{CellLinks, HomeSet, OutOfMemory, cells_faults, read_links, read_tables};
 use std::alloc::Global;
@@ -14,6 +14,7 @@ pub(crate) fn links_of(alloc: Global, given: &Given) -> Result<CellLinks, OutOfM
     read_links(alloc, &given.image.pages, &given.frame, &tables)
 }
 
+/// The pages at which a rule of one cell is broken.
 fn local(alloc: Global, given: &Given) -> Result<HomeSet, OutOfMemory> {
     let Given {
         image,
@@ -25,43 +26,28 @@ fn local(alloc: Global, given: &Given) -> Result<HomeSet, OutOfMemory> {
     local_faults(alloc, &image.pages, frame, table, &tables)
 }
 
-fn holes(alloc: Global, given: &Given) -> Result<HomeSet, OutOfMemory> {
+/// The pages at which a rule of chains, or of quota cells, is broken.
+fn find_by_links(alloc: Global, asked: &str, given: &Given) -> Result<HomeSet, OutOfMemory> {
     let links = links_of(alloc, given)?;
-    holes_faults(alloc, &given.image.pages, &given.table, &links)
-}
-
-fn leads(alloc: Global, given: &Given) -> Result<HomeSet, OutOfMemory> {
-    leads_faults(alloc, &links_of(alloc, given)?)
-}
-
-fn unchained(alloc: Global, given: &Given) -> Result<HomeSet, OutOfMemory> {
-    unchained_faults(alloc, &links_of(alloc, given)?)
-}
-
-fn pages_twice(alloc: Global, given: &Given) -> Result<HomeSet, OutOfMemory> {
-    let links = links_of(alloc, given)?;
-    pages_twice_faults(alloc, &given.image.pages, &links)
-}
-
-fn limits_twice(alloc: Global, given: &Given) -> Result<HomeSet, OutOfMemory> {
-    let links = links_of(alloc, given)?;
-    limits_twice_faults(alloc, &given.image.pages, &links)
-}
-
-fn all(alloc: Global, given: &Given) -> Result<HomeSet, OutOfMemory> {
-    cells_faults(alloc, &given.image.pages, &given.frame, &given.table)
+    match asked {
+        "holes" => holes_faults(alloc, &given.image.pages, &given.table, &links),
+        "leads" => leads_faults(alloc, &links),
+        "unchained" => unchained_faults(alloc, &links),
+        "pages-twice" => pages_twice_faults(alloc, &given.image.pages, &links),
+        "limits-twice" => limits_twice_faults(alloc, &given.image.pages, &links),
+        _ => unnamed_quota_faults(alloc, &links, &given.table),
+    }
 }
 
 /// The pages at which a rule of cells, or another one, is broken.
 pub(crate) fn find(alloc: Global, asked: &str, given: &Given) -> Result<HomeSet, NotRead> {
-    match asked {
-        "one-cell" => Ok(local(alloc, given)?),
-        "holes" => Ok(holes(alloc, given)?),
-        "leads" => Ok(leads(alloc, given)?),
-        "unchained" => Ok(unchained(alloc, given)?),
-        "pages-twice" => Ok(pages_twice(alloc, given)?),
-        "limits-twice" => Ok(limits_twice(alloc, given)?),
-        "all-cells" => Ok(all(alloc, given)?),
-        _ => tags::find(alloc, asked, given),
-    }
+    let found = match asked {
+        "one-cell" => local(alloc, given),
+        "all-cells" => cells_faults(alloc, &given.image.pages, &given.frame, &given.table),
+        "holes" | "leads" | "unchained" | "pages-twice" | "limits-twice" | "quota-cells" => {
+            find_by_links(alloc, asked, given)
+        }
+        _ => return tags::find(alloc, asked, given),
+    };
+    Ok(found?)
 }

@@ -4,7 +4,7 @@ use image_lines::{NotRead, Words};
 use index_row_faults::{Attributes, CellAt, FileThere, Home, Kind, SeenPages, Tag};
 use std::alloc::Global;
 
-/// A kind by its word, how many links that says, and whether a wrong size.
+/// The kind that a word names, how many links it says, and whether it says a wrong size.
 fn kind_of(word: &str) -> (Kind, u32, bool) {
     match word {
         "dir" => (Kind::Directory, 1, false),
@@ -44,10 +44,10 @@ fn parent_of(kind: &mut Words) -> Option<Tag> {
     }
 }
 
-/// A file or directory: its slot, its kind, the slot of the directory that it says to stand in,
+/// A file or directory: its slot, its kind, the slot of the directory that it says it stands in,
 /// after an `@`, and the pages at which its pages stand. Its first cell stands on the page of its
-/// slot and 300 more. It has one link, or two where its kind is said with a 2, and a wrong size
-/// where it is said with a gap.
+/// slot and 300 more. It has one link, or two if its kind is said with a 2, and a wrong size if its
+/// kind is said with a gap.
 pub(crate) fn file_of(alloc: Global, line: &str) -> Result<FileThere, NotRead> {
     let mut words = Words::new(line);
     let slot = words.number(' ');

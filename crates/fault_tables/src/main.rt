@@ -1,6 +1,6 @@
-//! Tells of pages that are written as lines which rules are broken, in a table: each row names what
-//! is asked, an image of the table, and lines that change that, and is printed with the answer. A
-//! line that begins with a `#` says what the rows below it show.
+//! Tells which rules are broken on pages that are written as lines. Each row of a table names what
+//! is asked, an image of the table, and lines that change the image, and is printed with the
+//! answer. A line that begins with a `#` says what the rows below it show.
 #![tactic(auto)]
 
 mod asking;

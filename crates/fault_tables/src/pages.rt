@@ -48,8 +48,8 @@ fn spans_of(alloc: Global, words: &mut Words) -> Result<Vec<Span>, NotRead> {
     Ok(spans)
 }
 
-/// Whether the page of the bitmap is wrong, where it is that of a volume of so many pages from a
-/// page on, and the pages after these words are owned.
+/// Whether the page of the bitmap is wrong. The first two words are how many pages the volume has,
+/// and the first page that has a bit on the page; the others are the pages that are owned.
 fn has_bit_fault(alloc: Global, words: &mut Words, given: &Given) -> Result<bool, NotRead> {
     let (pages, first) = (words.number(' '), words.number(' '));
     let mut owned = SpanSet::new(alloc);

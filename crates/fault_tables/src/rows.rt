@@ -10,64 +10,23 @@ use index_row_faults::{
 };
 use std::alloc::Global;
 
-fn row_pages(given: &Given, found: &mut HomeSet) -> Result<(), OutOfMemory> {
-    insert_row_pages(&given.image.pages, &given.frame, &given.files, found)
+/// An index of the directory in slot 1: its first page, the total that its record says, and `no` if
+/// it may not be there.
+fn index_of(words: &mut Words) -> IndexThere {
+    let (first, total) = (words.number(' '), words.number(' '));
+    IndexThere {
+        tag: Tag { slot: 1, seq: 1 },
+        first: home(first),
+        total,
+        may_be: words.until(' ') != "no",
+    }
 }
 
-fn names(alloc: Global, given: &Given, found: &mut HomeSet) -> Result<(), OutOfMemory> {
-    let rows = read_rows(alloc, &given.image.pages, &given.frame, &given.files)?;
-    insert_names_twice(alloc, &rows, found)
-}
-
-fn links(alloc: Global, given: &Given, found: &mut HomeSet) -> Result<(), OutOfMemory> {
-    let rows = read_rows(alloc, &given.image.pages, &given.frame, &given.files)?;
-    insert_wrong_links(alloc, &given.files, &rows, found)
-}
-
-fn lost(alloc: Global, given: &Given, found: &mut HomeSet) -> Result<(), OutOfMemory> {
-    let rows = read_rows(alloc, &given.image.pages, &given.frame, &given.files)?;
-    insert_lost_twice(alloc, &given.files, &rows, found)
-}
-
-fn parents(alloc: Global, given: &Given, found: &mut HomeSet) -> Result<(), OutOfMemory> {
-    let rows = read_rows(alloc, &given.image.pages, &given.frame, &given.files)?;
-    insert_wrong_parents(alloc, &given.files, &rows, found)
-}
-
-fn wrong(
+/// Adds the pages at which a rule of an index is broken.
+fn insert_index(
     alloc: Global,
+    words: &mut Words,
     given: &Given,
-    is_clone: bool,
-    found: &mut HomeSet,
-) -> Result<(), OutOfMemory> {
-    let rows = read_rows(alloc, &given.image.pages, &given.frame, &given.files)?;
-    insert_wrong_rows(alloc, &given.files, &rows, is_clone, found)
-}
-
-fn few(
-    alloc: Global,
-    given: &Given,
-    is_clone: bool,
-    found: &mut HomeSet,
-) -> Result<(), OutOfMemory> {
-    let rows = read_rows(alloc, &given.image.pages, &given.frame, &given.files)?;
-    insert_few_rows(alloc, &given.files, &rows, is_clone, found)
-}
-
-fn misplaced(
-    alloc: Global,
-    given: &Given,
-    is_clone: bool,
-    found: &mut HomeSet,
-) -> Result<(), OutOfMemory> {
-    let rows = read_rows(alloc, &given.image.pages, &given.frame, &given.files)?;
-    insert_misplaced(alloc, &given.files, &rows, is_clone, found)
-}
-
-fn all(
-    alloc: Global,
-    given: &Given,
-    is_clone: bool,
     found: &mut HomeSet,
 ) -> Result<(), OutOfMemory> {
     let Given {
@@ -76,43 +35,63 @@ fn all(
         files,
         ..
     } = given;
-    insert_directory_faults(alloc, &image.pages, frame, files, is_clone, found)
+    let indexes = [index_of(words)];
+    let rows = read_rows(alloc, &image.pages, frame, files)?;
+    insert_wrong_indexes(alloc, &image.pages, frame, &rows, &indexes, found)
 }
 
-/// An index of the directory in slot 1: its first page, the total that its record says, and `no` if
-/// it may not be there.
-fn index_of(alloc: Global, words: &mut Words) -> Result<Vec<IndexThere>, OutOfMemory> {
-    let (first, total) = (words.number(' '), words.number(' '));
-    let mut indexes = Vec::new(alloc);
-    indexes.push(IndexThere {
-        tag: Tag { slot: 1, seq: 1 },
-        first: home(first),
-        total,
-        may_be: words.until(' ') != "no",
-    })?;
-    Ok(indexes)
-}
-
-fn indexes(
+/// Adds the pages at which a rule of rows is broken that looks at no page.
+fn insert_by_rows(
     alloc: Global,
+    asked: &str,
+    given: &Given,
+    is_clone: bool,
+    found: &mut HomeSet,
+) -> Result<(), OutOfMemory> {
+    let files = &given.files;
+    let rows = read_rows(alloc, &given.image.pages, &given.frame, files)?;
+    match asked {
+        "names" => insert_names_twice(alloc, &rows, found),
+        "links" => insert_wrong_links(alloc, files, &rows, found),
+        "lost" => insert_lost_twice(alloc, files, &rows, found),
+        "parents" => insert_wrong_parents(alloc, files, &rows, found),
+        "rows" => insert_wrong_rows(alloc, files, &rows, is_clone, found),
+        "few" => insert_few_rows(alloc, files, &rows, is_clone, found),
+        _ => insert_misplaced(alloc, files, &rows, is_clone, found),
+    }
+}
+
+/// Adds the pages at which a rule of directories is broken, if that is asked. After a `clone` the
+/// files are those of a clone.
+fn is_inserted(
+    alloc: Global,
+    asked: &str,
     words: &mut Words,
     given: &Given,
     found: &mut HomeSet,
-) -> Result<(), OutOfMemory> {
-    let rows = read_rows(alloc, &given.image.pages, &given.frame, &given.files)?;
-    let indexes = index_of(alloc, words)?;
-    insert_wrong_indexes(
-        alloc,
-        &given.image.pages,
-        &given.frame,
-        &rows,
-        &indexes,
-        found,
-    )
+) -> Result<bool, OutOfMemory> {
+    let Given {
+        image,
+        frame,
+        files,
+        ..
+    } = given;
+    let is_clone = words.rest() == "clone";
+    let inserted = match asked {
+        "row-pages" => insert_row_pages(&image.pages, frame, files, found),
+        "sizes" => insert_wrong_sizes(files, found),
+        "indexes" => insert_index(alloc, words, given, found),
+        "all-rows" => insert_directory_faults(alloc, &image.pages, frame, files, is_clone, found),
+        "names" | "links" | "lost" | "parents" | "rows" | "few" | "misplaced" => {
+            insert_by_rows(alloc, asked, given, is_clone, found)
+        }
+        _ => return Ok(false),
+    };
+    inserted?;
+    Ok(true)
 }
 
-/// The pages at which a rule of directories is broken, or another one. Behind a `clone` the files
-/// are those of a clone.
+/// The pages at which a rule of directories is broken, or another one.
 pub(crate) fn find(
     alloc: Global,
     asked: &str,
@@ -120,20 +99,9 @@ pub(crate) fn find(
     given: &Given,
 ) -> Result<HomeSet, NotRead> {
     let mut found = HomeSet::new(alloc);
-    let is_clone = words.rest() == "clone";
-    match asked {
-        "row-pages" => row_pages(given, &mut found)?,
-        "names" => names(alloc, given, &mut found)?,
-        "links" => links(alloc, given, &mut found)?,
-        "lost" => lost(alloc, given, &mut found)?,
-        "parents" => parents(alloc, given, &mut found)?,
-        "sizes" => insert_wrong_sizes(&given.files, &mut found)?,
-        "rows" => wrong(alloc, given, is_clone, &mut found)?,
-        "few" => few(alloc, given, is_clone, &mut found)?,
-        "misplaced" => misplaced(alloc, given, is_clone, &mut found)?,
-        "all-rows" => all(alloc, given, is_clone, &mut found)?,
-        "indexes" => indexes(alloc, words, given, &mut found)?,
-        _ => return cells::find(alloc, asked, given),
+    if is_inserted(alloc, asked, words, given, &mut found)? {
+        Ok(found)
+    } else {
+        cells::find(alloc, asked, given)
     }
-    Ok(found)
 }

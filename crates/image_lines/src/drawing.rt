@@ -180,14 +180,14 @@ fn draw_bit(number: u32, page: &mut Page) {
     put(page, at, &[byte | 1 << (number % 8)]);
 }
 
-/// Letters on a page: the place of the first of them, and themselves.
+/// Letters on a page: the place of the first of them, and all of them.
 fn draw_letters(words: &mut Words, page: &mut Page) {
     let at = usize::from(words.short(' '));
     let end = put(page, at, words.until(' ').as_bytes());
     words.check(end <= PAGE_BYTES);
 }
 
-/// Bytes on a page: the place of the first of them, and themselves in hexadecimal digits.
+/// Bytes on a page: the place of the first of them, and all of them in hexadecimal digits.
 fn draw_bytes(alloc: Global, words: &mut Words, page: &mut Page) {
     let at = usize::from(words.short(' '));
     match decode(alloc, words.until(' ')) {

@@ -110,8 +110,8 @@ impl Image {
         Some((vol, pages))
     }
 
-    /// A member all of whose pages are there, and the runs of pages that its bitmap says to be
-    /// used. The bitmap is page 2.
+    /// A member all of whose pages are there, and the runs of pages that are used in its bitmap,
+    /// which is page 2.
     fn add_volume(&mut self, words: &mut Words) -> Result<(), NotRead> {
         let Some((vol, pages)) = self.add_member(words) else {
             return Ok(());
@@ -154,7 +154,7 @@ impl Image {
     }
 
     /// The page that stands at a home, or one of zeros if there is none.
-    fn page(&self, home: &Home) -> Result<Page, NotRead> {
+    pub(crate) fn page(&self, home: &Home) -> Result<Page, NotRead> {
         match self.pages.get(*home) {
             Some(page) => Ok(page.copy(self.alloc)?),
             None => Ok(Page::zeros(self.alloc)?),
@@ -162,7 +162,7 @@ impl Image {
     }
 
     /// Puts a page at a home.
-    fn put(&mut self, home: &Home, page: Page) -> Result<(), NotRead> {
+    pub(crate) fn put(&mut self, home: &Home, page: Page) -> Result<(), NotRead> {
         self.pages.reserve(self.alloc, 1)?;
         self.pages.put(*home, page);
         Ok(())

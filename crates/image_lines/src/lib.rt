@@ -5,6 +5,7 @@
 
 mod asking;
 mod drawing;
+mod front;
 mod image;
 mod pen;
 mod places;

@@ -4,15 +4,13 @@ ghost use Rattle.std.specs.Prelude.{IsTrue};
 ghost use Rattle.page_faults.specs.log_ring.Homes.{HasMembers};
 ghost use Rattle.image_lines.specs.Members.{HasMember};
 
+use crate::front::{draw_anchor, draw_label};
 use crate::image::{Image, NotRead};
 use crate::words::Words;
 use memory_disk::MemoryRack;
 use page_faults::limits::{MAX_VOLUME_PAGES_4, MAX_VOLUMES};
-use page_faults::{Anchor, DomainFrame, Home, MemoryPages, MetaPages, Rack, Version, VolIx};
+use page_faults::{Anchor, DomainFrame, Home, MetaPages, Rack, VolIx};
 use std::alloc::Global;
-
-/// The bytes of a page.
-const PAGE_BYTES: usize = 8192;
 
 /// Whether a rack has a volume with the pages of a member, if it is one.
 fn has_member<R: Rack>(rack: &R, anchor: &Anchor, vol: VolIx) -> bool
@@ -50,46 +48,6 @@ pub fn frame_of(image: &Image) -> DomainFrame {
 /// The blocks of a page.
 const PAGE_BLOCKS: u32 = 16;
 
-/// Appends numbers of four bytes to bytes.
-fn push_words(bytes: &mut Vec<u8>, words: &[u32]) -> Result<(), NotRead> {
-    for word in words {
-        bytes.extend_from_slice(&word.to_le_bytes())?;
-    }
-    Ok(())
-}
-
-/// The first bytes of the label of a volume of so many pages, of which one is the bitmap.
-fn label_bytes(
-    alloc: Global,
-    version: Version,
-    vol: VolIx,
-    pages: u32,
-) -> Result<Vec<u8>, NotRead> {
-    let mut bytes = Vec::new(alloc);
-    bytes.extend_from_slice(b"ADVFSLAB")?;
-    push_words(&mut bytes, &[version.number(), vol.number(), pages, 1])?;
-    Ok(bytes)
-}
-
-/// The first bytes of the body of an anchor.
-fn anchor_bytes(alloc: Global, anchor: &Anchor) -> Result<Vec<u8>, NotRead> {
-    let mut bytes = Vec::new(alloc);
-    let (vol, page) = match anchor.table {
-        Some(home) => (home.vol.number(), home.page),
-        None => (0, 0),
-    };
-    bytes.extend_from_slice(&anchor.number.to_le_bytes())?;
-    push_words(&mut bytes, &[anchor.version, anchor.log_vol])?;
-    push_words(&mut bytes, &[anchor.log_page, anchor.log_pages])?;
-    push_words(&mut bytes, &[anchor.start, 0])?;
-    bytes.extend_from_slice(&anchor.group.to_le_bytes())?;
-    push_words(&mut bytes, &[vol, page])?;
-    for member in &anchor.members {
-        push_words(&mut bytes, &[member.pages, member.state])?;
-    }
-    Ok(bytes)
-}
-
 /// Writes a page of a rack.
 fn write_page<R: Rack>(rack: &mut R, home: &Home, bytes: &[u8]) -> Result<(), NotRead> {
     let vol = home.vol;
@@ -103,29 +61,22 @@ fn write_page<R: Rack>(rack: &mut R, home: &Home, bytes: &[u8]) -> Result<(), No
     }
 }
 
-/// Writes bytes on a page that is there.
-fn set(pages: &mut MemoryPages, home: &Home, at: usize, bytes: &[u8]) -> Result<(), NotRead> {
-    if pages.get(*home).is_none() || PAGE_BYTES < at.saturating_add(bytes.len()) {
-        return Err(NotRead::Malformed);
-    }
-    pages.set(*home, at, bytes);
-    Ok(())
-}
-
 /// Writes the label of a member.
-fn add_label(alloc: Global, image: &mut Image, vol: VolIx) -> Result<(), NotRead> {
+fn add_label(image: &mut Image, vol: VolIx) -> Result<(), NotRead> {
+    let home = Home { vol, page: 0 };
+    let mut page = image.page(&home)?;
     let pages = image.anchor.members[vol.index()].pages;
-    let bytes = label_bytes(alloc, image.version, vol, pages)?;
-    set(&mut image.pages, &Home { vol, page: 0 }, 0, &bytes)
+    draw_label(image.version, vol, pages, &mut page);
+    image.put(&home, page)
 }
 
 /// Writes the anchor after an open gate.
-fn add_anchor(alloc: Global, image: &mut Image) -> Result<(), NotRead> {
+fn add_anchor(image: &mut Image) -> Result<(), NotRead> {
     let vol = VolIx::new(image.anchor.log_vol).ok_or(NotRead::Malformed)?;
-    let bytes = anchor_bytes(alloc, &image.anchor)?;
     let home = Home { vol, page: 1 };
-    set(&mut image.pages, &home, 0, &[0xa5])?;
-    set(&mut image.pages, &home, 512, &bytes)
+    let mut page = image.page(&home)?;
+    draw_anchor(&image.anchor, &mut page);
+    image.put(&home, page)
 }
 
 /// Writes those pages of a volume that are there.
@@ -160,16 +111,22 @@ pub fn empty_rack(alloc: Global, words: &mut Words) -> Result<MemoryRack, NotRea
     Ok(MemoryRack::new(alloc, &sizes, &[], false)?)
 }
 
-/// A rack on which an image stands.
-pub fn rack_of(alloc: Global, image: &mut Image) -> Result<MemoryRack, NotRead> {
-    let mut rack = zeros(alloc, &image.anchor, &[])?;
-    add_anchor(alloc, image)?;
+/// Writes the labels of the members of an image, and their pages onto a rack.
+fn write_members(rack: &mut MemoryRack, image: &mut Image) -> Result<(), NotRead> {
     for number in 1..9 {
         let vol = VolIx::new(number).ok_or(NotRead::Malformed)?;
         if 0 < image.anchor.members[vol.index()].pages {
-            add_label(alloc, image, vol)?;
-            write_volume(&mut rack, image, vol)?;
+            add_label(image, vol)?;
+            write_volume(rack, image, vol)?;
         }
     }
+    Ok(())
+}
+
+/// A rack on which an image stands.
+pub fn rack_of(alloc: Global, image: &mut Image) -> Result<MemoryRack, NotRead> {
+    add_anchor(image)?;
+    let mut rack = zeros(alloc, &image.anchor, &[])?;
+    write_members(&mut rack, image)?;
     Ok(rack)
 }

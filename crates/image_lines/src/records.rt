@@ -90,59 +90,63 @@ fn put_holes(fields: &mut Words, page: &mut Page, at: usize) -> usize {
     at.saturating_add(132)
 }
 
-/// The record of limits of an owner: its number, and its files and blocks.
-fn put_limits(kind: u8, fields: &mut Words, page: &mut Page, at: usize) -> usize {
-    let end = put_head(kind, 28, page, at);
-    put_number(page, end, fields.number(','));
-    put(page, at.saturating_add(12), &fields.long(',').to_le_bytes());
-    put(page, at.saturating_add(20), &fields.long(',').to_le_bytes())
+/// What a record has whose fields stand one after another: its kind, its length, and the form of
+/// each field, as `put_field` reads it.
+fn layout_of(kind: &str) -> Option<(u8, u8, &'static str)> {
+    match kind {
+        "from" => Some((2, 20, ".cn")),
+        "trim" => Some((6, 12, "1")),
+        "removal" => Some((6, 12, "2")),
+        "user" => Some((7, 28, "n..ll")),
+        "group" => Some((8, 28, "n..ll")),
+        "index" => Some((9, 20, "pn")),
+        "parent" => Some((10, 12, "t")),
+        "volume" => Some((12, 16, "nnn")),
+        "unknown" => Some((15, 4, "")),
+        _ => None,
+    }
 }
 
-/// The record that a clone's own file has: its source, and how many pages are frozen.
-fn put_clone(fields: &mut Words, page: &mut Page, at: usize) -> usize {
-    put_head(2, 20, page, at);
-    put(page, at.saturating_add(6), &fields.cell(','));
-    put_number(page, at.saturating_add(12), fields.number(','));
-    at.saturating_add(20)
+/// Writes a field by the letter of its form: `n` a number of four bytes, `l` one of eight, `p` a
+/// page, `c` a cell, `t` a tag, `1` and `2` these numbers; two bytes are left as they are for `.`.
+fn put_field(form: u8, fields: &mut Words, page: &mut Page, at: usize) -> usize {
+    match form {
+        b'n' => put_number(page, at, fields.number(',')),
+        b'l' => put(page, at, &fields.long(',').to_le_bytes()),
+        b'p' => put(page, at, &fields.page(',')),
+        b'c' => put(page, at, &fields.cell(',')),
+        b't' => put(page, at, &fields.tag(',')),
+        b'1' => put_number(page, at, 1),
+        b'2' => put_number(page, at, 2),
+        _ => at.saturating_add(2),
+    }
 }
 
-/// The record of a volume: its number, its pages and those of its bitmap.
-fn put_volume(fields: &mut Words, page: &mut Page, at: usize) -> usize {
-    let end = put_head(12, 16, page, at);
-    let end = put_number(page, end, fields.number(','));
-    let end = put_number(page, end, fields.number(','));
-    put_number(page, end, fields.number(','))
+/// Writes a record of a layout.
+fn put_fields(
+    layout: (u8, u8, &'static str),
+    fields: &mut Words,
+    page: &mut Page,
+    at: usize,
+) -> usize {
+    let (kind, len, forms) = layout;
+    let mut end = put_head(kind, len, page, at);
+    for form in forms.as_bytes() {
+        end = put_field(*form, fields, page, end);
+    }
+    at.saturating_add(usize::from(len))
 }
 
-/// The record of a directory's index: its first page, and how many entries there are.
-fn put_index(fields: &mut Words, page: &mut Page, at: usize) -> usize {
-    let end = put_head(9, 20, page, at);
-    let end = put(page, end, &fields.page(','));
-    put_number(page, end, fields.number(','));
-    at.saturating_add(20)
-}
-
-/// The record of a directory's parent: its tag.
-fn put_parent(fields: &mut Words, page: &mut Page, at: usize) -> usize {
-    put_head(10, 12, page, at);
-    put(page, at.saturating_add(4), &fields.tag(','));
-    at.saturating_add(12)
-}
-
-/// The record of what is left to do with a file: 1 to cut it, 2 to remove it.
-fn put_rest(what: u8, page: &mut Page, at: usize) -> usize {
-    put(page, at, &[6, 0, 12, 0, what, 0, 0, 0, 0, 0, 0, 0])
-}
-
-/// Writes the record that fields tell, as of a table of extents.
+/// Writes the record of a kind that has attributes or pages.
 fn put_pages(kind: &str, fields: &mut Words, page: &mut Page, at: usize) -> usize {
     match kind {
+        "file" => put_attributes(1, fields, page, at),
+        "dir" => put_attributes(2, fields, page, at),
         "runs" => put_extents(3, 260, fields, page, at),
         "short" => put_extents(4, 68, fields, page, at),
         "dense" => put_extents(13, 268, fields, page, at),
         "short_dense" => put_extents(14, 52, fields, page, at),
         "holes" => put_holes(fields, page, at),
-        "unknown" => put_head(15, 4, page, at),
         _ => {
             fields.check(false);
             at
@@ -153,17 +157,8 @@ fn put_pages(kind: &str, fields: &mut Words, page: &mut Page, at: usize) -> usiz
 /// Writes the record that fields tell.
 pub(crate) fn put_record(fields: &mut Words, page: &mut Page, at: usize) -> usize {
     let kind = fields.until(',');
-    match kind {
-        "file" => put_attributes(1, fields, page, at),
-        "dir" => put_attributes(2, fields, page, at),
-        "from" => put_clone(fields, page, at),
-        "trim" => put_rest(1, page, at),
-        "removal" => put_rest(2, page, at),
-        "user" => put_limits(7, fields, page, at),
-        "group" => put_limits(8, fields, page, at),
-        "index" => put_index(fields, page, at),
-        "parent" => put_parent(fields, page, at),
-        "volume" => put_volume(fields, page, at),
-        _ => put_pages(kind, fields, page, at),
+    match layout_of(kind) {
+        Some(layout) => put_fields(layout, fields, page, at),
+        None => put_pages(kind, fields, page, at),
     }
 }

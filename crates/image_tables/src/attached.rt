@@ -1,10 +1,10 @@
-//! Domains that are attached from racks: what is kept in memory of them, or why none is.
+//! Domains that are attached from racks: what is kept in memory of them, or why they are not.
 use domain_attaching::{DomainMemory, Owner, SlotFiles, VolIx, attach, bring_memory};
 use image_lines::{Image, NotRead, rack_of};
 use std::alloc::Global;
 
-/// Tells of what is in a slot how many pages its tag directory has, the files and blocks that all
-/// use and that user 7 uses, and the limits of that one.
+/// Tells how many pages the tag directory of a slot has, the files and blocks of all users and of
+/// user 7, and the limits of user 7.
 fn push_slot(
     alloc: Global,
     number: usize,
@@ -46,8 +46,8 @@ fn push_memory(alloc: Global, memory: &DomainMemory, told: &mut String) -> Resul
     Ok(())
 }
 
-/// What is kept in memory of the domain of an image that is attached, by its rack that is given
-/// back unchanged; or why none is.
+/// What is kept in memory of the domain of an image that is attached, by the rack that is given
+/// back unchanged; or why it is not attached.
 pub(crate) fn told_attached(alloc: Global, image: &mut Image) -> Result<String, NotRead> {
     let rack = rack_of(alloc, image)?;
     let mut told = String::new(alloc);

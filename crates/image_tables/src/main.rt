@@ -1,7 +1,7 @@
-//! Tells of images that are written as lines what faults they have, what they mean and what is
-//! brought of them from a rack, in a table: each row names what is asked, an image of the table,
-//! and lines that change that, and is printed with the answer. A line that begins with a `#` says
-//! what the rows below it show.
+//! Tells of images that are written as lines: their faults, what they mean, and what is brought of
+//! them from a rack. Each row of a table names what is asked, an image of the table, and lines that
+//! change the image, and is printed with the answer. A line that begins with a `#` says what the
+//! rows below it show.
 #![tactic(auto)]
 
 mod asking;

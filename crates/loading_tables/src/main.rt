@@ -1,6 +1,6 @@
-//! Tells what is brought of images from racks, in a table: each row names what is brought one after
-//! another of an image of the table, and lines that change that, and is printed with the answer. A
-//! line that begins with a `#` says what the row below it shows.
+//! Tells which pages of images are brought from racks. Each row of a table names an image of the
+//! table, what is brought of it in turn, and lines that change the image, and is printed with the
+//! answer. A line that begins with a `#` says what the row below it shows.
 #![tactic(auto)]
 
 mod asking;
