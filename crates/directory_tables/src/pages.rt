@@ -97,11 +97,11 @@ fn add_told(alloc: Global, page: &mut Page, rest: &str) -> Result<String> {
 /// So many bytes from a place on.
 fn bytes(alloc: Global, page: &Page, rest: &str) -> Result<String> {
     let (at, count) = rest.split_once(' ').context("a place and a number")?;
-    let (_, behind) = page
+    let (_, after) = page
         .bytes()
         .split_at_checked(at.parse()?)
         .context("a place")?;
-    let (bytes, _) = behind.split_at_checked(count.parse()?).context("bytes")?;
+    let (bytes, _) = after.split_at_checked(count.parse()?).context("bytes")?;
     Ok(encode(alloc, bytes)?)
 }
 

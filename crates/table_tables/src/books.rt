@@ -1,5 +1,5 @@
 //! Random calls of a quota book. Twenty calls stand in a row: c charges, r refunds, x may not be
-//! refunded, l limits a user, k keeps the book, and b takes it back. Behind them stands what three
+//! refunded, l limits a user, k keeps the book, and b takes it back. After them stands what three
 //! users, three groups and the fileset use then, each with its limit.
 
 use crate::quotas::{all_have, charge, refund};

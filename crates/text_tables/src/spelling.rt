@@ -1,10 +1,10 @@
-//! Texts as rows spell them. Behind a backslash stands `n`, `r` or `t` for the end of a line, a
+//! Texts as rows spell them. After a backslash stands `n`, `r` or `t` for the end of a line, a
 //! carriage return or a tab, or `x` and two digits for another byte. `{33 /a}` is `/a` 33 times.
 
 use anyhow::{Context, Result, bail};
 use std::alloc::{AllocError, Global};
 
-/// The byte that a part behind a backslash begins with, and what follows it.
+/// The byte that a part after a backslash begins with, and what follows it.
 fn escaped(part: &str) -> Result<(u8, &str)> {
     let (letter, rest) = part.split_at_checked(1).context("a letter")?;
     match letter {
