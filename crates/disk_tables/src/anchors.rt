@@ -132,15 +132,37 @@ pub fn write(rack: &mut MemoryRack, numbers: &[u64]) -> bool {
     write_next(rack, &next)
 }
 
-/// The anchor that is found after a stop right after a call.
-fn left(
+/// Whether an anchor was found where one is wanted, and it is that.
+fn is_found(found: &Result<Anchor, AnchorFault>, wanted: &Option<Anchor>) -> bool {
+    match found {
+        Ok(anchor) => match wanted {
+            Some(wanted) => anchor == wanted,
+            None => false,
+        },
+        Err(_) => wanted.is_none(),
+    }
+}
+
+/// Whether what was found is what numbers say, from a place on.
+fn is_by(found: &Result<Anchor, AnchorFault>, numbers: &[u64], from: usize) -> bool {
+    is_found(found, &anchor_by(numbers, from))
+}
+
+/// Whether what was found is one of two that numbers say.
+fn is_either(found: &Result<Anchor, AnchorFault>, numbers: &[u64]) -> bool {
+    is_by(found, numbers, 0) || is_by(found, numbers, 3)
+}
+
+/// Whether a stop right after a call leaves one of the two anchors that numbers say.
+fn leaves_one(
     rack: &MemoryRack,
     alloc: Global,
     call: u64,
     pick: u64,
-) -> Result<Option<Anchor>, OutOfMemory> {
+    numbers: &[u64],
+) -> Result<bool, OutOfMemory> {
     let mut left = image(rack, alloc, call, pick)?;
-    Ok(read_anchor(&mut left).ok())
+    Ok(is_either(&read_anchor(&mut left), numbers))
 }
 
 /// Whether stops right after each of these calls, by each of 16 picks, leave one of the two anchors
@@ -151,11 +173,9 @@ pub fn leaves(
     calls: (u64, u64),
     numbers: &[u64],
 ) -> Result<bool, OutOfMemory> {
-    let (one, other) = (anchor_by(numbers, 0), anchor_by(numbers, 3));
     for call in calls.0..calls.1 {
         for pick in 0..16 {
-            let found = left(rack, alloc, call, pick)?;
-            if found != one && found != other {
+            if !leaves_one(rack, alloc, call, pick, numbers)? {
                 return Ok(false);
             }
         }
