@@ -50,18 +50,23 @@ pub fn is_idle(line: &str) -> bool {
     line.is_empty() || line.starts_with('#')
 }
 
+/// Adds lines, each after two blanks on a line of its own.
+fn push_below(answers: &mut String, lines: &str) -> Result<()> {
+    for line in lines.lines() {
+        answers.push_str("\n  ")?;
+        answers.push_str(line)?;
+    }
+    Ok(())
+}
+
 /// Adds a line and its answer, which stands below it where it has lines of its own.
 pub fn push_answer(answers: &mut String, line: &str, answer: &str) -> Result<()> {
     answers.push_str(line)?;
-    let mut first = if answer.contains('\n') {
-        "\n  "
-    } else {
-        " -> "
-    };
-    for part in answer.lines() {
-        answers.push_str(first)?;
-        answers.push_str(part)?;
-        first = "\n  ";
+    if answer.contains('\n') {
+        push_below(answers, answer)?;
+    } else if !answer.is_empty() {
+        answers.push_str(" -> ")?;
+        answers.push_str(answer)?;
     }
     answers.push('\n')?;
     Ok(())

@@ -5,10 +5,9 @@ ghost use Rattle.free_cells.specs.metadata_cells.CellPage.{HasPlace, is_cell_pag
 
 use crate::lines::{cell_of, kind_of};
 use anyhow::{Context, Result, bail};
-use byteorder::{ByteOrder, LittleEndian};
 use free_cells::{
     CellAt, CellHead, CellKind, ChainFault, FilesetNo, Home, MemoryPages, MetaPages, OutOfMemory,
-    Page, Record, RecordList, StoreFault, VolIx, read_chain, write_cell,
+    Page, Record, RecordList, StoreFault, VolIx, read_chain, u32_at, write_cell,
 };
 use std::alloc::Global;
 
@@ -17,7 +16,7 @@ fn is_cell_page(bytes: &[u8]) -> bool
     requires { 4 ≤ length bytes.now }
     ensures { result ≡ begins bytes.now }
 {
-    LittleEndian::read_u32(&bytes[0..]) == 0x5054_4d42
+    u32_at(bytes, 0) == 0x5054_4d42
 }
 
 /// Whether a page of cells is there that has such a cell.
