@@ -1,6 +1,7 @@
 //! Calls on a cache that are drawn without a pattern. Below a row stands what is seen of ten calls
 //! at a time: the mark that was shown, or how many frames are dirty and which home is written next;
 //! and then the marks of all homes.
+ghost use Rattle.std.specs.Prelude.{◌<◌};
 
 use crate::cache::{clean, forget, home_at, mark_of, page_of, shown_mark};
 use anyhow::Result;
