@@ -118,11 +118,30 @@ fn set(alloc: Global, desk: &mut Desk, image: Image, setting: &str) -> Result<Im
         "flip" => Ok(turned_over(image, &mut words)),
         "keep" => kept(alloc, desk, image),
         "look" => seen(alloc, desk, image),
-        word => {
-            note(alloc, desk, &image, word, &mut words)?;
-            Ok(image)
-        }
+        word => noted(alloc, desk, image, word, &mut words),
     }
+}
+
+/// Does what a setting says that leaves the image as it is, and gives the image.
+fn noted(
+    alloc: Global,
+    desk: &mut Desk,
+    image: Image,
+    word: &str,
+    words: &mut SplitWhitespace<'_>,
+) -> Result<Image, AllocError> {
+    note(alloc, desk, &image, word, words)?;
+    Ok(image)
+}
+
+/// Sets which calls are refused of a source or of a sink.
+fn refuse(
+    alloc: Global,
+    fails: &mut Vec<u64>,
+    words: &mut SplitWhitespace<'_>,
+) -> Result<(), AllocError> {
+    *fails = numbers(alloc, words)?;
+    Ok(())
 }
 
 /// Sets which calls of the next run are refused, or notes how many calls there were.
@@ -134,8 +153,8 @@ fn note(
     words: &mut SplitWhitespace<'_>,
 ) -> Result<(), AllocError> {
     match word {
-        "source" => desk.source_fails = numbers(alloc, words)?,
-        "sink" => desk.sink_fails = numbers(alloc, words)?,
+        "source" => refuse(alloc, &mut desk.source_fails, words)?,
+        "sink" => refuse(alloc, &mut desk.sink_fails, words)?,
         "calls" => desk.noted = desk.last.calls,
         "all" => desk.noted = image.rack.calls(),
         _ => desk.say("no setting")?,
@@ -161,6 +180,17 @@ fn times(words: &mut SplitWhitespace<'_>) -> Times {
     }
 }
 
+/// Makes the script of the next call a comment.
+fn set_comment(
+    alloc: Global,
+    desk: &mut Desk,
+    words: &mut SplitWhitespace<'_>,
+) -> Result<(), AllocError> {
+    let comment = comment(alloc, small_number(words))?;
+    desk.draft.set(comment);
+    Ok(())
+}
+
 /// Changes the script that the next call is given.
 fn draft(alloc: Global, desk: &mut Desk, line: &str) -> Result<(), AllocError> {
     let mut words = line.split_whitespace();
@@ -168,10 +198,34 @@ fn draft(alloc: Global, desk: &mut Desk, line: &str) -> Result<(), AllocError> {
         "times" => desk.draft.begin(times(&mut words)),
         "end" => desk.draft.end(alloc)?,
         "chop" => desk.draft.chop(),
-        "comment" => desk.draft.set(comment(alloc, small_number(&mut words))?),
+        "comment" => set_comment(alloc, desk, &mut words)?,
         _ => desk.say("no change of a script")?,
     }
     Ok(())
+}
+
+/// Prints how many pages of the image changed.
+fn changes_told(
+    alloc: Global,
+    desk: &mut Desk,
+    image: Image,
+    words: &mut SplitWhitespace<'_>,
+) -> Result<Image, AllocError> {
+    let least = small_number(words);
+    let most = small_number(words);
+    looked_at_image(alloc, desk, image, least, most)
+}
+
+/// Prints a view of the last call, and gives the image.
+fn call_told(
+    alloc: Global,
+    desk: &mut Desk,
+    image: Image,
+    word: &str,
+    words: &mut SplitWhitespace<'_>,
+) -> Result<Image, AllocError> {
+    looked(alloc, desk, word, words)?;
+    Ok(image)
 }
 
 /// Prints a view of the image, or of the last call.
@@ -182,29 +236,39 @@ fn looked_at(
     view: &str,
 ) -> Result<Image, AllocError> {
     let mut words = view.split_whitespace();
-    let word = words.next().unwrap_or("");
-    if word == "changed" {
-        let least = small_number(&mut words);
-        let most = small_number(&mut words);
-        return looked_at_image(alloc, desk, image, least, most);
+    match words.next().unwrap_or("") {
+        "changed" => changes_told(alloc, desk, image, &mut words),
+        word => call_told(alloc, desk, image, word, &mut words),
     }
-    looked(alloc, desk, word, &mut words)?;
+}
+
+/// Adds a line to the script of the next call, and gives the image.
+fn pushed(alloc: Global, desk: &mut Desk, image: Image, rest: &str) -> Result<Image, AllocError> {
+    let line = rest.strip_prefix(' ').unwrap_or(rest);
+    desk.draft.push(alloc, line)?;
     Ok(image)
 }
 
-/// Does what a line outside scripts says, and gives the image that there is then.
+/// Changes the script of the next call, and gives the image.
+fn drafted(alloc: Global, desk: &mut Desk, image: Image, rest: &str) -> Result<Image, AllocError> {
+    draft(alloc, desk, rest)?;
+    Ok(image)
+}
+
+/// Prints a line outside scripts, does what it says, and gives the image that there is then.
 fn done(
     alloc: Global,
     desk: &mut Desk,
     image: Image,
-    mark: &str,
+    line: &str,
     words: &str,
 ) -> Result<Image, AllocError> {
-    match mark {
-        ">" => shown(alloc, desk, image, words),
-        "-" => called(alloc, desk, image, words),
-        ":" => set(alloc, desk, image, words),
-        "=" => looked_at(alloc, desk, image, words),
+    desk.say(line)?;
+    match line.as_bytes().first() {
+        Some(b'>') => shown(alloc, desk, image, words),
+        Some(b'-') => called(alloc, desk, image, words),
+        Some(b':') => set(alloc, desk, image, words),
+        Some(b'=') => looked_at(alloc, desk, image, words),
         _ => Ok(image),
     }
 }
@@ -217,19 +281,9 @@ pub fn answered(
     line: &str,
 ) -> Result<Image, AllocError> {
     match line.split_at_checked(1) {
-        Some((" ", rest)) => {
-            desk.draft
-                .push(alloc, rest.strip_prefix(' ').unwrap_or(rest))?;
-            Ok(image)
-        }
-        Some(("@", rest)) => {
-            draft(alloc, desk, rest)?;
-            Ok(image)
-        }
-        Some((mark, words)) => {
-            desk.say(line)?;
-            done(alloc, desk, image, mark, words)
-        }
+        Some((" ", rest)) => pushed(alloc, desk, image, rest),
+        Some(("@", rest)) => drafted(alloc, desk, image, rest),
+        Some((_, rest)) => done(alloc, desk, image, line, rest),
         None => Ok(image),
     }
 }

@@ -108,6 +108,23 @@ fn passed(alloc: Global, desk: &mut Desk) -> Result<(), AllocError> {
     desk.say(line.as_str())
 }
 
+/// Prints what the program tells about itself, or what texts say.
+fn text_told(
+    alloc: Global,
+    desk: &mut Desk,
+    word: &str,
+    words: &mut SplitWhitespace<'_>,
+) -> Result<(), AllocError> {
+    match word {
+        "help" => help::told(alloc, desk, words),
+        "helps" => help::shape(desk),
+        "kinds" => texts::kinds(alloc, desk),
+        "statuses" => texts::statuses(alloc, desk),
+        "errors" => texts::errors(alloc, desk),
+        _ => desk.say("no view"),
+    }
+}
+
 /// Prints a view of the last call, or what texts say.
 pub fn looked(
     alloc: Global,
@@ -122,11 +139,6 @@ pub fn looked(
         "plain" => compared(alloc, desk),
         "more" => more(alloc, desk),
         "passed" => passed(alloc, desk),
-        "help" => help::told(alloc, desk, words),
-        "helps" => help::shape(desk),
-        "kinds" => texts::kinds(alloc, desk),
-        "statuses" => texts::statuses(alloc, desk),
-        "errors" => texts::errors(alloc, desk),
-        _ => desk.say("no view"),
+        _ => text_told(alloc, desk, word, words),
     }
 }

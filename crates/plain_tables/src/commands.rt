@@ -1,5 +1,5 @@
 //! The commands that lines of histories have, also those on roots, which no script can say.
-use history_reading::{Command, Path, Place, read_line};
+use history_reading::{Actor, Command, Entry, Path, Place, Reply, history_line, read_line};
 use std::alloc::Global;
 use std::str::SplitWhitespace;
 
@@ -29,6 +29,51 @@ fn number(words: &mut SplitWhitespace<'_>) -> Option<u32> {
     words.next()?.parse::<u32>().ok()
 }
 
+/// The next two words as a user and a group.
+fn owner(words: &mut SplitWhitespace<'_>) -> Option<(u32, u32)> {
+    let uid = number(words)?;
+    let gid = number(words)?;
+    Some((uid, gid))
+}
+
+/// The path that the next word says.
+fn next_path(alloc: Global, words: &mut SplitWhitespace<'_>) -> Option<Path> {
+    path_of(alloc, words.next()?)
+}
+
+/// Makes a file at a place, which may be a root.
+fn create(place: Place, words: &mut SplitWhitespace<'_>) -> Option<Command> {
+    match owner(words) {
+        Some((uid, gid)) => Some(Command::Create { place, uid, gid }),
+        None => None,
+    }
+}
+
+/// Makes a directory at a place, which may be a root.
+fn mkdir(place: Place, words: &mut SplitWhitespace<'_>) -> Option<Command> {
+    match owner(words) {
+        Some((uid, gid)) => Some(Command::Mkdir { place, uid, gid }),
+        None => None,
+    }
+}
+
+/// Renames what is at a place, which may be a root.
+fn rename(alloc: Global, place: Place, words: &mut SplitWhitespace<'_>) -> Option<Command> {
+    match next_path(alloc, words) {
+        Some(to) => Some(Command::Rename { place, to }),
+        None => None,
+    }
+}
+
+/// Removes what is at a place, which may be a root.
+fn removal(verb: &str, place: Place) -> Option<Command> {
+    match verb {
+        "unlink" => Some(Command::Unlink { place }),
+        "rmdir" => Some(Command::Rmdir { place }),
+        _ => None,
+    }
+}
+
 /// A command at a place, which may be a root.
 fn root_command(
     alloc: Global,
@@ -37,23 +82,10 @@ fn root_command(
     words: &mut SplitWhitespace<'_>,
 ) -> Option<Command> {
     match verb {
-        "create" => Some(Command::Create {
-            place,
-            uid: number(words)?,
-            gid: number(words)?,
-        }),
-        "mkdir" => Some(Command::Mkdir {
-            place,
-            uid: number(words)?,
-            gid: number(words)?,
-        }),
-        "rename" => Some(Command::Rename {
-            place,
-            to: path_of(alloc, words.next()?)?,
-        }),
-        "unlink" => Some(Command::Unlink { place }),
-        "rmdir" => Some(Command::Rmdir { place }),
-        _ => None,
+        "create" => create(place, words),
+        "mkdir" => mkdir(place, words),
+        "rename" => rename(alloc, place, words),
+        _ => removal(verb, place),
     }
 }
 
@@ -71,4 +103,15 @@ pub fn command_in(alloc: Global, line: &str) -> Option<Command> {
         Some(command) => Some(command),
         None => said_of_root(alloc, line),
     }
+}
+
+/// The line in a history of a command with its reply.
+pub fn answer_line(alloc: Global, actor: Actor, command: Command, reply: Reply) -> Option<Vec<u8>> {
+    let entry = Entry {
+        actor,
+        command,
+        reply,
+        stamp: 0,
+    };
+    history_line(alloc, &entry).ok()
 }

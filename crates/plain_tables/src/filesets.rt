@@ -1,7 +1,7 @@
 //! Filesets without volumes, and clones of them with files that are marked as out of sync. No
 //! command marks one, so the marks are set here by hand.
-use crate::commands::{command_in, path_of};
-use history_reading::{Actor, Entry, FilesetName, history_line};
+use crate::commands::{answer_line, command_in, path_of};
+use history_reading::{Actor, FilesetName};
 use plain_program::{FilesetSlot, Filesets, NumberSet, Role, apply};
 use std::alloc::Global;
 use std::str::SplitWhitespace;
@@ -10,13 +10,7 @@ use std::str::SplitWhitespace;
 pub fn answered(alloc: Global, filesets: &mut Filesets, line: &str) -> Option<Vec<u8>> {
     let command = command_in(alloc, line)?;
     let reply = apply(alloc, filesets, &command);
-    let entry = Entry {
-        actor: Actor::Client(1),
-        command,
-        reply,
-        stamp: 0,
-    };
-    history_line(alloc, &entry).ok()
+    answer_line(alloc, Actor::Client(1), command, reply)
 }
 
 /// The numbers of what stands at paths of a fileset.

@@ -61,35 +61,63 @@ impl Desk {
         self.text.as_slice()
     }
 
-    /// Does what a line says that has no command, and gives the line.
-    fn set(&mut self, alloc: Global, line: &str) -> Option<Vec<u8>> {
-        let (word, words) = line.split_once(' ')?;
-        match word {
-            "#" => self.filesets = Filesets::new(alloc),
-            "mark" => filesets::mark(alloc, &mut self.filesets, words)?,
-            "sizes" => self.sizes = numbers(alloc, words).ok()?,
-            "members" => self.members = volumes::members_of(alloc, words)?,
-            _ => return None,
-        }
+    /// Begins with no filesets, under a heading.
+    fn begin(&mut self, alloc: Global, line: &str) -> Option<Vec<u8>> {
+        self.filesets = Filesets::new(alloc);
         line_with(alloc, line, "")
+    }
+
+    /// Sets the pages of the volumes of a rack.
+    fn set_sizes(&mut self, alloc: Global, words: &str) -> Option<()> {
+        self.sizes = numbers(alloc, words).ok()?;
+        Some(())
+    }
+
+    /// Sets the members.
+    fn set_members(&mut self, alloc: Global, words: &str) -> Option<()> {
+        self.members = volumes::members_of(alloc, words)?;
+        Some(())
+    }
+
+    /// Does what a setting says.
+    fn set(&mut self, alloc: Global, word: &str, words: &str) -> Option<()> {
+        match word {
+            "mark" => filesets::mark(alloc, &mut self.filesets, words),
+            "sizes" => self.set_sizes(alloc, words),
+            "members" => self.set_members(alloc, words),
+            _ => None,
+        }
+    }
+
+    /// Whether a domain with its log on a volume may show the members, after the line that asks it.
+    fn log_line(&self, alloc: Global, line: &str, words: &str) -> Option<Vec<u8>> {
+        let log_volume = words.parse::<u32>().ok()?;
+        line_with(
+            alloc,
+            line,
+            said(volumes::are_shown(&self.members, log_volume)),
+        )
+    }
+
+    /// Whether extents show the file, after the line that asks it.
+    fn extents_line(&self, alloc: Global, line: &str, words: &str) -> Option<Vec<u8>> {
+        let is_file = volumes::is_file(alloc, &self.members, words)?;
+        line_with(alloc, line, said(is_file))
     }
 
     /// Does what a line says, and gives the line with its answer, if it has one.
     fn told(&mut self, alloc: Global, line: &str) -> Option<Vec<u8>> {
         let (word, words) = line.split_once(' ')?;
         match word {
+            "#" => self.begin(alloc, line),
             "c1" => filesets::answered(alloc, &mut self.filesets, words),
             "m" => volumes::answered(alloc, &self.sizes, &self.members, words),
-            "log" => {
-                let log_volume = words.parse::<u32>().ok()?;
-                let is_shown = volumes::are_shown(&self.members, log_volume);
-                line_with(alloc, line, said(is_shown))
+            "log" => self.log_line(alloc, line, words),
+            "extents" => self.extents_line(alloc, line, words),
+            _ => {
+                self.set(alloc, word, words)?;
+                line_with(alloc, line, "")
             }
-            "extents" => {
-                let is_file = volumes::is_file(alloc, &self.members, words)?;
-                line_with(alloc, line, said(is_file))
-            }
-            _ => self.set(alloc, line),
         }
     }
 

@@ -1,6 +1,6 @@
 //! Lists of members and of extents, as the replies of histories have them.
-use crate::commands::command_in;
-use history_reading::{Actor, Entry, Reply, history_line, read_line};
+use crate::commands::{answer_line, command_in};
+use history_reading::{Actor, Refusal, Reply, read_line};
 use plain_program::{
     ExtentItem, PageMap, VolumeItem, is_extent_list, is_member_list, member_refusal, rises,
 };
@@ -28,6 +28,14 @@ fn extents_of(alloc: Global, words: &str) -> Option<Vec<ExtentItem>> {
     }
 }
 
+/// The reply to a command on volumes that is refused so, or not at all.
+fn reply_with(refusal: Option<Refusal>) -> Reply {
+    match refusal {
+        Some(refusal) => Reply::Refused(refusal),
+        None => Reply::Done,
+    }
+}
+
 /// The line in a history of the mover's command, where these members and the pages of the rack's
 /// volumes answer it.
 pub fn answered(
@@ -36,21 +44,12 @@ pub fn answered(
     members: &[VolumeItem],
     line: &str,
 ) -> Option<Vec<u8>> {
-    let command = command_in(alloc, line)?;
     if !rises(members) {
         return None;
     }
-    let reply = match member_refusal(sizes, members, &command) {
-        Some(refusal) => Reply::Refused(refusal),
-        None => Reply::Done,
-    };
-    let entry = Entry {
-        actor: Actor::Mover,
-        command,
-        reply,
-        stamp: 0,
-    };
-    history_line(alloc, &entry).ok()
+    let command = command_in(alloc, line)?;
+    let reply = reply_with(member_refusal(sizes, members, &command));
+    answer_line(alloc, Actor::Mover, command, reply)
 }
 
 /// Whether a domain with the log on this volume may show these members.
