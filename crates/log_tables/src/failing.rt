@@ -1,6 +1,6 @@
 //! Each call of an order that fails in turn, and a second stop after each call of a first run.
 
-use crate::counting::{CountRack, NO_CALLS};
+use crate::counting::CountRack;
 use crate::logs::{append, bring_home, force};
 use crate::racks::{SIZES, put_group, started};
 use crate::seen::{Seen, faults_of, leaves, look_at};
@@ -32,7 +32,7 @@ static BY_HAND: [ByHand; 3] = [
     },
     ByHand {
         number: 11,
-        homes: &[(1, 140), (2, 12)],
+        homes: &[(1, 147), (2, 12)],
         byte: 4,
     },
 ];
@@ -48,9 +48,12 @@ const REDONE_AT_HOME: Seen = Seen {
     bytes: [3, 2, 5],
 };
 
-/// A rack with the three groups, on which these calls fail.
-pub fn by_hand(alloc: Global, fails: &[u64]) -> Result<CountRack, OutOfMemory> {
-    let (mut rack, _log) = started(alloc, &SIZES, 126, fails)?;
+/// How many pages of volumes share one in memory, where stops are many.
+const FOLD: u32 = 5;
+
+/// A rack with the three groups, on which these calls fail, and whose volumes are folded so often.
+pub fn by_hand(alloc: Global, fold: u32, fails: &[u64]) -> Result<CountRack, OutOfMemory> {
+    let (mut rack, _log) = started(alloc, &SIZES, fold, 126, fails)?;
     let mut place: u32 = 126;
     for group in BY_HAND.iter() {
         put_group(
@@ -78,7 +81,7 @@ fn unread(rack: &mut CountRack, alloc: Global) -> u32 {
 
 /// Whether a read that fails in recovery is named by its volume.
 fn reads_fail_well(alloc: Global, call: u64) -> Result<bool, OutOfMemory> {
-    let mut rack = by_hand(alloc, &[call])?;
+    let mut rack = by_hand(alloc, FOLD, &[call])?;
     let number = unread(&mut rack, alloc);
     let Some(vol) = VolIx::new(number) else {
         return Ok(false);
@@ -88,7 +91,7 @@ fn reads_fail_well(alloc: Global, call: u64) -> Result<bool, OutOfMemory> {
 
 /// Whether each read that fails in recovery is named by its volume.
 pub fn each_read_fails(alloc: Global) -> Result<bool, OutOfMemory> {
-    let mut rack = by_hand(alloc, &[])?;
+    let mut rack = by_hand(alloc, FOLD, &[])?;
     let start = rack.calls();
     let _ = unread(&mut rack, alloc);
     let mut all = true;
@@ -103,7 +106,7 @@ pub fn each_read_fails(alloc: Global) -> Result<bool, OutOfMemory> {
 /// Whether a call of making slots ready that fails is answered as one, and stops then leave what
 /// was there.
 fn fails_unready(alloc: Global, call: u64) -> Result<bool, OutOfMemory> {
-    let mut rack = by_hand(alloc, &[call])?;
+    let mut rack = by_hand(alloc, FOLD, &[call])?;
     let start = rack.calls();
     let ready = make_ready(&mut rack);
     let end = rack.calls().saturating_add(1);
@@ -113,7 +116,7 @@ fn fails_unready(alloc: Global, call: u64) -> Result<bool, OutOfMemory> {
 
 /// How many calls make both slots ready, and whether each of them is told when it fails.
 pub fn each_ready_call_fails(alloc: Global) -> Result<(u64, bool), OutOfMemory> {
-    let mut rack = by_hand(alloc, &[])?;
+    let mut rack = by_hand(alloc, FOLD, &[])?;
     let start = rack.calls();
     let mut all = make_ready(&mut rack);
     let end = rack.calls();
@@ -126,7 +129,7 @@ pub fn each_ready_call_fails(alloc: Global) -> Result<(u64, bool), OutOfMemory> 
 /// Whether a write or a sync of settling that fails is named by its volume, what is left then means
 /// the same, and the log may be settled again.
 fn settling_fails_well(alloc: Global, call: u64) -> Result<bool, OutOfMemory> {
-    let mut rack = by_hand(alloc, &[call])?;
+    let mut rack = by_hand(alloc, FOLD, &[call])?;
     let ready = make_ready(&mut rack);
     let Settled::Unwritten(vol) = settle_log(&mut rack, alloc) else {
         return Ok(false);
@@ -142,24 +145,13 @@ fn settling_fails_well(alloc: Global, call: u64) -> Result<bool, OutOfMemory> {
 
 /// Whether each of the last twelve calls of settling is told when it fails.
 pub fn each_settling_call_fails(alloc: Global) -> Result<bool, OutOfMemory> {
-    let mut rack = by_hand(alloc, &[])?;
+    let mut rack = by_hand(alloc, FOLD, &[])?;
     let mut all = make_ready(&mut rack) && settle_log(&mut rack, alloc).is_home();
     let end = rack.calls();
     for call in end.saturating_sub(12)..end {
         all = settling_fails_well(alloc, call.saturating_add(1))? && all;
     }
     Ok(all)
-}
-
-/// A rack that starts again on what a stop right after a call leaves.
-fn again(rack: &CountRack, alloc: Global, call: u64, pick: u64) -> Result<CountRack, OutOfMemory> {
-    if !rack.rack.keeps_calls() || call > rack.rack.calls() {
-        return Ok(started(alloc, &SIZES, 0, &[])?.0);
-    }
-    Ok(CountRack {
-        rack: rack.rack.image(alloc, call, pick)?,
-        counts: NO_CALLS,
-    })
 }
 
 /// Makes slots ready and settles the log: whether that passes, stops meanwhile by so many picks
@@ -179,18 +171,28 @@ fn settles(
     Ok([done, during, after] == [true; 3])
 }
 
-/// Whether, after a stop at each call of settling, a log is settled again, and what stops leave then
-/// means the same.
+/// Whether a log is settled again after a stop right after a call, and what stops leave then means
+/// the same.
+fn settles_again(rack: &CountRack, alloc: Global, call: u64) -> Result<bool, OutOfMemory> {
+    let Some(mut second) = rack.image(alloc, call, 1 + call % 3)? else {
+        return Ok(false);
+    };
+    let start = second.calls();
+    settles(3, &mut second, alloc, start, (REDONE, REDONE_AT_HOME))
+}
+
+/// Whether, after a stop at each write and sync of settling, a log is settled again, and what stops
+/// leave then means the same.
 pub fn second_stops(alloc: Global) -> Result<bool, OutOfMemory> {
-    let mut rack = by_hand(alloc, &[])?;
+    let mut rack = by_hand(alloc, FOLD, &[])?;
     let _ = make_ready(&mut rack);
     let first = rack.calls();
     let _ = settle_log(&mut rack, alloc);
     let mut all = true;
     for call in first..rack.calls() {
-        let mut second = again(&rack, alloc, call, 1 + call % 3)?;
-        let start = second.calls();
-        all = settles(3, &mut second, alloc, start, (REDONE, REDONE_AT_HOME))? && all;
+        if call == first || rack.is_change(call) {
+            all = settles_again(&rack, alloc, call)? && all;
+        }
     }
     Ok(all)
 }
@@ -209,8 +211,10 @@ const SECOND: Seen = Seen {
 /// Whether a log whose force was stopped right after a call is settled then, and stops meanwhile
 /// leave the pages of one group or of both, as the first stop did.
 fn settles_after(rack: &CountRack, alloc: Global, call: u64) -> Result<bool, OutOfMemory> {
-    let mut second = again(rack, alloc, call, 1 + call % 7)?;
-    let was = look_at(&mut second.rack, alloc);
+    let Some(mut second) = rack.image(alloc, call, 1 + call % 7)? else {
+        return Ok(false);
+    };
+    let was = look_at(&mut second, alloc);
     let start = second.calls();
     let home = Seen { groups: 0, ..was };
     let settled = settles(8, &mut second, alloc, start, (was, home))?;
@@ -281,7 +285,7 @@ fn run_until_fault(
 /// Whether the failed call is named by its volume, and what is left then is what was answered, or
 /// one group more, or all of it at home.
 fn forces_fail_well(alloc: Global, call: u64) -> Result<bool, OutOfMemory> {
-    let (mut rack, mut log) = started(alloc, &SIZES, 126, &[call])?;
+    let (mut rack, mut log) = started(alloc, &SIZES, FOLD, 126, &[call])?;
     let (done, passed, vol) = run_until_fault(&mut rack, &mut log, alloc)?;
     if passed || done > 3 {
         return Ok(false);
@@ -294,7 +298,7 @@ fn forces_fail_well(alloc: Global, call: u64) -> Result<bool, OutOfMemory> {
 
 /// How many calls three forces and bringing them home take, and whether each of them is told when it fails.
 pub fn each_force_call_fails(alloc: Global) -> Result<(u64, bool), OutOfMemory> {
-    let (mut rack, mut log) = started(alloc, &SIZES, 126, &[])?;
+    let (mut rack, mut log) = started(alloc, &SIZES, FOLD, 126, &[])?;
     let start = rack.calls();
     let (done, passed, vol) = run_until_fault(&mut rack, &mut log, alloc)?;
     let mut all = passed && done == 3 && vol == 0;

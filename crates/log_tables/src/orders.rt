@@ -74,7 +74,7 @@ fn volume_opened(rack: &MemoryRack, alloc: Global) -> Result<u32, OutOfMemory> {
 /// The volume of the log that is opened on a rack with a third volume; how many steps pass then; and
 /// the volume of the log that is opened after them.
 pub fn moving(alloc: Global) -> Result<[u32; 3], OutOfMemory> {
-    let (rack, _log) = started(alloc, &[160, 80, 140], 126, &[])?;
+    let (rack, _log) = started(alloc, &[160, 80, 140], 1, 126, &[])?;
     if !rack.rack.keeps_calls() {
         return Ok([0; 3]);
     }

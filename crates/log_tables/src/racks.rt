@@ -10,7 +10,6 @@ use log_recovery::{
     Anchor, Home, Member, OutOfMemory, Page, Rack, Version, VolIx, is_whole, read_blocks,
     write_anchor, write_label,
 };
-use memory_disk::MemoryRack;
 use meta_log::MetaLog;
 use std::alloc::Global;
 
@@ -64,19 +63,17 @@ fn write_labels<R: Rack>(rack: &mut R) {
     }
 }
 
-/// A rack with labels and the first anchor, on volumes of these sizes, on which these calls fail;
-/// and its log. The first two volumes are members, with 80 pages of the second.
+/// A rack with labels and the first anchor, on volumes of these sizes, of which each page in memory
+/// holds `fold`, and on which these calls fail; and its log. The first two volumes are members, with
+/// 80 pages of the second.
 pub fn started(
     alloc: Global,
     sizes: &[u32],
+    fold: u32,
     start: u32,
     fails: &[u64],
 ) -> Result<(CountRack, MetaLog), OutOfMemory> {
-    let rack = MemoryRack::new(alloc, sizes, fails, true)?;
-    let mut rack = CountRack {
-        rack,
-        counts: NO_CALLS,
-    };
+    let mut rack = CountRack::new(alloc, sizes, fold, fails)?;
     let first = sizes.first().copied().unwrap_or(0);
     let anchor = first_anchor(start % LOG_PAGES, first);
     write_labels(&mut rack);
@@ -88,21 +85,42 @@ pub fn started(
 
 // Writing by hand.
 
-/// Writes a page of a volume and syncs it, if the rack has it.
-pub fn put_page(rack: &mut CountRack, vol: u32, page: u32, bytes: &[u8]) {
+/// Writes a page of a volume, if the rack has it.
+fn write_page(rack: &mut CountRack, vol: u32, page: u32, bytes: &[u8]) {
     let Some(vol) = VolIx::new(vol) else {
         return;
     };
     let there = vol.number() <= rack.volumes() && page < rack.pages(vol) && page < 1_000;
     if there && bytes.len() == PAGE_BYTES {
         let _ = rack.write(vol, BLOCKS_PER_PAGE * page, bytes);
+    }
+}
+
+/// Syncs a volume, if the rack has it.
+fn sync(rack: &mut CountRack, vol: u32) {
+    let Some(vol) = VolIx::new(vol) else {
+        return;
+    };
+    if vol.number() <= rack.volumes() {
         let _ = rack.sync(vol);
     }
 }
 
+/// Writes a page of a volume and syncs that, if the rack has it.
+fn put_page(rack: &mut CountRack, vol: u32, page: u32, bytes: &[u8]) {
+    write_page(rack, vol, page, bytes);
+    sync(rack, vol);
+}
+
 /// Writes a page of the log, which is on volume 1 from page 6 on, by its place.
-pub fn put_place(rack: &mut CountRack, place: u32, bytes: &[u8]) {
-    put_page(rack, 1, 6 + place % LOG_PAGES, bytes);
+fn write_place(rack: &mut CountRack, place: u32, bytes: &[u8]) {
+    write_page(rack, 1, 6 + place % LOG_PAGES, bytes);
+}
+
+/// Closes the gate of a place of the log.
+pub fn put_closed(rack: &mut CountRack, place: u32) {
+    write_place(rack, place, &[0; PAGE_BYTES]);
+    sync(rack, 1);
 }
 
 /// The header of a group with an open gate, byte by byte.
@@ -129,7 +147,8 @@ pub fn put_header(
     homes: &[(u32, u32)],
 ) -> Result<(), OutOfMemory> {
     let header = header_of(alloc, number, homes)?;
-    put_place(rack, place, header.bytes());
+    write_place(rack, place, header.bytes());
+    sync(rack, 1);
     Ok(())
 }
 
@@ -143,15 +162,14 @@ pub fn put_group(
     byte: u8,
     homes: &[(u32, u32)],
 ) -> Result<(), OutOfMemory> {
-    put_header(rack, alloc, place, number, homes)?;
     let mut next = place;
     let mut byte = byte;
     for _ in homes {
         next = next.saturating_add(1);
-        put_place(rack, next, &[byte; PAGE_BYTES]);
+        write_place(rack, next, &[byte; PAGE_BYTES]);
         byte = byte.saturating_add(1);
     }
-    Ok(())
+    put_header(rack, alloc, place, number, homes)
 }
 
 /// So many homes on volume 2.

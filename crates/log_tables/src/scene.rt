@@ -8,20 +8,21 @@ use crate::failing::{
 };
 use crate::logs::{Appended, append, append_run, bring_home, force, move_home, move_ring};
 use crate::orders::{after_stop, moving};
-use crate::racks::{SIZES, put_byte, put_group, put_header, put_label, put_place, run_of, started};
+use crate::racks::{
+    SIZES, put_byte, put_closed, put_group, put_header, put_label, run_of, started,
+};
 use crate::reading::{all_small, at, byte, numbers_of, say_numbers, say_whether, small, word_of};
 use crate::seen::{Seen, leaves, look_at};
 use crate::settling::{
     Settled, has_no_number_left, make_ready, recovered, say_faults, say_found, settle_log,
 };
-use log_recovery::limits::PAGE_BYTES;
 use log_recovery::{MemoryPages, Rack};
 use meta_log::{LogFull, MetaLog};
 use std::alloc::Global;
 use std::test::Fail;
 
 /// A rack and its log, the call at which an order began, pages in memory, and of the next rack the
-/// calls that fail and the sizes of its volumes.
+/// calls that fail, the sizes of its volumes, and how many of their pages share one in memory.
 #[derive(Drop)]
 pub struct Scene {
     rack: CountRack,
@@ -30,12 +31,13 @@ pub struct Scene {
     pages: MemoryPages,
     fails: Vec<u64>,
     sizes: Vec<u32>,
+    fold: u32,
 }
 
 impl Scene {
     /// A rack of volumes of 160 and 80 pages, whose log begins at place 0.
     pub fn new(alloc: Global) -> Result<Scene, Fail> {
-        let (rack, log) = started(alloc, &SIZES, 0, &[])?;
+        let (rack, log) = started(alloc, &SIZES, 1, 0, &[])?;
         Ok(Scene {
             rack,
             log,
@@ -43,12 +45,14 @@ impl Scene {
             pages: MemoryPages::new(alloc),
             fails: Vec::new(alloc),
             sizes: Vec::from_array(alloc, SIZES)?,
+            fold: 1,
         })
     }
 
     /// Begins anew with a rack whose log begins at a place.
     fn begin(&mut self, alloc: Global, place: u32) -> Result<(), Fail> {
-        let (rack, log) = started(alloc, self.sizes.as_slice(), place, self.fails.as_slice())?;
+        let (sizes, fails) = (self.sizes.as_slice(), self.fails.as_slice());
+        let (rack, log) = started(alloc, sizes, self.fold, place, fails)?;
         self.rack = rack;
         self.log = log;
         self.fails = Vec::new(alloc);
@@ -79,6 +83,10 @@ fn answer_of_racks(
     match word {
         "sizes" => {
             scene.sizes = all_small(alloc, numbers)?;
+            Ok(())
+        }
+        "fold" => {
+            scene.fold = small(numbers, 0);
             Ok(())
         }
         "fails" => {
@@ -230,7 +238,7 @@ fn answer_of_logs(
         "anchor" => say_anchor(&scene.log, out),
         "during" => say_whether(out, &[during(alloc, scene, numbers)?]),
         "after" => say_whether(out, &[after(alloc, scene, numbers)?]),
-        "seen" => say_seen(out, &look_at(&mut scene.rack.rack, alloc)),
+        "seen" => say_seen(out, &look_at(&mut scene.rack, alloc)),
         _ => answer_of_recovery(alloc, scene, word, numbers, out),
     }
 }
@@ -329,7 +337,7 @@ fn answer_of_recovery(
         "group" => group_by(alloc, rack, numbers),
         "header" => header_by(alloc, rack, numbers),
         "closed" => {
-            put_place(rack, small(numbers, 0), &[0; PAGE_BYTES]);
+            put_closed(rack, small(numbers, 0));
             Ok(())
         }
         "bytes" => bytes_by(alloc, rack, numbers),
@@ -352,7 +360,7 @@ fn say_failing(out: &mut String, seen: (u64, bool)) -> Result<(), Fail> {
 /// Opens, changes and closes the log of three groups by hand on a rack that starts again: how many
 /// steps pass, and what is seen then.
 fn order(alloc: Global, out: &mut String) -> Result<(), Fail> {
-    let rack = by_hand(alloc, &[])?;
+    let rack = by_hand(alloc, 1, &[])?;
     let (steps, seen) = after_stop(&rack, alloc)?;
     say_numbers(out, &[u64::from(steps)])?;
     say_seen(out, &seen)

@@ -3,7 +3,6 @@
 use crate::counting::CountRack;
 use log_recovery::limits::{BLOCKS_PER_PAGE, PAGE_BYTES};
 use log_recovery::{Home, OutOfMemory, PageImage, Rack, VolIx, image_of, read_blocks, recover};
-use memory_disk::MemoryRack;
 use std::alloc::Global;
 
 /// What recovery finds: how many groups, and the bytes that pages 10 to 12 of volume 2 are full of
@@ -63,7 +62,7 @@ pub fn faults_of<R: Rack>(rack: &R, vol: u32) -> u64 {
 }
 
 /// What is seen on a rack.
-pub fn look_at(rack: &mut MemoryRack, alloc: Global) -> Seen {
+pub fn look_at<R: Rack>(rack: &mut R, alloc: Global) -> Seen {
     match recover(alloc, rack) {
         Ok(redone) => {
             let images = redone.images.as_slice();
@@ -77,15 +76,32 @@ pub fn look_at(rack: &mut MemoryRack, alloc: Global) -> Seen {
 }
 
 /// What is seen after a stop right after a call.
-pub fn left(rack: &CountRack, alloc: Global, call: u64, pick: u64) -> Result<Seen, OutOfMemory> {
-    if !rack.rack.keeps_calls() || call > rack.rack.calls() {
-        return Ok(NOTHING);
+fn left(rack: &CountRack, alloc: Global, call: u64, pick: u64) -> Result<Seen, OutOfMemory> {
+    match rack.image(alloc, call, pick)? {
+        Some(mut image) => Ok(look_at(&mut image, alloc)),
+        None => Ok(NOTHING),
     }
-    let mut image = rack.rack.image(alloc, call, pick)?;
-    Ok(look_at(&mut image, alloc))
 }
 
-/// Whether stops right after each of these calls, by so many picks, from 0 on, leave one of two.
+/// Whether stops right after a call, by so many picks, from 0 on, leave one of two.
+fn leaves_after(
+    picks: u64,
+    rack: &CountRack,
+    alloc: Global,
+    call: u64,
+    allowed: &(Seen, Seen),
+) -> Result<bool, OutOfMemory> {
+    for pick in 0..picks {
+        let found = left(rack, alloc, call, pick)?;
+        if found != allowed.0 && found != allowed.1 {
+            return Ok(false);
+        }
+    }
+    Ok(true)
+}
+
+/// Whether stops right after the first of these calls, and after each write and sync from there on,
+/// leave one of two, by so many picks.
 pub fn leaves(
     picks: u64,
     rack: &CountRack,
@@ -94,11 +110,9 @@ pub fn leaves(
     allowed: (Seen, Seen),
 ) -> Result<bool, OutOfMemory> {
     for call in calls.0..calls.1 {
-        for pick in 0..picks {
-            let found = left(rack, alloc, call, pick)?;
-            if found != allowed.0 && found != allowed.1 {
-                return Ok(false);
-            }
+        let is_new = call == calls.0 || rack.is_change(call);
+        if is_new && !leaves_after(picks, rack, alloc, call, &allowed)? {
+            return Ok(false);
         }
     }
     Ok(true)
