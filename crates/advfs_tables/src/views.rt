@@ -62,22 +62,28 @@ fn has(alloc: Global, desk: &mut Desk, words: &mut SplitWhitespace<'_>) -> Resul
     desk.say(if is_there { "yes" } else { "no" })
 }
 
+/// The word of the status with which a text begins.
+fn status_of(told: &[u8]) -> &[u8] {
+    told.split(|byte| *byte == b' ').next().unwrap_or(b"")
+}
+
+/// The line after that of the status.
+fn second_line(told: &[u8]) -> &[u8] {
+    told.split(|byte| *byte == b'\n').nth(1).unwrap_or(b"")
+}
+
 /// Prints whether the status in which the last call ended begins with this word.
 fn begins(desk: &mut Desk, word: &str) -> Result<(), AllocError> {
-    let status = desk.last.told.split(|byte| *byte == b' ').next();
-    let is_word = status == Some(word.as_bytes());
+    let is_word = status_of(desk.last.told.as_slice()) == word.as_bytes();
     desk.say(if is_word { "yes" } else { "no" })
 }
 
 /// Prints the word of the status in which the last call ended, and the line after it.
 fn first(alloc: Global, desk: &mut Desk) -> Result<(), AllocError> {
-    let mut text = Vec::new(alloc);
-    let mut lines = desk.last.told.split(|byte| *byte == b'\n');
-    let status = lines.next().unwrap_or(b"");
-    let word = status.split(|byte| *byte == b' ').next().unwrap_or(b"");
-    text.extend_from_slice(word)?;
+    let told = desk.last.told.as_slice();
+    let mut text = Vec::from_slice(alloc, status_of(told))?;
     text.push(b' ')?;
-    text.extend_from_slice(lines.next().unwrap_or(b""))?;
+    text.extend_from_slice(second_line(told))?;
     text.push(b'\n')?;
     desk.text.extend_from_slice(text.as_slice())
 }
