@@ -1,26 +1,41 @@
 //! Commands where one changing call finds no page. A block has the lines that stand before each
 //! command, and then lines `at` with the number of the call that finds none, from 0 on.
+ghost use Rattle.fileset_lending.specs.name_space.Changes.{HasOriginal};
 
 use crate::blocks::{is_idle, push_answer};
 use crate::reading::{command, said};
 use crate::runs::said_all;
 use crate::steps::{answer, empty_set};
-use fileset_lending::{BitfileSet, StoreFault};
+use fileset_lending::{BitfileSet, MemoryBitfiles, StoreFault};
 use std::alloc::Global;
 use std::test::Fail;
+
+/// What a command answers, or that a call of it found no page.
+fn outcome<S: BitfileSet>(set: &mut S, alloc: Global, line: &str) -> Result<String, Fail>
+    requires { HasOriginal (S.files set.old) }
+{
+    let command = command(alloc, line)?;
+    match answer(set, alloc, &command) {
+        Ok(reply) => said(alloc, reply),
+        Err(StoreFault::NoPage) => Ok(String::from_str(alloc, "no page")?),
+        Err(StoreFault::OutOfMemory) => Err(Fail::from("out of memory")),
+    }
+}
+
+/// What a command answers after these lines, and how often no page was found.
+fn told(set: &mut MemoryBitfiles, alloc: Global, before: &str, line: &str) -> Result<String, Fail>
+    requires { HasOriginal (⟦<MemoryBitfiles as BitfileSet>⟧.files set.old) }
+{
+    said_all(set, alloc, before)?;
+    let answer = outcome(set, alloc, line)?;
+    Ok(format!(in alloc; "{answer}, {} misses", set.misses())?)
+}
 
 /// What a command answers where one changing call finds no page, and how often none was found.
 fn missed(alloc: Global, before: &str, line: &str) -> Result<String, Fail> {
     let (call, line) = line.split_once(' ').ok_or("a number")?;
     let mut set = empty_set(alloc, vec![in alloc; call.parse()?]?)?;
-    said_all(&mut set, alloc, before)?;
-    let command = command(alloc, line)?;
-    let answer = match answer(&mut set, alloc, &command) {
-        Ok(reply) => said(alloc, reply)?,
-        Err(StoreFault::NoPage) => String::from_str(alloc, "no page")?,
-        Err(StoreFault::OutOfMemory) => return Err(Fail::from("out of memory")),
-    };
-    Ok(format!(in alloc; "{answer}, {} misses", set.misses())?)
+    told(&mut set, alloc, before, line)
 }
 
 /// Adds the lines of a block, with what the commands answer.
