@@ -71,11 +71,19 @@ pub fn by_hand(alloc: Global, fold: u32, fails: &[u64]) -> Result<CountRack, Out
 
 // Recovery.
 
+/// The volume of which a read failed, 0 where another fault was found.
+fn volume_of(fault: &RecoverFault) -> u32 {
+    match fault {
+        RecoverFault::Fault { vol } => vol.number(),
+        _ => 0,
+    }
+}
+
 /// The volume of which a read failed in recovery, 0 where none did.
 fn unread(rack: &mut CountRack, alloc: Global) -> u32 {
     match recover(alloc, rack) {
-        Err(RecoverFault::Fault { vol }) => vol.number(),
-        _ => 0,
+        Ok(_redone) => 0,
+        Err(fault) => volume_of(&fault),
     }
 }
 
