@@ -8,6 +8,9 @@ use anyhow::{Context, Result, bail};
 use fileset_table::{FilesetNo, FilesetTable, Page, SlotItem, a_fileset_changes, written_and_read};
 use std::alloc::Global;
 
+/// How often clones are made at most.
+const MOST_MADE: u64 = 0x7fff_ffff_ffff_ffff;
+
 /// A page, and a table that was read of it.
 #[derive(Drop)]
 struct Desk {
@@ -93,7 +96,11 @@ fn replace_slot(alloc: Global, table: &mut FilesetTable, word: &str) -> Result<S
 
 /// The table with another count, as it is read after it was written over another page.
 fn again(alloc: Global, table: &mut FilesetTable, made: &str) -> Result<String> {
-    table.set_made(made.parse()?);
+    let made: u64 = made.parse()?;
+    if MOST_MADE < made {
+        bail!("a count that no table has");
+    }
+    table.set_made(made);
     let mut page = Page::zeros(alloc)?;
     put_line(alloc, &mut page, "0 ffffffff, 16 ffffffff, 144 01")?;
     match written_and_read(alloc, table, &mut page) {
