@@ -6,16 +6,25 @@ use crate::blocks::{is_idle, push_answer};
 use crate::reading::{command, said};
 use crate::runs::said_all;
 use crate::steps::{answer, empty_set};
-use fileset_lending::{BitfileSet, MemoryBitfiles, StoreFault};
+use fileset_lending::{BitfileSet, MemoryBitfiles, Reply, StoreFault};
 use std::alloc::Global;
 use std::test::Fail;
 
-/// What a command answers, or that a call of it found no page.
-fn outcome<S: BitfileSet>(set: &mut S, alloc: Global, line: &str) -> Result<String, Fail>
+/// What a set answers to the command of a line.
+fn reply_to<S: BitfileSet>(
+    set: &mut S,
+    alloc: Global,
+    line: &str,
+) -> Result<Result<Reply, StoreFault>, Fail>
     requires { HasOriginal (S.files set.old) }
 {
     let command = command(alloc, line)?;
-    match answer(set, alloc, &command) {
+    Ok(answer(set, alloc, &command))
+}
+
+/// What is printed of an answer, or that a call found no page.
+fn outcome(alloc: Global, answer: Result<Reply, StoreFault>) -> Result<String, Fail> {
+    match answer {
         Ok(reply) => said(alloc, reply),
         Err(StoreFault::NoPage) => Ok(String::from_str(alloc, "no page")?),
         Err(StoreFault::OutOfMemory) => Err(Fail::from("out of memory")),
@@ -27,7 +36,8 @@ fn told(set: &mut MemoryBitfiles, alloc: Global, before: &str, line: &str) -> Re
     requires { HasOriginal (⟦<MemoryBitfiles as BitfileSet>⟧.files set.old) }
 {
     said_all(set, alloc, before)?;
-    let answer = outcome(set, alloc, line)?;
+    let answer = reply_to(set, alloc, line)?;
+    let answer = outcome(alloc, answer)?;
     Ok(format!(in alloc; "{answer}, {} misses", set.misses())?)
 }
 
