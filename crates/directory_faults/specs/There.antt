@@ -8,7 +8,7 @@ use Rattle.fileset_shapes.specs.page_store.Pages.{Pages}
 use Rattle.fileset_shapes.specs.metadata_cells.Chain.{PlacedCell}
 use Rattle.fileset_shapes.specs.fileset_files.State.{parent_of}
 use Rattle.fileset_shapes.specs.fileset_table.Table.{Table}
-use Rattle.fileset_shapes.specs.domain_layout.DirectoryRules.{Has, HasWrongSize}
+use Rattle.fileset_shapes.specs.domain_layout.DirectoryRules.{Has, HasSecondPage, HasWrongSize}
 use Rattle.fileset_shapes.specs.domain_layout.Reached.{Frame, IsWithin}
 use Rattle.fileset_shapes.specs.domain_layout.Seen.{SeenFile}
 use Rattle.fileset_shapes.specs.filesets_reading.Seen.{home_in}
@@ -29,6 +29,7 @@ pub record IsReadAs (frame : Frame) (cells : List PlacedCell) (seen : SeenFile) 
       ↔ ((seen.homes page ≡ Some home) × IsWithin frame home)
   pub parent : file.parent ≡ parent_of cells
   pub size : seen.is.kind ≡ Directory → IsTrue file.has_wrong_size ↔ HasWrongSize cells seen
+  pub second : seen.is.kind ≡ Directory → IsTrue file.has_second_page ↔ HasSecondPage seen
 
 -- a fileset has what was read at its tag
 pub record IsReadFile (pages : Pages) (frame : Frame) (table : Table) (number : ℕ)

@@ -3,8 +3,8 @@ use fileset_shapes::{CellAt, SeenPages, Tag};
 
 /// A file or directory of a fileset: its tag, where its first cell stands, what it is, and the
 /// directory that it says to stand in, if it says one. For a directory it also has the homes of its
-/// pages that are a member's, and whether its pages have a gap, its size is not that of its pages,
-/// or its cells have pages that it does not keep.
+/// pages that are a member's; whether its pages have a gap, its size is not that of its pages, or
+/// its cells have pages that it does not keep; and whether it has more pages than one.
 #[derive(Drop)]
 pub struct FileThere {
     pub tag: Tag,
@@ -12,4 +12,5 @@ pub struct FileThere {
     pub seen: SeenPages,
     pub parent: Option<Tag>,
     pub has_wrong_size: bool,
+    pub has_second_page: bool,
 }

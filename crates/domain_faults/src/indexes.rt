@@ -32,7 +32,7 @@ fn insert_slot_indexes<M: MetaPages>(
 {
     let files = read_slot_files(alloc, pages, frame, tables, number)?;
     let rows = read_rows(alloc, pages, frame, &files)?;
-    let indexes = read_slot_indexes(alloc, pages, &tables.filesets, number, &files)?;
+    let indexes = read_slot_indexes(alloc, pages, &files)?;
     insert_wrong_indexes(alloc, pages, frame, &rows, &indexes, found)
 }
 

@@ -1,16 +1,18 @@
 -- Pages that agree where the rules look: the same rules of indexes are broken.
-use Rattle.std.proofs.Common.{◌≡◌, ◌∙◌, inl, inr, ℕ, false, true, List, [], ◌∷◌, Some, None, sym, ap, refl, ⊎_elim}
+use Rattle.std.proofs.Common.{◌≡◌, inl, inr, ℕ, List, [], ◌∷◌, Option, Some, None, IsSomeAnd, refl, ⊎_elim}
 use Rattle.std.specs.Prelude.{slice_get}
+use Rattle.std.specs.Option.{option_and_then}
 use Rattle.file_release.specs.domain_base.declared.place.CellAt.{CellAt}
 use Rattle.file_release.specs.domain_base.declared.place.Home.{Home}
 use Rattle.file_release.specs.domain_base.declared.place.Tag.{Tag}
 use Rattle.file_release.specs.page_store.Pages.{Pages}
 use Rattle.file_release.specs.metadata_cells.Chain.{PlacedCell}
 use Rattle.file_release.specs.fileset_files.Files.{first_record}
+use Rattle.fileset_table.specs.Table.{entry_of as fileset_of}
+use Rattle.fileset_table.specs.declared.slot.FilesetEntry.{FilesetEntry}
 use Rattle.fileset_table.specs.declared.slot.SlotItem.{SlotItem}
 use Rattle.fileset_table.specs.declared.slot.SlotItem.TheVariants as slots
-use Rattle.domain_layout.specs.CellRules.{of_clone}
-use Rattle.domain_layout.specs.DirectoryRules.{AreAllPages, AreReadPages, CountsRows, HasIndex, HasIndexAt, IsInItem, IsIndexFault, IsThere, IsWrongIndex, IsWrongIndexEntry, IsWrongIndexOf, IsWrongIndexPage, IsWrongTotal}
+use Rattle.domain_layout.specs.DirectoryRules.{AreAllPages, AreReadPages, CountsRows, HasIndex, HasIndexAt, IsInClone, IsInItem, IsIndexFault, IsThere, IsWrongIndex, IsWrongIndexEntry, IsWrongIndexOf, IsWrongIndexPage, IsWrongTotal}
 use Rattle.domain_layout.specs.Layout.{Layout}
 use Rattle.domain_layout.specs.Owners.{frame_of}
 use Rattle.domain_layout.specs.Reached.{Frame, index_way}
@@ -19,7 +21,7 @@ use Rattle.domain_layout.specs.TagRules.{HasTags}
 use Rattle.domain_layout.specs.Alike.{AgreeOnWay}
 use Rattle.domain_layout.proofs.CellsAlike.{read, turned, unread, used_alike}
 use Rattle.domain_layout.proofs.ChainsAlike.{same_page}
-use Rattle.domain_layout.proofs.Files.{FirstThere, first_used, has_alike}
+use Rattle.domain_layout.proofs.Files.{FirstThere, first_used, has_alike, tags_of}
 use Rattle.domain_layout.proofs.RowsRead.{page_alike}
 use Rattle.domain_layout.proofs.Sides.{AreSides, flipped}
 
@@ -83,7 +85,7 @@ module _ (one other : Pages) (layout : Layout) (s : AreSides one other layout) w
             )) w.wrong;
       }
 
-  -- ---- indexes of files of originals
+  -- ---- indexes of files
 
   -- a cell names the index
   record IsNamed (first : Home) : Type 0 where
@@ -93,20 +95,29 @@ module _ (one other : Pages) (layout : Layout) (s : AreSides one other layout) w
   named : (number : ℕ) (tag : Tag) (seen : SeenFile) (first : Home) (total : ℕ) → HasIndex one layout.table number tag seen first total → ¬ ¬ IsNamed first
   named number tag seen first total has = by_item has.has.item has.has.there has.has.is
     where
+      by_list : (n : ℕ) (entry : FilesetEntry) → HasTags layout.table n entry.first_tag → (cells : List PlacedCell) → IsThere one entry tag cells → first_record 9 cells ≡ Some has.value → ¬ ¬ IsNamed first
+      by_list n entry tags [] there record_there = absurd (let e : None ≡ Some has.value = record_there in absurd (cc))
+      by_list n entry tags (cell ∷ rest) there record_there = λ away.
+          first_used one other layout s.ahead n entry tags tag cell rest there (λ (f : FirstThere one other layout s.ahead n entry tags tag cell).
+          away (record { at = cell.at; has = record { cell = cell.cell; is = f.used; value = has.value; there = record_there; begins = has.begins } }))
+
+      behind_tags : (of : ℕ) (item : SlotItem) (original : FilesetEntry) → slice_get layout.table.slots of ≡ Some item → fileset_of item ≡ Some original → HasTags layout.table of original.first_tag
+      behind_tags of item original there is = record { item = item; there = there; has = tags_of item original is }
+
+      by_clone : (of clone : ℕ) (entry : FilesetEntry) → HasTags layout.table number entry.first_tag → (o : Option SlotItem) → slice_get layout.table.slots of ≡ o → (e : Option FilesetEntry) → option_and_then fileset_of o ≡ e
+          → IsSomeAnd e (λ original. IsInClone one entry original clone tag has.cells seen) → ¬ ¬ IsNamed first
+      by_clone of clone entry tags o behind None none is = absurd is
+      by_clone of clone entry tags None behind (Some original) some is = absurd (let e : None ≡ Some original = some in absurd (cc))
+      by_clone of clone entry tags (Some item) behind (Some original) some is =
+          ⊎_elim (λ own. by_list number entry tags has.cells own.0 has.there)
+          (λ through. by_list of original (behind_tags of item original behind some) has.cells through.1 has.there) is.is
+
       by_item : (item : SlotItem) → slice_get layout.table.slots number ≡ Some item → IsInItem one layout.table item tag has.cells seen → ¬ ¬ IsNamed first
       by_item slots.Free slot is = absurd is
       by_item (slots.Removed first_tag quota) slot is = absurd is
-      by_item (slots.Clone of clone entry) slot is = absurd (let e : true ≡ false = sym (ap of_clone slot) ∙ has.original in absurd (cc))
-      by_item (slots.Original entry) slot is = by_list has.cells is.there has.there
-        where
-          tags : HasTags layout.table number entry.first_tag
-          tags = record { item = slots.Original entry; there = slot; has = refl }
-
-          by_list : (cells : List PlacedCell) → IsThere one entry tag cells → first_record 9 cells ≡ Some has.value → ¬ ¬ IsNamed first
-          by_list [] there record_there = absurd (let e : None ≡ Some has.value = record_there in absurd (cc))
-          by_list (cell ∷ rest) there record_there = λ away.
-              first_used one other layout s.ahead number entry tags tag cell rest there (λ (f : FirstThere one other layout s.ahead number entry tags tag cell).
-              away (record { at = cell.at; has = record { cell = cell.cell; is = f.used; value = has.value; there = record_there; begins = has.begins } }))
+      by_item (slots.Clone of clone entry) slot is =
+          by_clone of clone entry (record { item = slots.Clone of clone entry; there = slot; has = refl }) (slice_get layout.table.slots of) refl (option_and_then fileset_of (slice_get layout.table.slots of)) refl is
+      by_item (slots.Original entry) slot is = by_list number entry (record { item = slots.Original entry; there = slot; has = refl }) has.cells is.there has.there
 
   -- so its pages are the same
   index_agrees : (number : ℕ) (tag : Tag) (seen : SeenFile) (first : Home) (total : ℕ) → HasIndex one layout.table number tag seen first total → AgreeOnWay one other (frame_of layout) (index_way first)
@@ -117,7 +128,6 @@ module _ (one other : Pages) (layout : Layout) (s : AreSides one other layout) w
   has_index_alike number tag seen first total has = record {
     cells = has.cells;
     has = has_alike one other layout s.ahead number tag has.cells seen has.has;
-    original = has.original;
     value = has.value;
     there = has.there;
     begins = has.begins;

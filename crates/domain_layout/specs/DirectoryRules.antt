@@ -302,12 +302,11 @@ abbrev pub total_in : Record → ℕ
 total_in (written.DirIndex vol page entries) = entries
 total_in _ = 0
 
--- a file of an original has an index that begins there, of so many entries
+-- a file of a fileset, an original or a clone, has an index that begins there, of so many entries
 pub record HasIndex (pages : Pages) (table : Table) (number : ℕ) (tag : Tag) (seen : SeenFile)
     (first : Home) (total : ℕ) : Type 0 where
   pub cells : List PlacedCell
   pub has : Has pages table number tag cells seen
-  pub original : of_clone (slice_get table.slots number) ≡ false
   pub value : Record
   pub there : first_record 9 cells ≡ Some value
   pub begins : index_in value ≡ Some first

@@ -76,5 +76,6 @@ pub(crate) fn file_of(alloc: Global, line: &str) -> Result<FileThere, NotRead> {
         seen: SeenPages { is, homes },
         parent,
         has_wrong_size,
+        has_second_page: false,
     })
 }

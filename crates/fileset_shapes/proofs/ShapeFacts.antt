@@ -26,7 +26,6 @@ use Rattle.filesets_reading.specs.fileset_table.Table.{Table, entry_of}
 use Rattle.filesets_reading.specs.fileset_table.declared.slot.FilesetEntry.{FilesetEntry}
 use Rattle.filesets_reading.specs.fileset_table.declared.slot.SlotItem.{SlotItem}
 use Rattle.filesets_reading.specs.fileset_table.declared.slot.SlotItem.TheVariants as slot
-use Rattle.filesets_reading.specs.domain_layout.CellRules.{of_clone}
 use Rattle.filesets_reading.specs.domain_layout.DirectoryRules.{AreReadPages, Has, HasIndex, HasIndexAt, IsFirstHome, IsInClone, IsInItem, IsInOriginal, IsNotThere, IsThere, total_in}
 use Rattle.filesets_reading.specs.domain_layout.Layout.{Layout}
 use Rattle.filesets_reading.specs.domain_layout.Owners.{frame_of}
@@ -242,7 +241,6 @@ module _ (pages : Pages) (layout : Layout) (whole : IsWhole pages layout) where
                   has = record {
                     cells = c.first ∷ c.rest;
                     has = (there_of tag seen c).has;
-                    original = subst (λ o. of_clone o ≡ false) (sym there) refl;
                     value = value;
                     there = at;
                     begins = begins_at;

@@ -13,7 +13,7 @@ use Rattle.index_row_faults.specs.declared.there.IndexThere.{IndexThere}
 abbrev pub MayBeOf : SeenFile → IndexThere → Type 0
 MayBeOf seen index = IsTrue index.may_be ↔ ((seen.is.kind ≡ Directory) × HasSecondPage seen)
 
--- a file of the fileset in a slot, of an original, has the index
+-- a file of the fileset in a slot has the index
 pub record IsReadIndex (pages : Pages) (table : Table) (number : ℕ) (index : IndexThere) : Type 0
   where
     pub seen : SeenFile

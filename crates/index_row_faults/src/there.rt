@@ -1,7 +1,7 @@
 //! What is read of an index for the rules of its entries.
 use page_faults::{Home, Tag};
 
-/// An index that a file or directory of an original names: its tag, the first page, how many
+/// An index that a file or directory of a fileset names: its tag, the first page, how many
 /// entries the record says, and whether it may be there at all: whether it belongs to a directory
 /// of more than one page.
 #[derive(Drop)]

@@ -1,4 +1,4 @@
--- The indexes that were read of an original's files are those that the layout says.
+-- The indexes that were read of a fileset's files are those that the layout says.
 use Rattle.std.proofs.Common.{◌≡◌, ◌∙◌, ◌⊎◌, ◌↔◌, ℕ, ◌+◌, ◌<◌, ◌≤◌, Bool, true, false, List, [], ◌∷◌, ◌++◌, length, Option, Some, None, IsSome, IsTrue, cond, IsSomeAnd, Contains, slice_get, refl, sym, ap, subst, arith, ⊎_elim}
 use Rattle.std.specs.Option.{option_and_then, option_map}
 use Rattle.std.proofs.lemmas.Bool.{cases_lt}
@@ -8,28 +8,23 @@ use Rattle.std.proofs.lemmas.List.Elements.{Contains-append_left, Contains-push,
 use Rattle.index_row_faults.specs.domain_base.declared.place.CellAt.{CellAt}
 use Rattle.index_row_faults.specs.domain_base.declared.place.Home.{Home}
 use Rattle.index_row_faults.specs.domain_base.declared.place.Tag.{Tag}
-use Rattle.index_row_faults.specs.domain_base.declared.place.Kind.TheVariants.{Directory}
 use Rattle.index_row_faults.specs.page_store.Pages.{Pages}
 use Rattle.index_row_faults.specs.cell_records.declared.record.Record.{Record}
 use Rattle.index_row_faults.specs.cell_records.declared.record.Record.TheVariants as written
 use Rattle.index_row_faults.specs.metadata_cells.Chain.{LinksFrom, PlacedCell}
-use Rattle.index_row_faults.specs.file_chains.Files.{places_of}
-use Rattle.index_row_faults.specs.fileset_files.Files.{attributes_of, first_record, is_removed, keep_of}
+use Rattle.index_row_faults.specs.fileset_files.Files.{first_record}
 use Rattle.index_row_faults.specs.fileset_files.Shown.{index_in}
 use Rattle.index_row_faults.specs.fileset_files.declared.attributes.Attributes.{Attributes}
-use Rattle.index_row_faults.specs.extent_maps.Runs.{home_at}
-use Rattle.index_row_faults.specs.extent_records.Writing.{places_before}
 use Rattle.index_row_faults.specs.tag_dirs.Directory.{cell_of}
-use Rattle.index_row_faults.specs.fileset_table.Table.{Table}
+use Rattle.index_row_faults.specs.fileset_table.Table.{Table, entry_of as fileset_of}
 use Rattle.index_row_faults.specs.fileset_table.declared.slot.FilesetEntry.{FilesetEntry}
 use Rattle.index_row_faults.specs.fileset_table.declared.slot.SlotItem.{SlotItem}
 use Rattle.index_row_faults.specs.fileset_table.declared.slot.SlotItem.TheVariants as slot
-use Rattle.index_row_faults.specs.domain_layout.CellRules.{of_clone}
-use Rattle.index_row_faults.specs.domain_layout.DirectoryRules as rule
-use Rattle.index_row_faults.specs.domain_layout.DirectoryRules.{Has, HasSecondPage, IsInItem, total_in}
+use Rattle.index_row_faults.specs.domain_layout.DirectoryRules.{Has, IsInClone, IsInItem, IsThere, total_in}
 use Rattle.index_row_faults.specs.domain_layout.Faults.{HasNoTablesFault}
 use Rattle.index_row_faults.specs.domain_layout.Reached.{Frame}
-use Rattle.index_row_faults.specs.domain_layout.Seen.{SeenFile, kept_by, seen_in}
+use Rattle.index_row_faults.specs.domain_layout.Seen.{SeenFile}
+use Rattle.index_row_faults.proofs.OfDomainLayout.Files.{tags_of}
 use Rattle.index_row_faults.proofs.OfDomainLayout.Named.{first_there}
 use Rattle.index_row_faults.proofs.OfDomainLayout.OnePage.{some_same}
 use Rattle.index_row_faults.specs.filesets_reading.Chains.{HasLinks}
@@ -37,23 +32,18 @@ use Rattle.index_row_faults.specs.filesets_reading.Tables.{AreTablesOf}
 use Rattle.index_row_faults.specs.filesets_reading.declared.tables.DomainTables.{DomainTables}
 use Rattle.index_row_faults.proofs.OfFilesetsReading.Unbroken.{unbroken}
 use Rattle.index_row_faults.proofs.OfPageFaults.HomesFound.{on_volume}
-use Rattle.index_row_faults.specs.directory_faults.There.{AreFilesIn, BeginAt, IsReadFile}
+use Rattle.index_row_faults.specs.directory_faults.There.{AreFilesIn, BeginAt, IsReadAs, IsReadFile}
 use Rattle.index_row_faults.specs.directory_faults.declared.there.FileThere.{FileThere}
 use Rattle.index_row_faults.proofs.OfDirectoryFaults.Inserted.{among_at, at_among}
-use Rattle.index_row_faults.specs.There.{AreIndexesIn}
+use Rattle.index_row_faults.specs.There.{AreIndexesIn, MayBeOf}
 use Rattle.index_row_faults.specs.declared.there.IndexThere.{IndexThere}
-use Rattle.slot_files.specs.Files.{HasOriginalAt, IsWhole, kept_homes}
-use Rattle.slot_files.specs.Indexes.{AreIndexesOf, AreWhole, HasTwo, IsIndexOf, IsOf, Names, ReadsIndex, said_by, said_of}
-use Rattle.slot_files.specs.Said.{home_said, said_in}
-use Rattle.slot_files.specs.declared.said.SaidHome.{SaidHome}
+use Rattle.slot_files.specs.Files.{IsWhole}
+use Rattle.slot_files.specs.Indexes.{AreIndexesOf, AreWhole, IsIndexOf, MayHaveIndex, Names, ReadsIndex, said_by, said_of}
 use Rattle.slot_files.specs.declared.indexes.SaidIndex.{SaidIndex}
 use Rattle.slot_files.proofs.SlotFiles.{none as no_fault, slot_there}
 
 none_some : {P : Type 0} {X : Type 0} (x : X) → None ≡ Some x → P
 none_some x is = absurd (cc)
-
-no_bool : {P : Type 0} → true ≡ false → P
-no_bool is = absurd (cc)
 
 -- ---- what a cell names
 
@@ -95,7 +85,7 @@ reads_none pages file none = record {
 }
 
 pub reads_one : (pages : Pages) (file : FileThere) (said : SaidIndex) (may : Bool) → HasLinks pages file.at → ((cells : List PlacedCell) → LinksFrom pages file.at cells → Some said ≡ said_of cells)
-    → ((cells : List PlacedCell) (seen : SeenFile) → IsOf pages file cells seen → IsTrue may ↔ ((seen.is.kind ≡ Directory) × HasSecondPage seen)) → ReadsIndex pages file (Some (record { tag = file.tag; first = said.first; total = said.total; may_be = may }))
+    → IsTrue may ↔ MayHaveIndex file → ReadsIndex pages file (Some (record { tag = file.tag; first = said.first; total = said.total; may_be = may }))
 reads_one pages file said may has same may_be = record {
   each = record { tag_is = refl; names = λ cells links. said_names cells said (sym (same cells links)); may_be = may_be };
   all = λ cells first total links names.
@@ -104,134 +94,110 @@ reads_one pages file said may has same may_be = record {
       (ap (λ (s : SaidIndex). s.first) both, ap (λ (s : SaidIndex). s.total) both);
 }
 
--- the pages that a file keeps have a second one
-pub second_by : (cells : List PlacedCell) (seen : SeenFile) (keep : ℕ) (homes : List (Option SaidHome)) (has : Bool) → Some keep ≡ keep_of cells → seen_in cells ≡ Some seen → ((page : ℕ) → said_in homes page ≡ kept_homes keep cells page) → IsTrue has ↔ HasTwo homes → IsTrue has ↔ HasSecondPage seen
-second_by cells seen keep homes has keeps is said two = by_attributes (attributes_of cells) (live_of (is_removed cells) is)
+-- where the file of these cells was read, and may have an index, the index may be there
+may_of : (frame : Frame) (cells : List PlacedCell) (seen : SeenFile) (file : FileThere) (index : IndexThere) → IsReadAs frame cells seen file → IsTrue index.may_be ↔ MayHaveIndex file → MayBeOf seen index
+may_of frame cells seen file index read may = (
+  (λ yes. let both = may.0 yes in let dir = ap (λ (a : Attributes). a.kind) (sym read.is) ∙ both.0 in (dir, (read.second dir).0 both.1)),
+  (λ (dir, second). may.1 (ap (λ (a : Attributes). a.kind) read.is ∙ dir, (read.second dir).1 second)),
+)
+
+-- ---- a file of a fileset
+
+-- its chain begins at the cell to which its tag leads
+one_begin : (pages : Pages) (cells : List PlacedCell) (at place : CellAt) → LinksFrom pages at cells → BeginAt cells place → place ≡ at
+one_begin pages [] at place links begins = absurd links
+one_begin pages (first ∷ rest) at place links begins = sym begins ∙ links.0
+
+links_there : (pages : Pages) (entry : FilesetEntry) (tag : Tag) (cells : List PlacedCell) (place : CellAt) → IsThere pages entry tag cells → BeginAt cells place → LinksFrom pages place cells
+links_there pages entry tag cells place is begins = by_cell (cell_of pages is.places tag) is.leads
   where
-    live_of : (b : Bool) → cond b None (option_and_then (kept_by cells) (attributes_of cells)) ≡ Some seen → option_and_then (kept_by cells) (attributes_of cells) ≡ Some seen
-    live_of true there = none_some seen there
-    live_of false there = there
+    by_cell : (o : Option CellAt) → IsSomeAnd o (λ at. LinksFrom pages at cells) → LinksFrom pages place cells
+    by_cell None leads = absurd leads
+    by_cell (Some at) leads = subst (λ a. LinksFrom pages a cells) (sym (one_begin pages cells at place leads begins)) leads
 
-    by_attributes : (o : Option Attributes) → option_and_then (kept_by cells) o ≡ Some seen → IsTrue has ↔ HasSecondPage seen
-    by_attributes None there = none_some seen there
-    by_attributes (Some value) there =
-        let one : SeenFile = record { is = value; homes = kept_homes keep cells } in
-        let same : one ≡ seen = some_same one seen (ap (option_map (λ (n : ℕ). record { is = value; homes = λ page. home_at (places_before n (places_of cells) page) })) keeps ∙ there) in
-        subst (λ (s : SeenFile). IsTrue has ↔ HasSecondPage s) same (
-          λ yes. let (a, b, apart, first, second) = two.0 yes in (a, b, apart, subst IsSome (said a) first, subst IsSome (said b) second),
-          λ (a, b, apart, first, second). two.1 (a, b, apart, subst IsSome (sym (said a)) first, subst IsSome (sym (said b)) second),
-        )
-
--- a file that says what it keeps is there
-pub keeps_some : (cells : List PlacedCell) (seen : SeenFile) → None ≡ keep_of cells → seen_in cells ≡ Some seen → ⊥
-keeps_some cells seen gone is = by_attributes (attributes_of cells) (live_of (is_removed cells) is)
-  where
-    live_of : (b : Bool) → cond b None (option_and_then (kept_by cells) (attributes_of cells)) ≡ Some seen → option_and_then (kept_by cells) (attributes_of cells) ≡ Some seen
-    live_of true there = none_some seen there
-    live_of false there = there
-
-    by_attributes : (o : Option Attributes) → option_and_then (kept_by cells) o ≡ Some seen → ⊥
-    by_attributes None there = none_some seen there
-    by_attributes (Some value) there =
-        none_some seen (ap (option_map (λ (n : ℕ). record { is = value; homes = λ page. home_at (places_before n (places_of cells) page) })) gone ∙ there)
-
--- ---- a file of an original
-
-module _ (pages : Pages) (frame : Frame) (table : Table) (number : ℕ) (entry : FilesetEntry) (there : slice_get table.slots number ≡ Some (slot.Original entry)) where
-  of_original : (tag : Tag) (cells : List PlacedCell) (seen : SeenFile) → Has pages table number tag cells seen → rule.IsInOriginal pages entry tag cells seen
-  of_original tag cells seen has = subst (λ (i : SlotItem). IsInItem pages table i tag cells seen) (some_same has.item (slot.Original entry) (sym has.there ∙ there)) has.is
-
-  -- its chain begins at the cell to which its tag leads
-  one_begin : (cells : List PlacedCell) (at place : CellAt) → LinksFrom pages at cells → BeginAt cells place → place ≡ at
-  one_begin [] at place links begins = absurd links
-  one_begin (first ∷ rest) at place links begins = sym begins ∙ links.0
-
-  pub links_at : (tag : Tag) (cells : List PlacedCell) (seen : SeenFile) (place : CellAt) → Has pages table number tag cells seen → BeginAt cells place → LinksFrom pages place cells
-  links_at tag cells seen place has begins =
-      let is = of_original tag cells seen has in
-      by_cell (cell_of pages is.there.places tag) is.there.leads
+module _ (pages : Pages) (table : Table) (number : ℕ) where
+  links_at : (tag : Tag) (cells : List PlacedCell) (seen : SeenFile) (place : CellAt) → Has pages table number tag cells seen → BeginAt cells place → LinksFrom pages place cells
+  links_at tag cells seen place has begins = by_item has.item has.is
     where
-      by_cell : (o : Option CellAt) → IsSomeAnd o (λ at. LinksFrom pages at cells) → LinksFrom pages place cells
-      by_cell None leads = absurd leads
-      by_cell (Some at) leads = subst (λ a. LinksFrom pages a cells) (sym (one_begin cells at place leads begins)) leads
+      by_entry : (clone : ℕ) (entry : FilesetEntry) (o : Option FilesetEntry) → IsSomeAnd o (λ original. IsInClone pages entry original clone tag cells seen) → LinksFrom pages place cells
+      by_entry clone entry None is = absurd is
+      by_entry clone entry (Some original) is =
+          ⊎_elim (λ own. links_there pages entry tag cells place own.0 begins) (λ behind. links_there pages original tag cells place behind.1 begins) is.is
 
-  seen_is : (tag : Tag) (cells : List PlacedCell) (seen : SeenFile) → Has pages table number tag cells seen → seen_in cells ≡ Some seen
-  seen_is tag cells seen has = (of_original tag cells seen has).is
+      by_item : (item : SlotItem) → IsInItem pages table item tag cells seen → LinksFrom pages place cells
+      by_item slot.Free is = absurd is
+      by_item (slot.Original entry) is = links_there pages entry tag cells place is.there begins
+      by_item (slot.Clone of clone entry) is = by_entry clone entry (option_and_then fileset_of (slice_get table.slots of)) is
+      by_item (slot.Removed first quota) is = absurd is
 
-  no_clone : of_clone (slice_get table.slots number) ≡ false
-  no_clone = ap of_clone there
-
-  -- ---- lists
-
-  module _ (files : List FileThere) (are : AreFilesIn pages frame table number files) (indexes : List IndexThere) (read : AreIndexesOf pages files indexes) where
-    pub indexes_in : AreIndexesIn pages table number indexes
-    indexes_in = record {
-      each = λ index among.
-          let (file, within, is) = read.each index among in
-          let its = are.each file within in
-          let links = links_at file.tag its.cells its.seen file.at its.has its.read.begins in
-          let (value, record_is, begins, entries) = is.names its.cells links in
-          record {
-            seen = its.seen;
-            has = record {
-              cells = its.cells;
-              has = subst (λ (t : Tag). Has pages table number t its.cells its.seen) (sym is.tag_is) its.has;
-              original = no_clone;
-              value = value;
-              there = record_is;
-              begins = begins;
-              entries = entries;
-            };
-            may_be = is.may_be its.cells its.seen (links, seen_is file.tag its.cells its.seen its.has, its.read.is);
+module _ (pages : Pages) (frame : Frame) (table : Table) (number : ℕ) (files : List FileThere) (are : AreFilesIn pages frame table number files) (indexes : List IndexThere) (read : AreIndexesOf pages files indexes) where
+  pub indexes_in : AreIndexesIn pages table number indexes
+  indexes_in = record {
+    each = λ index among.
+        let (file, within, is) = read.each index among in
+        let its = are.each file within in
+        let links = links_at pages table number file.tag its.cells its.seen file.at its.has its.read.begins in
+        let (value, record_is, begins, entries) = is.names its.cells links in
+        record {
+          seen = its.seen;
+          has = record {
+            cells = its.cells;
+            has = subst (λ (t : Tag). Has pages table number t its.cells its.seen) (sym is.tag_is) its.has;
+            value = value;
+            there = record_is;
+            begins = begins;
+            entries = entries;
           };
-      all = λ tag seen first total has.
-          let was = are.all tag has.cells seen has.has in
-          let file = was.file in
-          let its = subst (λ (t : Tag). Has pages table number t has.cells seen) (sym was.tag_is) has.has in
-          let links = links_at file.tag has.cells seen file.at its was.read.begins in
-          let (index, among, is, first_is, total_is) = read.all file has.cells first total was.among links (has.value, has.there, has.begins, has.entries) in
-          record {
-            index = index;
-            among = among;
-            tag_is = is.tag_is ∙ was.tag_is;
-            first_is = first_is;
-            total_is = total_is;
-            may_be = is.may_be has.cells seen (links, seen_is file.tag has.cells seen its, was.read.is);
-          };
-    }
-
--- no original is in a slot
-no_item : {P : Type 0} (pages : Pages) (table : Table) (number : ℕ) (tag : Tag) (cells : List PlacedCell) (seen : SeenFile) (item : SlotItem) → slice_get table.slots number ≡ Some item → ((entry : FilesetEntry) → ¬ item ≡ slot.Original entry)
-    → IsInItem pages table item tag cells seen → of_clone (slice_get table.slots number) ≡ false → P
-no_item pages table number tag cells seen slot.Free there other is clone = absurd is
-no_item pages table number tag cells seen (slot.Original entry) there other is clone = absurd (other entry refl)
-no_item pages table number tag cells seen (slot.Clone of made entry) there other is clone = no_bool (sym (ap of_clone there) ∙ clone)
-no_item pages table number tag cells seen (slot.Removed first quota) there other is clone = absurd is
-
-pub no_indexes : (pages : Pages) (table : Table) (number : ℕ) (item : SlotItem) → slice_get table.slots number ≡ Some item → ((entry : FilesetEntry) → ¬ item ≡ slot.Original entry) → (indexes : List IndexThere) → indexes ≡ [] → AreIndexesIn pages table number indexes
-no_indexes pages table number item there other indexes empty = subst (AreIndexesIn pages table number) (sym empty) (record {
-  each = λ index among. absurd (omega (arith, among.1));
-  all = λ tag seen first total has.
-      no_item pages table number tag has.cells seen item there other (subst (λ (i : SlotItem). IsInItem pages table i tag has.cells seen) (some_same has.has.item item (sym has.has.there ∙ there)) has.has.is) has.original;
-})
+          may_be = may_of frame its.cells its.seen file index its.read is.may_be;
+        };
+    all = λ tag seen first total has.
+        let was = are.all tag has.cells seen has.has in
+        let file = was.file in
+        let its = subst (λ (t : Tag). Has pages table number t has.cells seen) (sym was.tag_is) has.has in
+        let links = links_at pages table number file.tag has.cells seen file.at its was.read.begins in
+        let (index, among, is, first_is, total_is) = read.all file has.cells first total was.among links (has.value, has.there, has.begins, has.entries) in
+        record {
+          index = index;
+          among = among;
+          tag_is = is.tag_is ∙ was.tag_is;
+          first_is = first_is;
+          total_is = total_is;
+          may_be = may_of frame has.cells seen file index was.read is.may_be;
+        };
+  }
 
 -- ---- whole chains
 
 module _ (pages : Pages) (frame : Frame) (tables : DomainTables) (are : AreTablesOf pages frame tables) (fault : HasNoTablesFault pages frame) (number : ℕ) (files : List FileThere) (read : AreFilesIn pages frame tables.filesets number files) where
-  pub files_whole : HasOriginalAt tables.filesets number → AreWhole pages files
-  files_whole (entry, there) file among = by_cell (cell_of pages is.there.places file.tag) refl is.there.leads
+  whole_there : (n : ℕ) (item : SlotItem) (entry : FilesetEntry) → slice_get tables.filesets.slots n ≡ Some item → fileset_of item ≡ Some entry → (tag : Tag) (cells : List PlacedCell) (place : CellAt) → IsThere pages entry tag cells → BeginAt cells place → IsWhole pages place
+  whole_there n item entry there entry_is tag cells place is begins = by_cell (cell_of pages is.places tag) refl is.leads
+    where
+      by_cell : (o : Option CellAt) → cell_of pages is.places tag ≡ o → IsSomeAnd o (λ at. LinksFrom pages at cells) → IsWhole pages place
+      by_cell None none_there leads = absurd leads
+      by_cell (Some at) leads_there leads = subst (IsWhole pages) (sym (one_begin pages cells at place leads begins)) (λ broken.
+          unbroken pages are.layout are.laid (no_fault pages frame tables are fault) n tag at
+          (first_there pages are.layout are.laid (no_fault pages frame tables are fault) n entry.first_tag (record { item = item; there = slot_there pages frame tables are fault n item there; has = tags_of item entry entry_is }) is.places is.directory tag at leads_there) broken)
+
+  pub files_whole : AreWhole pages files
+  files_whole file among = by_item its.has.item its.has.there its.has.is
     where
       its : IsReadFile pages frame tables.filesets number file
       its = read.each file among
 
-      is : rule.IsInOriginal pages entry file.tag its.cells its.seen
-      is = of_original pages frame tables.filesets number entry there file.tag its.cells its.seen its.has
+      by_entry : (of clone : ℕ) (entry : FilesetEntry) (item : SlotItem) → slice_get tables.filesets.slots number ≡ Some item → fileset_of item ≡ Some entry → (o : Option SlotItem) → slice_get tables.filesets.slots of ≡ o → (e : Option FilesetEntry) → option_and_then fileset_of o ≡ e
+          → IsSomeAnd e (λ original. IsInClone pages entry original clone file.tag its.cells its.seen) → IsWhole pages file.at
+      by_entry of clone entry item there own_is o behind None none is = absurd is
+      by_entry of clone entry item there own_is None behind (Some original) some is = none_some original some
+      by_entry of clone entry item there own_is (Some other) behind (Some original) some is =
+          ⊎_elim (λ own. whole_there number item entry there own_is file.tag its.cells file.at own.0 its.read.begins)
+          (λ through. whole_there of other original behind some file.tag its.cells file.at through.1 its.read.begins) is.is
 
-      by_cell : (o : Option CellAt) → cell_of pages is.there.places file.tag ≡ o → IsSomeAnd o (λ at. LinksFrom pages at its.cells) → IsWhole pages file.at
-      by_cell None none_there leads = absurd leads
-      by_cell (Some at) leads_there leads = subst (IsWhole pages) (sym (one_begin pages frame tables.filesets number entry there its.cells at file.at leads its.read.begins)) (λ broken.
-          unbroken pages are.layout are.laid (no_fault pages frame tables are fault) number file.tag at
-          (first_there pages are.layout are.laid (no_fault pages frame tables are fault) number entry.first_tag (record { item = slot.Original entry; there = slot_there pages frame tables are fault number (slot.Original entry) there; has = refl }) is.there.places is.there.directory file.tag at leads_there) broken)
+      by_item : (item : SlotItem) → slice_get tables.filesets.slots number ≡ Some item → IsInItem pages tables.filesets item file.tag its.cells its.seen → IsWhole pages file.at
+      by_item slot.Free there is = absurd is
+      by_item (slot.Original entry) there is = whole_there number (slot.Original entry) entry there refl file.tag its.cells file.at is.there its.read.begins
+      by_item (slot.Clone of clone entry) there is =
+          by_entry of clone entry (slot.Clone of clone entry) there refl (slice_get tables.filesets.slots of) refl (option_and_then fileset_of (slice_get tables.filesets.slots of)) refl is
+      by_item (slot.Removed first quota) there is = absurd is
 
 -- ---- files one after the other
 
@@ -285,60 +251,3 @@ module _ (pages : Pages) (files : List FileThere) where
         let (k, at) = among_at files file among in
         are.all k file (omega (arith, whole, slice_get_within files k file at)) at cells first total links names;
   }
-
--- ---- pages with a home
-
-module _ (homes : List (Option SaidHome)) where
-  abbrev HasHome : ℕ → Type 0
-  HasHome page = IsSome (said_in homes page)
-
-  -- whether one of the first pages has a home, and that no two of them have
-  pub record IsOneBefore (number : ℕ) (has_one : Bool) : Type 0 where
-    pub one : has_one ≡ true → (k : ℕ) × (k < number) × HasHome k
-    pub none : has_one ≡ false → (k : ℕ) → k < number → ¬ HasHome k
-    pub most : (j k : ℕ) → j < number → k < number → HasHome j → HasHome k → j ≡ k
-
-  pub one_none : IsOneBefore 0 false
-  one_none = record {
-    one = λ is. absurd (false≢true is);
-    none = λ is k below. absurd (omega (arith, below));
-    most = λ j k below also. absurd (omega (arith, below));
-  }
-
-  pub has_none : (number : ℕ) (has_one : Bool) → IsOneBefore number has_one → ¬ HasHome number → IsOneBefore (number + 1) has_one
-  has_none number has_one are other = record {
-    one = λ is. let (k, below, has) = are.one is in (k, omega (arith, below), has);
-    none = λ is k below has. ⊎_elim (λ low. are.none is k low has) (λ far. other (subst HasHome (at_end k below far) has)) (cases_lt k number);
-    most = λ j k below also has too. are.most j k (low j below has) (low k also too) has too;
-  }
-    where
-      at_end : (k : ℕ) → k < number + 1 → number ≤ k → k ≡ number
-      at_end k below far = omega (arith, below, far)
-
-      low : (k : ℕ) → k < number + 1 → HasHome k → k < number
-      low k below has = ⊎_elim (λ less. less) (λ far. absurd (other (subst HasHome (at_end k below far) has))) (cases_lt k number)
-
-  pub has_first : (number : ℕ) → IsOneBefore number false → HasHome number → IsOneBefore (number + 1) true
-  has_first number are here = record {
-    one = λ is. (number, omega arith, here);
-    none = λ is. absurd (false≢true (sym is));
-    most = λ j k below also has too. omega (arith, below, also, far j has, far k too);
-  }
-    where
-      far : (k : ℕ) → HasHome k → number ≤ k
-      far k has = ⊎_elim (λ low. absurd (are.none refl k low has)) (λ high. high) (cases_lt k number)
-
-  pub has_second : (number : ℕ) → IsOneBefore number true → HasHome number → HasTwo homes
-  has_second number are here =
-      let (k, below, has) = are.one refl in
-      (k, number, (λ same. absurd (omega (arith, same, below))), has, here)
-
-  pub not_two : (number : ℕ) (has_one : Bool) → length homes ≤ number → IsOneBefore number has_one → ¬ HasTwo homes
-  not_two number has_one whole are (one, other, apart, has, too) = apart (are.most one other (inside one has) (inside other too) has too)
-    where
-      inside : (k : ℕ) → HasHome k → k < number
-      inside k has = by_home (slice_get homes k) refl has
-        where
-          by_home : (o : Option (Option SaidHome)) → slice_get homes k ≡ o → IsSome (option_and_then home_said o) → k < number
-          by_home None there some = absurd (false≢true some)
-          by_home (Some home) there some = omega (arith, whole, slice_get_within homes k home there)

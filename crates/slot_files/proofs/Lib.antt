@@ -4,6 +4,7 @@ pub mod Listed
 pub mod ReadFiles
 pub mod SaidPlaces
 pub mod SaidSizes
+pub mod SecondPages
 pub mod SlotFiles
 pub mod TagFiles
 pub mod OfDirectoryFaults

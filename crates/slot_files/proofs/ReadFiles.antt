@@ -22,7 +22,7 @@ use Rattle.index_row_faults.specs.extent_maps.declared.run.PagePlace.TheVariants
 use Rattle.index_row_faults.specs.extent_records.Rows.{runs_of}
 use Rattle.index_row_faults.specs.extent_records.Writing.{places_before}
 use Rattle.index_row_faults.proofs.OfDomainLayout.OneShape.{links_same, own_same}
-use Rattle.index_row_faults.specs.domain_layout.DirectoryRules.{HasWrongSize}
+use Rattle.index_row_faults.specs.domain_layout.DirectoryRules.{HasSecondPage, HasWrongSize}
 use Rattle.index_row_faults.specs.domain_layout.Reached.{Frame, IsWithin}
 use Rattle.index_row_faults.specs.domain_layout.Seen.{IsOwn, IsSource, SeenFile, frozen_of, is_in_sync, kept_by, seen_in, seen_through, source_of}
 use Rattle.index_row_faults.specs.domain_layout.Shape.{IsSameSeen}
@@ -36,6 +36,7 @@ use Rattle.slot_files.specs.declared.said.SaidHome.{SaidHome}
 use Rattle.slot_files.specs.declared.said.SaidPlace.{SaidPlace}
 use Rattle.slot_files.specs.declared.said.SaidRun.{SaidRun}
 use Rattle.slot_files.proofs.SaidSizes.{wrong_size}
+use Rattle.slot_files.proofs.SecondPages.{second_page}
 
 some_same : {X : Type 0} (a b : X) → Some a ≡ Some b → a ≡ b
 some_same a b e = cc
@@ -89,6 +90,7 @@ module _ (pages : Pages) (frame : Frame) (tag : Tag) (at : CellAt) (is : Attribu
       homes = λ dir. no_kind is.kind plain dir;
       parent = begun.parent cells links;
       size = λ dir. no_kind is.kind plain dir;
+      second = λ dir. no_kind is.kind plain dir;
     };
   }
 
@@ -104,6 +106,9 @@ module _ (pages : Pages) (frame : Frame) (tag : Tag) (at : CellAt) (is : Attribu
           subst (λ (o : Option Home). (home_in found.seen.homes.items page ≡ Some home) ↔ ((o ≡ Some home) × IsWithin frame home)) (homed cells links page) (has.homes page home);
       parent = same.parent_is ∙ begun.parent cells links;
       size = λ dir. by_rule cells links;
+      second = λ dir.
+          let two = second_page (record { is = is; homes = homes cells }) said (homed cells links) in
+          ((λ yes. two.0 (has.second.0 yes)), (λ pages_two. has.second.1 (two.1 pages_two)));
     };
   }
     where
@@ -148,6 +153,7 @@ as_same frame cells one other file same read = record {
       subst (λ (o : Option Home). (home_in file.seen.homes.items page ≡ Some home) ↔ ((o ≡ Some home) × IsWithin frame home)) (same.homes page) (read.homes (before dir) page home);
   parent = read.parent;
   size = λ dir. let size = read.size (before dir) in ((λ wrong. on (size.0 wrong)), (λ wrong. size.1 (back wrong)));
+  second = λ dir. subst (λ (s : SeenFile). IsTrue file.has_second_page ↔ HasSecondPage s) (seen_eq one other same) (read.second (before dir));
 }
   where
     before : other.is.kind ≡ Directory → one.is.kind ≡ Directory

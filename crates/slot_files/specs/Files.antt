@@ -22,7 +22,7 @@ use Rattle.index_row_faults.specs.domain_layout.Seen.{IsOwn, IsSource, SeenFile,
 use Rattle.index_row_faults.specs.filesets_reading.Seen.{home_in}
 use Rattle.index_row_faults.specs.directory_faults.There.{IsReadAs, WasRead}
 use Rattle.index_row_faults.specs.directory_faults.declared.there.FileThere.{FileThere}
-use Rattle.slot_files.specs.Said.{HasGap, LosesPage, said_in}
+use Rattle.slot_files.specs.Said.{HasGap, HasTwo, LosesPage, said_in}
 use Rattle.slot_files.specs.declared.said.SaidHome.{SaidHome}
 use Rattle.slot_files.specs.declared.said.SaidPlace.{SaidPlace}
 
@@ -68,13 +68,14 @@ pub record IsSameFile (one other : FileThere) : Type 0 where
   pub is_so : one.seen.is ≡ other.seen.is
   pub parent_is : one.parent ≡ other.parent
 
--- of the homes said of a directory's pages it has those of members, and it is of a wrong size
--- exactly where all that is said is
+-- of the homes said of a directory's pages it has those of members; it is of a wrong size exactly
+-- where all that is said is, and has a second page where two are said to have a home
 pub record HasPagesAt (frame : Frame) (places : List SaidPlace) (said : List (Option SaidHome))
     (file : FileThere) : Type 0 where
   pub homes : (page : ℕ) (home : Home) → (home_in file.seen.homes.items page ≡ Some home)
       ↔ ((said_in said page ≡ Some home) × IsWithin frame home)
   pub size : IsTrue file.has_wrong_size ↔ (HasGap said file.seen.is.size ⊎ LosesPage places said)
+  pub second : IsTrue file.has_second_page ↔ HasTwo said
 
 -- a file was read under a tag, with these attributes, and the homes that its cells give
 pub record IsReadAt (pages : Pages) (frame : Frame) (tag : Tag) (at : CellAt) (is : Attributes)

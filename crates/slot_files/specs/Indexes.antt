@@ -1,7 +1,8 @@
--- What is read of the indexes of an original's files.
-use Rattle.std.specs.Prelude.{◌≡◌, ℕ, List, Option, Some, None, Contains, IfSome, IsSome, IsSomeAnd}
+-- What is read of the indexes of a fileset's files.
+use Rattle.std.specs.Prelude.{◌≡◌, ◌↔◌, ℕ, List, Option, Some, None, Contains, IfSome, IsSomeAnd, IsTrue}
 use Rattle.std.specs.Option.{option_and_then}
 use Rattle.index_row_faults.specs.domain_base.declared.place.Home.{Home}
+use Rattle.index_row_faults.specs.domain_base.declared.place.Kind.TheVariants.{Directory}
 use Rattle.index_row_faults.specs.page_store.Pages.{Pages}
 use Rattle.index_row_faults.specs.cell_records.declared.record.Record.{Record}
 use Rattle.index_row_faults.specs.cell_records.declared.record.Record.TheVariants as written
@@ -9,15 +10,10 @@ use Rattle.index_row_faults.specs.metadata_cells.Chain.{LinksFrom, PlacedCell}
 use Rattle.index_row_faults.specs.fileset_files.Files.{first_record}
 use Rattle.index_row_faults.specs.fileset_files.Shown.{index_in}
 use Rattle.index_row_faults.specs.domain_layout.DirectoryRules.{total_in}
-use Rattle.index_row_faults.specs.domain_layout.Seen.{SeenFile, seen_in}
-use Rattle.index_row_faults.specs.fileset_table.Table.{Table}
 use Rattle.index_row_faults.specs.directory_faults.declared.there.FileThere.{FileThere}
-use Rattle.index_row_faults.specs.There.{MayBeOf}
 use Rattle.index_row_faults.specs.declared.there.IndexThere.{IndexThere}
-use Rattle.slot_files.specs.Files.{HasOriginalAt, IsWhole}
-use Rattle.slot_files.specs.Said.{said_in}
+use Rattle.slot_files.specs.Files.{IsWhole}
 use Rattle.slot_files.specs.declared.indexes.SaidIndex.{SaidIndex}
-use Rattle.slot_files.specs.declared.said.SaidHome.{SaidHome}
 
 -- the first of the cells names an index that begins there, of so many entries
 abbrev pub Names : List PlacedCell → Home → ℕ → Type 0
@@ -33,23 +29,16 @@ said_by _ = None
 abbrev pub said_of : List PlacedCell → Option SaidIndex
 said_of cells = option_and_then said_by (first_record 9 cells)
 
--- two pages have a home
-abbrev pub HasTwo : List (Option SaidHome) → Type 0
-HasTwo homes = (one : ℕ) × (other : ℕ) × (¬ one ≡ other) × IsSome (said_in homes one)
-    × IsSome (said_in homes other)
-
--- a file of these cells, as an original has it, is what was read
-abbrev pub IsOf : Pages → FileThere → List PlacedCell → SeenFile → Type 0
-IsOf pages file cells seen =
-    LinksFrom pages file.at cells × (seen_in cells ≡ Some seen) × (file.seen.is ≡ seen.is)
+-- the file may have an index: it is a directory of more than one page
+abbrev pub MayHaveIndex : FileThere → Type 0
+MayHaveIndex file = (file.seen.is.kind ≡ Directory) × IsTrue file.has_second_page
 
 -- an index of the file was read
 pub record IsIndexOf (pages : Pages) (file : FileThere) (index : IndexThere) : Type 0 where
   pub tag_is : index.tag ≡ file.tag
   pub names : (cells : List PlacedCell) → LinksFrom pages file.at cells
       → Names cells index.first index.total
-  pub may_be : (cells : List PlacedCell) (seen : SeenFile) → IsOf pages file cells seen
-      → MayBeOf seen index
+  pub may_be : IsTrue index.may_be ↔ MayHaveIndex file
 
 -- the index of a file was read, and none where it names none
 pub record ReadsIndex (pages : Pages) (file : FileThere) (found : Option IndexThere) : Type 0 where
@@ -61,10 +50,6 @@ pub record ReadsIndex (pages : Pages) (file : FileThere) (found : Option IndexTh
 -- the chains of files are whole
 abbrev pub AreWhole : Pages → List FileThere → Type 0
 AreWhole pages files = (file : FileThere) → Contains files file → IsWhole pages file.at
-
--- they are where an original is in a slot
-abbrev pub AreWholeAt : Pages → Table → ℕ → List FileThere → Type 0
-AreWholeAt pages table number files = HasOriginalAt table number → AreWhole pages files
 
 -- a list has the indexes of files, and no others
 pub record AreIndexesOf (pages : Pages) (files : List FileThere) (indexes : List IndexThere)

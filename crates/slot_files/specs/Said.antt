@@ -50,6 +50,11 @@ ListsPlaces places listed = (page : ℕ) → place_in listed page ≡ places pag
 abbrev pub said_in : List (Option SaidHome) → ℕ → Option Home
 said_in homes page = option_and_then home_said (slice_get homes page)
 
+-- two pages have a home
+abbrev pub HasTwo : List (Option SaidHome) → Type 0
+HasTwo homes = (one : ℕ) × (other : ℕ) × (¬ one ≡ other) × IsSome (said_in homes one)
+    × IsSome (said_in homes other)
+
 -- ** Sizes
 
 -- exactly the first so many pages have a home

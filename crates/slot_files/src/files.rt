@@ -12,7 +12,7 @@ use crate::records::{
     source_at,
 };
 use crate::said::{SaidHome, SaidPlace};
-use crate::sizes::has_wrong_size;
+use crate::sizes::{has_two, has_wrong_size};
 use index_row_faults::{
     Attributes, CellAt, DomainFrame, FileThere, Kind, MetaPages, OutOfMemory, SeenPages, Tag,
 };
@@ -37,6 +37,7 @@ fn file_there<M: MetaPages>(
         },
         parent: parent_at(pages, at),
         has_wrong_size: false,
+        has_second_page: false,
     }
 }
 
@@ -53,6 +54,7 @@ fn directory_there(
     ensures pages { IfOk result (HasPagesAt (frame_in frame.now) places.now homes.now) }
 {
     file.has_wrong_size = has_wrong_size(places, homes, file.seen.is.size);
+    file.has_second_page = has_two(homes);
     file.seen.homes = member_homes(alloc, frame, homes)?;
     Ok(file)
 }

@@ -1,7 +1,8 @@
-//! Whether a directory has a wrong size, a gap in its pages, or pages that it does not keep.
+//! Whether a directory has a wrong size, a gap in its pages, pages that it does not keep, or more
+//! pages than one.
 ghost use Rattle.std.specs.Prelude.{◌≡◌, ◌⊎◌, ◌↔◌, ◌%◌, ◌<◌, ◌≤◌, IsSome, IsTrue, length};
 ghost use Rattle.index_row_faults.specs.extent_maps.Runs.{home_at};
-ghost use Rattle.slot_files.specs.Said.{HasFirst, HasGap, IsLostAt, LosesPage, place_in as place_listed, said_in};
+ghost use Rattle.slot_files.specs.Said.{HasFirst, HasGap, HasTwo, IsLostAt, LosesPage, place_in as place_listed, said_in};
 
 use crate::homes::place_in;
 use crate::said::{SaidHome, SaidPlace};
@@ -102,4 +103,20 @@ pub(crate) fn has_wrong_size(places: &[SaidPlace], homes: &[Option<SaidHome>], s
     ensures { IsTrue result ↔ (HasGap homes.now size ⊎ LosesPage places.now homes.now) }
 {
     has_gap(homes, size) || loses_page(places, homes)
+}
+
+/// Whether at least two pages have a home.
+pub(crate) fn has_two(homes: &[Option<SaidHome>]) -> bool
+    ensures { IsTrue result ↔ HasTwo homes.now }
+{
+    let mut has_one = false;
+    for home in homes {
+        if home.is_some() {
+            if has_one {
+                return true;
+            }
+            has_one = true;
+        }
+    }
+    false
 }

@@ -22,7 +22,7 @@ returns g c =
     let number = c.args.number in
     let are = c.in_ok-files.ensures in
     let rows = c.in_ok-rows.ensures table number (subst (AreFilesIn pages frame table number) (sym c.deref.ensures.value) are) in
-    let indexes = c.in_ok-indexes.ensures frame (subst (AreFilesIn pages frame table number) (sym c.deref-2.ensures.value) are) in
+    let indexes = c.in_ok-indexes.ensures frame table number (subst (AreFilesIn pages frame table number) (sym c.deref-2.ensures.value) are) in
     on_ok c.insert_wrong_indexes.result _ _
     (λ put home. put table number c.in_ok-files.files.items are (subst (AreRowsIn pages frame table number) (sym c.deref-3.ensures.value) rows) (subst (AreIndexesIn pages table number) (sym c.deref-4.ensures.value) indexes) home)
     c.insert_wrong_indexes.ensures

@@ -7,4 +7,4 @@ returns-in_default g c = reads_none (g.M.MetaPages.pages c.args.pages.now) c.arg
 
 pub returns : goal.returns
 returns g c =
-    reads_one (g.M.MetaPages.pages c.args.pages.now) c.args.file.now c.in-Some.said c.in_ok-may_be.may_be c.in_ok-look_at_chain.ensures (λ cells links. sym c.in-Some.is ∙ c.index_said.ensures cells links) c.in_ok-may_be.ensures
+    reads_one (g.M.MetaPages.pages c.args.pages.now) c.args.file.now c.in-Some.said c.may_have_index.result c.in_ok-look_at_chain.ensures (λ cells links. sym c.in-Some.is ∙ c.index_said.ensures cells links) c.may_have_index.ensures
