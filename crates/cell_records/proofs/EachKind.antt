@@ -15,7 +15,7 @@ use Rattle.cell_records.specs.Records.{kind_of, numbers, extent_numbers, dense_n
 use Rattle.cell_records.specs.Rules.{allows, after, nothing_seen, rules_of, repeated_rules, extent_rules, dense_rules, hole_rules}
 use Rattle.cell_records.specs.Fields.{number_at, extents, dense_extents, holes, volumes, record_at}
 use Rattle.cell_records.proofs.Scan.{Passes, decoded, are_sane}
-use Rattle.cell_records.proofs.Rules.{range_is, range_from, unused_is, used_is, used_from, plain, plain_rest, dense, dense_rest, page_fits_2, page_fits_4, counts_fit, all_short, extents_allowed, extents_pass, holes_allowed, holes_pass}
+use Rattle.cell_records.proofs.Rules.{range_is, range_from, unused_is, used_is, used_from, plain, plain_rest, dense, dense_rest, page_fits_2, page_fits_4, volume_fits_1, volume_fits_4, counts_fit, all_short, extents_allowed, extents_pass, holes_allowed, holes_pass}
 
 -- a fact of each number from 1 to n
 abbrev pub EachTo : (ℕ → Type 0) → ℕ → Type 0
@@ -187,24 +187,24 @@ bytes_pass [] fits = tt
 bytes_pass (b ∷ bs) fits = (fits.0, refl, bytes_pass bs fits.1)
 
 abbrev plain_rules : List Rule
-plain_rules = IfUsed 8 ∷ IfUsed 4294967295 ∷ []
+plain_rules = IfUsed 4294967295 ∷ IfUsed 4294967295 ∷ []
 
 abbrev dense_rest_rules : List Rule
-dense_rest_rules = IfUsed 8 ∷ Range 0 0 ∷ Range 0 0 ∷ IfUsed 4294967295 ∷ []
+dense_rest_rules = IfUsed 255 ∷ Range 0 0 ∷ Range 0 0 ∷ IfUsed 4294967295 ∷ []
 
 plain_allowed : (n : ℕ) (rows : List ExtentField) → Passes (repeated n extent_widths) (repeated_rules n extent_rules) nothing_seen (flat_map extent_numbers rows)
     → (length rows ≡ n) × AreExtents 0 rows
-plain_allowed n rows pass = let h = extents_allowed plain_rest 4 (4 ∷ 4 ∷ []) plain_rules plain page_fits_4 n rows nothing_seen pass in (h.0, h.1)
+plain_allowed n rows pass = let h = extents_allowed plain_rest 4 4 (4 ∷ 4 ∷ []) plain_rules plain page_fits_4 (omega arith) volume_fits_4 n rows nothing_seen pass in (h.0, h.1)
 
 plain_pass : (rows : List ExtentField) → AreExtents 0 rows → Passes (repeated (length rows) extent_widths) (repeated_rules (length rows) extent_rules) nothing_seen (flat_map extent_numbers rows)
-plain_pass rows h = extents_pass plain_rest 4 (4 ∷ 4 ∷ []) plain_rules plain page_fits_4 rows nothing_seen h (counts_fit 0 rows h)
+plain_pass rows h = extents_pass plain_rest 4 4 (4 ∷ 4 ∷ []) plain_rules plain page_fits_4 (omega arith) volume_fits_4 rows nothing_seen h (counts_fit 0 rows h)
 
 dense_allowed : (n : ℕ) (rows : List ExtentField) → Passes (repeated n dense_widths) (repeated_rules n dense_rules) nothing_seen (flat_map dense_numbers rows)
     → (length rows ≡ n) × AreDense rows
-dense_allowed n rows pass = let h = extents_allowed dense_rest 2 (1 ∷ 1 ∷ 2 ∷ 4 ∷ []) dense_rest_rules dense page_fits_2 n rows nothing_seen pass in (h.0, (h.1, h.2))
+dense_allowed n rows pass = let h = extents_allowed dense_rest 2 1 (1 ∷ 1 ∷ 2 ∷ 4 ∷ []) dense_rest_rules dense page_fits_2 (omega arith) volume_fits_1 n rows nothing_seen pass in (h.0, (h.1, h.2))
 
 dense_pass : (rows : List ExtentField) → AreDense rows → Passes (repeated (length rows) dense_widths) (repeated_rules (length rows) dense_rules) nothing_seen (flat_map dense_numbers rows)
-dense_pass rows h = extents_pass dense_rest 2 (1 ∷ 1 ∷ 2 ∷ 4 ∷ []) dense_rest_rules dense page_fits_2 rows nothing_seen h.0 h.1
+dense_pass rows h = extents_pass dense_rest 2 1 (1 ∷ 1 ∷ 2 ∷ 4 ∷ []) dense_rest_rules dense page_fits_2 (omega arith) volume_fits_1 rows nothing_seen h.0 h.1
 
 abbrev RecordPasses : Record → Type 0
 RecordPasses r = Passes (widths (kind_of r)) (rules_of (kind_of r)) nothing_seen (numbers r)

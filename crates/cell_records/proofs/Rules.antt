@@ -1,5 +1,5 @@
 -- Which rows and fields the rules let pass are those that the format allows.
-use Rattle.std.proofs.Common.{◌≡◌, ℕ, zero, suc, ◌+◌, ◌^◌, ◌<◌, ◌≤◌, Bool, true, false, cond, ltb, leb, eqb, ◌&&◌, ◌||◌, List, [], ◌∷◌, ◌++◌, length, refl, ap, inl, inr, arith, lit<}
+use Rattle.std.proofs.Common.{◌≡◌, ℕ, zero, suc, ◌+◌, ◌^◌, ◌<◌, ◌≤◌, Bool, true, false, cond, ltb, leb, eqb, ◌&&◌, ◌||◌, List, [], ◌∷◌, ◌++◌, length, refl, sym, ap, subst, inl, inr, arith, lit<}
 use Rattle.std.specs.List.{flat_map, AllByRecursion}
 use Rattle.std.proofs.lemmas.Bool.{lt-ltb, leb-true, le-leb, eqb-true, eqb-false, eq-eqb, ne_eqb, and_parts, and_from, or_cases, or_left, or_right}
 use Rattle.cell_records.specs.declared.rule.Rule.{Rule}
@@ -69,10 +69,10 @@ no_more_extents [] h = tt
 no_more_extents (e ∷ es) (inl h) = absurd (omega (arith, h.0.run.begins, h.0.run.some, h.0.run.ends))
 no_more_extents (e ∷ es) (inr h) = h
 
--- where a row leads, if it has pages, and if it has none
-abbrev pub Leads : Bool → ExtentField → Type 0
-Leads false e = (e.vol ≤ 8) × (e.first < 2 ^ 32)
-Leads true e = (e.vol ≡ 0) × (e.first ≡ 0)
+-- where a row leads, if it has pages, and if it has none; its volume has so many bytes
+abbrev pub Leads : ℕ → Bool → ExtentField → Type 0
+Leads v false e = (e.vol < 256 ^ v) × (e.first < 2 ^ 32)
+Leads v true e = (e.vol ≡ 0) × (e.first ≡ 0)
 
 abbrev row_numbers : (ExtentField → List ℕ) → ExtentField → List ℕ
 row_numbers rest e = e.page ∷ e.count ∷ rest e
@@ -83,34 +83,34 @@ row_rules rs = Page ∷ Count ∷ rs
 abbrev RowsPass : (ExtentField → List ℕ) → ℕ → List ℕ → List Rule → ℕ → Seen → List ExtentField → Type 0
 RowsPass rest w ws rs n seen es = Passes (repeated n (w ∷ w ∷ ws)) (repeated_rules n (row_rules rs)) seen (flat_map (row_numbers rest) es)
 
-abbrev RowsAllowed : ℕ → ℕ → ℕ → List ExtentField → Type 0
-RowsAllowed w n from es = (length es ≡ n) × AreExtents from es × AllByRecursion (λ e. e.count < 256 ^ w) es
+abbrev RowsAllowed : ℕ → ℕ → ℕ → ℕ → List ExtentField → Type 0
+RowsAllowed w v n from es = (length es ≡ n) × AreExtents from es × AllByRecursion (λ e. (e.count < 256 ^ w) × (e.vol < 256 ^ v)) es
 
 -- what the fields behind a count pass
-pub record RestOf (rest : ExtentField → List ℕ) (ws : List ℕ) (rs : List Rule) : Type 0 where
+pub record RestOf (rest : ExtentField → List ℕ) (v : ℕ) (ws : List ℕ) (rs : List Rule) : Type 0 where
   pub reads : (b : Bool) (from : ℕ) (e : ExtentField) (vs : List ℕ) (qs : List Rule) (ns : List ℕ) → Passes (ws ++ vs) (rs ++ qs) (behind b from) (rest e ++ ns)
-      → Leads b e × Passes vs qs (behind b from) ns
-  pub writes : (b : Bool) (from : ℕ) (e : ExtentField) (vs : List ℕ) (qs : List Rule) (ns : List ℕ) → Leads b e → Passes vs qs (behind b from) ns
+      → Leads v b e × Passes vs qs (behind b from) ns
+  pub writes : (b : Bool) (from : ℕ) (e : ExtentField) (vs : List ℕ) (qs : List Rule) (ns : List ℕ) → Leads v b e → Passes vs qs (behind b from) ns
       → Passes (ws ++ vs) (rs ++ qs) (behind b from) (rest e ++ ns)
 
-module _ (rest : ExtentField → List ℕ) (w : ℕ) (ws : List ℕ) (rs : List Rule) (of : RestOf rest ws rs) (fits : (p : ℕ) → p < 65536 → p < 256 ^ w) where
+module _ (rest : ExtentField → List ℕ) (w v : ℕ) (ws : List ℕ) (rs : List Rule) (of : RestOf rest v ws rs) (fits : (p : ℕ) → p < 65536 → p < 256 ^ w) (no_volume : 0 < 256 ^ v) (wide : (n : ℕ) → n < 256 ^ v → n < 2 ^ 32) where
   extent_row : (n : ℕ) (e : ExtentField) (es : List ExtentField) (from : ℕ) (b : Bool) → eqb e.count 0 ≡ b → counts b from e.page e.count ≡ true → e.count < 256 ^ w
       → Passes (ws ++ repeated n (w ∷ w ∷ ws)) (rs ++ repeated_rules n (row_rules rs)) (behind b (e.page + e.count)) (rest e ++ flat_map (row_numbers rest) es)
-      → ((seen : Seen) → RowsPass rest w ws rs n seen es → RowsAllowed w n seen.from es)
-      → RowsAllowed w (suc n) from (e ∷ es)
+      → ((seen : Seen) → RowsPass rest w ws rs n seen es → RowsAllowed w v n seen.from es)
+      → RowsAllowed w v (suc n) from (e ∷ es)
   extent_row n e es from true none count small pass others =
       let both = of.reads true (e.page + e.count) e _ _ _ pass in
       let others' = others (behind true (e.page + e.count)) both.1 in
       let row : NoExtent e = record { page = eqb-true e.page 0 count; count = eqb-true e.count 0 none; volume = both.0.0; first = both.0.1 } in
-      (ap suc others'.0, inr (row, no_more_extents es others'.1), (small, others'.2))
+      (ap suc others'.0, inr (row, no_more_extents es others'.1), ((small, subst (λ n. n < 256 ^ v) (sym both.0.0) no_volume), others'.2))
   extent_row n e es from false some count small pass others =
       let both = of.reads false (e.page + e.count) e _ _ _ pass in
       let others' = others (behind false (e.page + e.count)) both.1 in
-      let row : IsExtent from e = record { run = run_is from e.page e.count some count; volume = both.0.0; first = both.0.1 } in
-      (ap suc others'.0, inl (row, others'.1), (small, others'.2))
+      let row : IsExtent from e = record { run = run_is from e.page e.count some count; volume = wide e.vol both.0.0; first = both.0.1 } in
+      (ap suc others'.0, inl (row, others'.1), ((small, both.0.0), others'.2))
 
   -- rows of extents that pass are allowed
-  pub extents_allowed : (n : ℕ) (es : List ExtentField) (seen : Seen) → RowsPass rest w ws rs n seen es → RowsAllowed w n seen.from es
+  pub extents_allowed : (n : ℕ) (es : List ExtentField) (seen : Seen) → RowsPass rest w ws rs n seen es → RowsAllowed w v n seen.from es
   extents_allowed zero [] seen pass = (refl, tt, tt)
   extents_allowed zero (e ∷ es) seen pass = absurd pass
   extents_allowed (suc n) [] seen pass = absurd pass
@@ -128,36 +128,36 @@ module _ (rest : ExtentField → List ℕ) (w : ℕ) (ws : List ℕ) (rs : List 
       let led = of.writes true 0 e (repeated (length es) (w ∷ w ∷ ws)) (repeated_rules (length es) (row_rules rs)) (flat_map (row_numbers rest) es) (row.volume, row.first) others in
       no_row e.page e.count (rest e ++ flat_map (row_numbers rest) es) seen _ _ row.page row.count led
 
-  extent_passes : (e : ExtentField) (es : List ExtentField) (from : ℕ) (b : Bool) → b ≡ false → IsExtent from e
+  extent_passes : (e : ExtentField) (es : List ExtentField) (from : ℕ) (b : Bool) → b ≡ false → IsExtent from e → e.vol < 256 ^ v
       → RowsPass rest w ws rs (length es) (behind false (e.page + e.count)) es
       → (counts b from e.page e.count ≡ true) × Passes (ws ++ repeated (length es) (w ∷ w ∷ ws)) (rs ++ repeated_rules (length es) (row_rules rs)) (behind b (e.page + e.count)) (rest e ++ flat_map (row_numbers rest) es)
-  extent_passes e es from true same row others = absurd cc
-  extent_passes e es from false same row others =
-      (counts_from from e.page e.count row.run, of.writes false (e.page + e.count) e _ _ _ (row.volume, row.first) others)
+  extent_passes e es from true same row low others = absurd cc
+  extent_passes e es from false same row low others =
+      (counts_from from e.page e.count row.run, of.writes false (e.page + e.count) e _ _ _ (low, row.first) others)
 
   -- rows of extents that are allowed pass
-  pub extents_pass : (es : List ExtentField) (seen : Seen) → AreExtents seen.from es → AllByRecursion (λ e. e.count < 256 ^ w) es → RowsPass rest w ws rs (length es) seen es
+  pub extents_pass : (es : List ExtentField) (seen : Seen) → AreExtents seen.from es → AllByRecursion (λ e. (e.count < 256 ^ w) × (e.vol < 256 ^ v)) es → RowsPass rest w ws rs (length es) seen es
   extents_pass [] seen h small = tt
   extents_pass (e ∷ es) seen (inl h) small =
       let row = h.0 in
       let others = extents_pass es (behind false (e.page + e.count)) h.1 small.1 in
-      let both = extent_passes e es seen.from (eqb e.count 0) (some_count seen.from e.page e.count row.run) row others in
-      (fits e.page (omega (arith, row.run.some, row.run.ends)), page_from seen.from e.page e.count row.run, (small.0, both.0, both.1))
+      let both = extent_passes e es seen.from (eqb e.count 0) (some_count seen.from e.page e.count row.run) row small.0.1 others in
+      (fits e.page (omega (arith, row.run.some, row.run.ends)), page_from seen.from e.page e.count row.run, (small.0.0, both.0, both.1))
   extents_pass (e ∷ es) seen (inr h) small = no_extents_pass (e ∷ es) seen h
 
 -- plain extents: volume and first page in four bytes each
 abbrev pub plain_rest : ExtentField → List ℕ
 plain_rest e = e.vol ∷ e.first ∷ []
 
-pub plain : RestOf plain_rest (4 ∷ 4 ∷ []) (IfUsed 8 ∷ IfUsed 4294967295 ∷ [])
+pub plain : RestOf plain_rest 4 (4 ∷ 4 ∷ []) (IfUsed 4294967295 ∷ IfUsed 4294967295 ∷ [])
 plain = record {
-  reads = λ b from e vs qs ns pass. elim b as (λ b. Passes (4 ∷ 4 ∷ vs) (IfUsed 8 ∷ IfUsed 4294967295 ∷ qs) (behind b from) (e.vol ∷ e.first ∷ ns) → Leads b e × Passes vs qs (behind b from) ns) [
-    | true ↦ λ pass. ((unused_is 8 e.vol pass.1, unused_is 4294967295 e.first pass.2.1), pass.2.2)
-    | false ↦ λ pass. ((used_is 8 e.vol pass.1, pass.2.0), pass.2.2)
+  reads = λ b from e vs qs ns pass. elim b as (λ b. Passes (4 ∷ 4 ∷ vs) (IfUsed 4294967295 ∷ IfUsed 4294967295 ∷ qs) (behind b from) (e.vol ∷ e.first ∷ ns) → Leads 4 b e × Passes vs qs (behind b from) ns) [
+    | true ↦ λ pass. ((unused_is 4294967295 e.vol pass.1, unused_is 4294967295 e.first pass.2.1), pass.2.2)
+    | false ↦ λ pass. ((pass.0, pass.2.0), pass.2.2)
   ] pass;
-  writes = λ b from e vs qs ns leads pass. elim b as (λ b. Leads b e → Passes vs qs (behind b from) ns → Passes (4 ∷ 4 ∷ vs) (IfUsed 8 ∷ IfUsed 4294967295 ∷ qs) (behind b from) (e.vol ∷ e.first ∷ ns)) [
-    | true ↦ λ leads pass. (omega (arith, leads.0), unused_from 8 e.vol leads.0, (omega (arith, leads.1), unused_from 4294967295 e.first leads.1, pass))
-    | false ↦ λ leads pass. (omega (arith, leads.0), used_from 8 e.vol leads.0, (leads.1, used_from 4294967295 e.first (omega (arith, leads.1)), pass))
+  writes = λ b from e vs qs ns leads pass. elim b as (λ b. Leads 4 b e → Passes vs qs (behind b from) ns → Passes (4 ∷ 4 ∷ vs) (IfUsed 4294967295 ∷ IfUsed 4294967295 ∷ qs) (behind b from) (e.vol ∷ e.first ∷ ns)) [
+    | true ↦ λ leads pass. (omega (arith, leads.0), unused_from 4294967295 e.vol leads.0, (omega (arith, leads.1), unused_from 4294967295 e.first leads.1, pass))
+    | false ↦ λ leads pass. (leads.0, used_from 4294967295 e.vol (omega (arith, leads.0)), (leads.1, used_from 4294967295 e.first (omega (arith, leads.1)), pass))
   ] leads pass;
 }
 
@@ -166,17 +166,17 @@ abbrev pub dense_rest : ExtentField → List ℕ
 dense_rest e = e.vol ∷ 0 ∷ 0 ∷ e.first ∷ []
 
 abbrev dense_rest_rules : List Rule
-dense_rest_rules = IfUsed 8 ∷ Range 0 0 ∷ Range 0 0 ∷ IfUsed 4294967295 ∷ []
+dense_rest_rules = IfUsed 255 ∷ Range 0 0 ∷ Range 0 0 ∷ IfUsed 4294967295 ∷ []
 
-pub dense : RestOf dense_rest (1 ∷ 1 ∷ 2 ∷ 4 ∷ []) dense_rest_rules
+pub dense : RestOf dense_rest 1 (1 ∷ 1 ∷ 2 ∷ 4 ∷ []) dense_rest_rules
 dense = record {
-  reads = λ b from e vs qs ns pass. elim b as (λ b. Passes (1 ∷ 1 ∷ 2 ∷ 4 ∷ vs) (dense_rest_rules ++ qs) (behind b from) (e.vol ∷ 0 ∷ 0 ∷ e.first ∷ ns) → Leads b e × Passes vs qs (behind b from) ns) [
-    | true ↦ λ pass. ((unused_is 8 e.vol pass.1, unused_is 4294967295 e.first pass.2.2.2.1), pass.2.2.2.2)
-    | false ↦ λ pass. ((used_is 8 e.vol pass.1, pass.2.2.2.0), pass.2.2.2.2)
+  reads = λ b from e vs qs ns pass. elim b as (λ b. Passes (1 ∷ 1 ∷ 2 ∷ 4 ∷ vs) (dense_rest_rules ++ qs) (behind b from) (e.vol ∷ 0 ∷ 0 ∷ e.first ∷ ns) → Leads 1 b e × Passes vs qs (behind b from) ns) [
+    | true ↦ λ pass. ((unused_is 255 e.vol pass.1, unused_is 4294967295 e.first pass.2.2.2.1), pass.2.2.2.2)
+    | false ↦ λ pass. ((pass.0, pass.2.2.2.0), pass.2.2.2.2)
   ] pass;
-  writes = λ b from e vs qs ns leads pass. elim b as (λ b. Leads b e → Passes vs qs (behind b from) ns → Passes (1 ∷ 1 ∷ 2 ∷ 4 ∷ vs) (dense_rest_rules ++ qs) (behind b from) (e.vol ∷ 0 ∷ 0 ∷ e.first ∷ ns)) [
-    | true ↦ λ leads pass. (omega (arith, leads.0), unused_from 8 e.vol leads.0, (omega arith, refl, (omega arith, refl, (omega (arith, leads.1), unused_from 4294967295 e.first leads.1, pass))))
-    | false ↦ λ leads pass. (omega (arith, leads.0), used_from 8 e.vol leads.0, (omega arith, refl, (omega arith, refl, (leads.1, used_from 4294967295 e.first (omega (arith, leads.1)), pass))))
+  writes = λ b from e vs qs ns leads pass. elim b as (λ b. Leads 1 b e → Passes vs qs (behind b from) ns → Passes (1 ∷ 1 ∷ 2 ∷ 4 ∷ vs) (dense_rest_rules ++ qs) (behind b from) (e.vol ∷ 0 ∷ 0 ∷ e.first ∷ ns)) [
+    | true ↦ λ leads pass. (omega (arith, leads.0), unused_from 255 e.vol leads.0, (omega arith, refl, (omega arith, refl, (omega (arith, leads.1), unused_from 4294967295 e.first leads.1, pass))))
+    | false ↦ λ leads pass. (leads.0, used_from 255 e.vol (omega (arith, leads.0)), (omega arith, refl, (omega arith, refl, (leads.1, used_from 4294967295 e.first (omega (arith, leads.1)), pass))))
   ] leads pass;
 }
 
@@ -186,20 +186,26 @@ page_fits_2 p low = omega arith
 pub page_fits_4 : (p : ℕ) → p < 65536 → p < 256 ^ 4
 page_fits_4 p low = omega arith
 
--- the count of a plain extent always fits
-pub counts_fit : (from : ℕ) (es : List ExtentField) → AreExtents from es → AllByRecursion (λ e. e.count < 256 ^ 4) es
+pub volume_fits_1 : (n : ℕ) → n < 256 ^ 1 → n < 2 ^ 32
+volume_fits_1 n low = omega (arith, low)
+
+pub volume_fits_4 : (n : ℕ) → n < 256 ^ 4 → n < 2 ^ 32
+volume_fits_4 n low = low
+
+-- the count and the volume of a plain extent always fit
+pub counts_fit : (from : ℕ) (es : List ExtentField) → AreExtents from es → AllByRecursion (λ e. (e.count < 256 ^ 4) × (e.vol < 256 ^ 4)) es
 counts_fit from [] h = tt
-counts_fit from (e ∷ es) (inl h) = (omega (arith, h.0.run.ends), counts_fit (e.page + e.count) es h.1)
+counts_fit from (e ∷ es) (inl h) = ((omega (arith, h.0.run.ends), h.0.volume), counts_fit (e.page + e.count) es h.1)
 counts_fit from (e ∷ es) (inr h) = none_fit (e ∷ es) h
   where
-    none_fit : (es : List ExtentField) → AllByRecursion NoExtent es → AllByRecursion (λ e. e.count < 256 ^ 4) es
+    none_fit : (es : List ExtentField) → AllByRecursion NoExtent es → AllByRecursion (λ e. (e.count < 256 ^ 4) × (e.vol < 256 ^ 4)) es
     none_fit [] h = tt
-    none_fit (e ∷ es) h = (omega (arith, h.0.count), none_fit es h.1)
+    none_fit (e ∷ es) h = ((omega (arith, h.0.count), omega (arith, h.0.volume)), none_fit es h.1)
 
 -- the numbers of dense extents fit their fields
-pub all_short : (from : ℕ) (es : List ExtentField) → AreExtents from es → AllByRecursion (λ e. e.count < 2 ^ 16) es → AllByRecursion IsShort es
+pub all_short : (from : ℕ) (es : List ExtentField) → AreExtents from es → AllByRecursion (λ e. (e.count < 2 ^ 16) × (e.vol < 2 ^ 8)) es → AllByRecursion IsShort es
 all_short from [] h small = tt
-all_short from (e ∷ es) (inl h) small = (record { page = omega (arith, h.0.run.some, h.0.run.ends); count = small.0; volume = omega (arith, h.0.volume) }, all_short (e.page + e.count) es h.1 small.1)
+all_short from (e ∷ es) (inl h) small = (record { page = omega (arith, h.0.run.some, h.0.run.ends); count = small.0.0; volume = small.0.1 }, all_short (e.page + e.count) es h.1 small.1)
 all_short from (e ∷ es) (inr h) small = none_short (e ∷ es) h
   where
     none_short : (es : List ExtentField) → AllByRecursion NoExtent es → AllByRecursion IsShort es

@@ -110,10 +110,10 @@ pub record IsRun (from page count : ℕ) : Type 0 where
   pub some : 1 ≤ count
   pub ends : page + count ≤ 65536
 
--- an extent of such pages
+-- an extent of such pages, on a volume of any number that the field holds
 pub record IsExtent (from : ℕ) (e : ExtentField) : Type 0 where
   pub run : IsRun from e.page e.count
-  pub volume : e.vol ≤ 8
+  pub volume : e.vol < 2 ^ 32
   pub first : e.first < 2 ^ 32
 
 pub record NoExtent (e : ExtentField) : Type 0 where
@@ -133,9 +133,10 @@ AreExtents from [] = Unit {0}
 AreExtents from (e ∷ es) = (IsExtent from e × AreExtents (e.page + e.count) es)
     ⊎ AllByRecursion NoExtent (e ∷ es)
 
--- the same, where the number of pages of each has two bytes
+-- the same, where the number of pages of each has two bytes, and its volume one
 abbrev pub AreDense : List ExtentField → Type 0
-AreDense es = AreExtents 0 es × AllByRecursion (λ e. e.count < 2 ^ 16) es
+AreDense es = AreExtents 0 es
+    × AllByRecursion (λ e. (e.count < 2 ^ 16) × (e.vol < 2 ^ 8)) es
 
 -- holes likewise
 abbrev pub AreHoles : ℕ → List HoleField → Type 0

@@ -52,10 +52,10 @@ repeated_rules zero rs = []
 repeated_rules (suc n) rs = rs ++ repeated_rules n rs
 
 abbrev pub extent_rules : List Rule
-extent_rules = Page ∷ Count ∷ IfUsed 8 ∷ IfUsed 4294967295 ∷ []
+extent_rules = Page ∷ Count ∷ IfUsed 4294967295 ∷ IfUsed 4294967295 ∷ []
 
 abbrev pub dense_rules : List Rule
-dense_rules = Page ∷ Count ∷ IfUsed 8 ∷ exactly 0 ∷ exactly 0 ∷ IfUsed 4294967295 ∷ []
+dense_rules = Page ∷ Count ∷ IfUsed 255 ∷ exactly 0 ∷ exactly 0 ∷ IfUsed 4294967295 ∷ []
 
 abbrev pub hole_rules : List Rule
 hole_rules = Page ∷ Count ∷ []

@@ -9,9 +9,9 @@ const ZERO: Rule = Rule::Range(0, 0);
 
 const LAST_CELL: Rule = Rule::IfUsed(27);
 
-const LAST_VOLUME: Rule = Rule::IfUsed(8);
+const USED: Rule = Rule::IfUsed(4_294_967_295);
 
-const LAST_PAGE: Rule = Rule::IfUsed(4_294_967_295);
+const USED_BYTE: Rule = Rule::IfUsed(255);
 
 /// The widths of a record's fields: its head's, and its own.
 macro_rules! layout {
@@ -68,17 +68,17 @@ pub const ATTRIBUTES_RULES: [Rule; 12] =
 pub const CLONE_FILE: Layout<9> = layout!(2 1 1 4 4 4);
 
 pub const CLONE_FILE_RULES: [Rule; 9] =
-    rules!(2 20; ZERO, Rule::Volume, LAST_CELL, LAST_PAGE, ANY, ZERO);
+    rules!(2 20; ZERO, Rule::Volume, LAST_CELL, USED, ANY, ZERO);
 
 pub const EXTENTS: Layout<67> = row_layout!(16, [4, 4, 4, 4]);
 
 pub const EXTENTS_RULES: [Rule; 67] =
-    row_rules!(3 260; 16, [Rule::Page, Rule::Count, LAST_VOLUME, LAST_PAGE]);
+    row_rules!(3 260; 16, [Rule::Page, Rule::Count, USED, USED]);
 
 pub const SHORT_EXTENTS: Layout<19> = row_layout!(4, [4, 4, 4, 4]);
 
 pub const SHORT_EXTENTS_RULES: [Rule; 19] =
-    row_rules!(4 68; 4, [Rule::Page, Rule::Count, LAST_VOLUME, LAST_PAGE]);
+    row_rules!(4 68; 4, [Rule::Page, Rule::Count, USED, USED]);
 
 pub const HOLES: Layout<35> = row_layout!(16, [4, 4]);
 
@@ -114,9 +114,9 @@ pub const VOLUME_RULES: [Rule; 6] = rules!(12 16; ANY, ANY, ANY);
 pub const DENSE_EXTENTS: Layout<135> = row_layout!(22, [2, 2, 1, 1, 2, 4]);
 
 pub const DENSE_EXTENTS_RULES: [Rule; 135] =
-    row_rules!(13 268; 22, [Rule::Page, Rule::Count, LAST_VOLUME, ZERO, ZERO, LAST_PAGE]);
+    row_rules!(13 268; 22, [Rule::Page, Rule::Count, USED_BYTE, ZERO, ZERO, USED]);
 
 pub const SHORT_DENSE: Layout<27> = row_layout!(4, [2, 2, 1, 1, 2, 4]);
 
 pub const SHORT_DENSE_RULES: [Rule; 27] =
-    row_rules!(14 52; 4, [Rule::Page, Rule::Count, LAST_VOLUME, ZERO, ZERO, LAST_PAGE]);
+    row_rules!(14 52; 4, [Rule::Page, Rule::Count, USED_BYTE, ZERO, ZERO, USED]);

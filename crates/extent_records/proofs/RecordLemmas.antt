@@ -78,9 +78,9 @@ ends_in from (e ∷ es) (inr h) = (λ some. omega (arith, some, h.0.count), all_
     all_none [] h = tt
     all_none (e ∷ es) h = (λ some. omega (arith, some, h.0.count), all_none es h.1)
 
-short_in : (es : List ExtentField) → AllByRecursion (λ (e : ExtentField). e.count < 2 ^ 16) es → AllByRecursion (λ (e : ExtentField). 1 ≤ e.count → e.count ≤ 65535) es
+short_in : (es : List ExtentField) → AllByRecursion (λ (e : ExtentField). (e.count < 2 ^ 16) × (e.vol < 2 ^ 8)) es → AllByRecursion (λ (e : ExtentField). 1 ≤ e.count → e.count ≤ 65535) es
 short_in [] h = tt
-short_in (e ∷ es) h = (λ some. omega (arith, h.0), short_in es h.1)
+short_in (e ∷ es) h = (λ some. omega (arith, h.0.0), short_in es h.1)
 
 few_as : (most from n m : ℕ) (runs : List Run) → n ≡ m → Few most from n runs → Few most from m runs
 few_as most from n m runs e h = record { rising = h.rising; few = omega (arith, h.few, e) }

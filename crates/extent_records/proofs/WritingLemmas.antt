@@ -134,6 +134,7 @@ pub record IsExtentOf (from : ℕ) (run : Run) : Type 0 where
   pub extent : IsExtent from (extent_of run)
   pub end : (extent_of run).page + (extent_of run).count ≡ end_of run
   pub count : (extent_of run).count ≡ run.count
+  pub narrow : (extent_of run).vol < 2 ^ 8
   pub run_at : runs_at (extent_of run) ≡ run ∷ []
 
 some_at : (e : ExtentField) → 1 ≤ e.count → runs_at e ≡ (record { page = e.page; count = e.count; first = place.At (record { vol = e.vol; page = e.first }) }) ∷ []
@@ -144,11 +145,12 @@ extent_is : (kind from : ℕ) → is_of_holes kind ≡ false → (page count : �
 extent_is kind from plain page count (place.At home) h = record {
   extent = record {
     run = record { begins = h.begins; some = h.is_run.some; ends = h.is_run.ends };
-    volume = h.suits.1.1;
+    volume = omega (arith, h.suits.1.1);
     first = omega (arith, h.is_run.some, h.is_run.homes);
   };
   end = refl;
   count = refl;
+  narrow = omega (arith, h.suits.1.1);
   run_at = some_at (record { page = page; count = count; vol = home.vol; first = home.page }) h.is_run.some;
 }
 extent_is kind from plain page count place.Holes h = absurd (let holes = h.suits in cc)
@@ -180,16 +182,16 @@ are_extents kind from n (r ∷ rs) plain h =
     let is = row_is kind from r plain h.0 in
     inl (is.extent, subst (λ k. AreExtents k (map extent_of rs ++ replicate n no_extent)) (sym is.end) (are_extents kind (end_of r) n rs plain h.1))
 
-few_none : (n : ℕ) → AllByRecursion (λ (e : ExtentField). e.count < 2 ^ 16) (replicate n no_extent)
+few_none : (n : ℕ) → AllByRecursion (λ (e : ExtentField). (e.count < 2 ^ 16) × (e.vol < 2 ^ 8)) (replicate n no_extent)
 few_none zero = tt
-few_none (suc n) = (omega arith, few_none n)
+few_none (suc n) = ((omega arith, omega arith), few_none n)
 
 are_short : (kind from n : ℕ) (rows : List Run) → is_of_holes kind ≡ false → most_pages kind ≡ 65535 → AreRowsFrom kind from rows
-    → AllByRecursion (λ (e : ExtentField). e.count < 2 ^ 16) (map extent_of rows ++ replicate n no_extent)
+    → AllByRecursion (λ (e : ExtentField). (e.count < 2 ^ 16) × (e.vol < 2 ^ 8)) (map extent_of rows ++ replicate n no_extent)
 are_short kind from n [] plain dense h = few_none n
 are_short kind from n (r ∷ rs) plain dense h =
     let is = row_is kind from r plain h.0 in
-    (omega (arith, is.count, h.0.short, dense), are_short kind (end_of r) n rs plain dense h.1)
+    ((omega (arith, is.count, h.0.short, dense), is.narrow), are_short kind (end_of r) n rs plain dense h.1)
 
 pub extents_are : (rows : List Run) → AreRowsFrom 3 0 rows → length rows ≤ 16 → HasRows 3 rows (Extents (filled extent_of no_extent 16 rows))
 unfolding Allowed

@@ -59,7 +59,7 @@ holes from [] = unit
 holes from (h ∷ hs) = hole_or_none from h hs (holes (h.page + h.count) hs) h.count refl
 
 dense : (es : List ExtentField) → IsStable (AreDense es)
-dense es = both (extents 0 es) (all (λ (e : ExtentField). e.count < 2 ^ 16) (λ e. less _ _) es)
+dense es = both (extents 0 es) (all (λ (e : ExtentField). (e.count < 2 ^ 16) × (e.vol < 2 ^ 8)) (λ e. both (less _ _) (less _ _)) es)
 
 source : (vol cell page : ℕ) → IsStable (IsSource vol cell page)
 source zero cell page = first_of (λ x. omega (arith, x.0.0)) (three (one_number _ _) (one_number _ _) (one_number _ _))
