@@ -77,6 +77,7 @@ module _ (one other : Pages) (layout : Layout) (laid : IsLayout one layout) (non
     within = has.within;
     slot = has.slot;
     used = has.used;
+    names = has.names;
   }
 
   says_not : (sign : Sign) (number : ℕ) (item : SlotItem) → slice_get layout.table.slots number ≡ Some item → asks sign item ≡ true → (tag : Tag) (at : CellAt) (home : Home)

@@ -1,5 +1,5 @@
 -- Where no rule is broken: cells that are named, and those of their chains, have places.
-use Rattle.std.proofs.Common.{◌≡◌, ◌∙◌, inl, inr, ℕ, ◌/◌, ◌%◌, Bool, true, false, cond, nat_eq, nat_le, ◌&&◌, List, [], ◌∷◌, ◌++◌, length, Option, Some, None, IsSomeAnd, Contains, refl, sym, ap, subst, arith, ⊎_elim}
+use Rattle.std.proofs.Common.{◌≡◌, ◌∙◌, inl, inr, ℕ, ◌≤◌, ◌/◌, ◌%◌, Bool, true, false, cond, nat_eq, nat_le, ◌&&◌, List, [], ◌∷◌, ◌++◌, length, Option, Some, None, IsSomeAnd, Contains, refl, sym, ap, subst, arith, ⊎_elim}
 use Rattle.std.proofs.lemmas.Bool.{cases_Bool, eq-eqb, eqb-true, le-leb}
 use Rattle.std.specs.Option.{option_and_then, option_map}
 use Rattle.file_release.specs.domain_base.declared.place.CellAt.{CellAt}
@@ -16,7 +16,7 @@ use Rattle.file_release.proofs.OfMetadataCells.Walk.{one_kind}
 use Rattle.file_release.specs.tag_dirs.declared.dir.TagPlace.{TagPlace}
 use Rattle.file_release.specs.tag_dirs.declared.page.TagEntry.{TagEntry}
 use Rattle.file_release.specs.tag_dirs.Directory.{IsDirectoryAt, cell_for, cell_of, home_with}
-use Rattle.file_release.specs.tag_dirs.TagPage.{IsTagPage, entry_of, index_of, slot_of}
+use Rattle.file_release.specs.tag_dirs.TagPage.{IsAllowed, IsTagPage, entry_of, index_of, slot_of}
 use Rattle.file_release.proofs.OfTagDirs.Slots.{found, page_there}
 use Rattle.domain_layout.specs.CellRules.{Follows, IsCellFault, IsChainHead, IsInChain, IsLink, IsPlace, Link, begins, goes_on, next_in}
 use Rattle.domain_layout.specs.Faults.{HasNoTablesFault}
@@ -91,6 +91,12 @@ link_to cell = record { kind = cell.head.kind; next = cell.head.next }
 pub record InChain (pages : Pages) (layout : Layout) (at : CellAt) (cell : Cell) : Type 0 where
   pub start : CellAt
   pub is : IsInChain pages (frame_of layout) start at (link_to cell)
+
+-- a used entry of a well-formed page may name a cell
+pub names_by : (page : List ℕ) (tag : Tag) (at : CellAt) → IsTagPage page → slot_of page (tag.slot % 1022) ≡ tag.slot → entry_of page (tag.slot % 1022) ≡ record { seq = tag.seq; at = Some at } → (1 ≤ tag.seq) × ¬ tag.slot ≡ 0
+names_by page tag at good slot used =
+    let allowed : IsAllowed (slot_of page (tag.slot % 1022)) (record { seq = tag.seq; at = Some at }) = subst (IsAllowed (slot_of page (tag.slot % 1022))) used (good.entries (tag.slot % 1022) (omega arith)) in
+    (allowed.1, λ none. allowed.2 (slot ∙ none))
 
 module _ (pages : Pages) (layout : Layout) (laid : IsLayout pages layout) (none : HasNoTablesFault pages (frame_of layout)) where
   pub no_cell : (at : CellAt) → ¬ IsCellFault pages (frame_of layout) layout.table at
@@ -197,6 +203,7 @@ module _ (pages : Pages) (layout : Layout) (laid : IsLayout pages layout) (none 
           within = omega arith;
           slot = slot_is entry.page indexed.1;
           used = entry.used;
+          names = names_by entry.page tag at indexed.0 (slot_is entry.page indexed.1) entry.used;
         };
       }
     where

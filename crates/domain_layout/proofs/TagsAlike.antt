@@ -32,6 +32,7 @@ module _ (one other : Pages) (frame : Frame) (table : Table) (cells : AgreeOnCel
     within = has.within;
     slot = has.slot;
     used = has.used;
+    names = has.names;
   }
 
   first_alike : (number : ℕ) (tag : Tag) (at : CellAt) → IsFirstOf one frame number tag at → IsFirstOf other frame number tag at

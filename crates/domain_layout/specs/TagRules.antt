@@ -1,6 +1,6 @@
 -- The rules of tag directories, of what their entries name, and of the slots of the fileset table.
 -- Each is said by where it is broken.
-use Rattle.std.specs.Prelude.{◌≡◌, ◌⊎◌, ◌<◌, ℕ, List, true, false, Option, Some, None, slice_get}
+use Rattle.std.specs.Prelude.{◌≡◌, ◌⊎◌, ◌<◌, ◌≤◌, ℕ, List, true, false, Option, Some, None, slice_get}
 use Rattle.std.specs.Option.{option_and_then}
 use Rattle.file_release.specs.domain_base.declared.place.CellAt.{CellAt}
 use Rattle.file_release.specs.domain_base.declared.place.Home.{Home}
@@ -72,7 +72,8 @@ pub record IsWrongTagPage (pages : Pages) (frame : Frame) (table : Table) (home 
 
 -- ** Entries
 
--- on a page that is read, a used entry of this tag leads to a cell
+-- on a page that is read, a used entry of this tag leads to a cell. One of slot 0, or with sequence
+-- 0, names none
 pub record HasEntry (pages : Pages) (frame : Frame) (table : Table) (number : ℕ) (tag : Tag)
     (at : CellAt) (home : Home) : Type 0 where
   pub place : ℕ
@@ -82,6 +83,7 @@ pub record HasEntry (pages : Pages) (frame : Frame) (table : Table) (number : �
   pub within : entry < 1022
   pub slot : slot_of page entry ≡ tag.slot
   pub used : entry_of page entry ≡ record { seq = tag.seq; at = Some at }
+  pub names : (1 ≤ tag.seq) × ¬ tag.slot ≡ 0
 
 -- a first cell of that fileset and tag stands there, whatever else is in it
 pub record IsFirstOf (pages : Pages) (frame : Frame) (number : ℕ) (tag : Tag) (at : CellAt)

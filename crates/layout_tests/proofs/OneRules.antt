@@ -331,6 +331,7 @@ module _ (pages : Pages) (cells_there : pages (on_first 3) ≡ Some cells_page) 
       within = omega arith;
       slot = omega (arith, tags.first_index);
       used = root_entry;
+      names = (omega arith, λ none. omega (arith, none));
     }
 
     root_first : IsFirstOf pages (frame_of Three) 0 root_tag root_at

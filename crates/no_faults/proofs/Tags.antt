@@ -9,7 +9,7 @@ use Rattle.domain_memory.specs.page_store.Pages.{same_home}
 use Rattle.domain_memory.specs.cell_records.Fields.{number_at}
 use Rattle.domain_memory.proofs.OfMetadataCells.Changed.{same_itself}
 use Rattle.domain_memory.specs.tag_dirs.Directory.{IsDirectoryAt, IsPageOf, cell_of, has_home, home_behind}
-use Rattle.domain_memory.specs.tag_dirs.TagPage.{next_of}
+use Rattle.domain_memory.specs.tag_dirs.TagPage.{IsTagPage, next_of, slot_of}
 use Rattle.domain_memory.specs.tag_dirs.declared.dir.TagPlace.{TagPlace}
 use Rattle.domain_memory.proofs.OfTagDirs.Slots.{found}
 use Rattle.domain_memory.specs.fileset_model.Filesets.{FilesetMap}
@@ -18,7 +18,7 @@ use Rattle.domain_memory.proofs.OfFilesetShapes.Roots.{entry_leads}
 use Rattle.domain_memory.specs.domain_layout.Layout.{AreTagPlaces, first_tag_of}
 use Rattle.domain_memory.specs.domain_layout.Reached.{on_volume, tags_way}
 use Rattle.domain_memory.specs.domain_layout.TagRules.{HasEntry, HasTags, IsTagsPage}
-use Rattle.domain_memory.proofs.OfDomainLayout.Named.{entry_by}
+use Rattle.domain_memory.proofs.OfDomainLayout.Named.{entry_by, names_by}
 use Rattle.domain_memory.proofs.OfDomainLayout.OnePage.{HasOne, one_of, some_same}
 use Rattle.domain_memory.proofs.OfDomainLayout.OwnedOnce.{on_a_volume}
 use Rattle.domain_memory.proofs.OfFilesetsReading.Ways.{get_map}
@@ -131,6 +131,7 @@ module _ (d : DomainNow) (all : FilesetMap) (stands : StandsDomain d all) (sound
       let home_at : slice_get (homes_of (d.tags number)) f.k ≡ Some entry.home =
       get_map (λ (q : TagPlace). q.home) (d.tags number) f.k ∙ ap (option_map (λ (q : TagPlace). q.home)) f.there ∙ ap Some f.stands in
       let index : number_at 4 4 entry.page ≡ tag.slot / 1022 = ap (number_at 4 4) (sym same) ∙ one.is.indexed ∙ f.indexed in
+      let slot_is : slot_of entry.page (tag.slot % 1022) ≡ tag.slot = omega (arith, index) in
       record {
         home = entry.home;
         has = record {
@@ -143,7 +144,8 @@ module _ (d : DomainNow) (all : FilesetMap) (stands : StandsDomain d all) (sound
           };
           entry = tag.slot % 1022;
           within = omega arith;
-          slot = omega (arith, index);
+          slot = slot_is;
           used = entry.used;
+          names = names_by entry.page tag at (subst IsTagPage same one.is.good) slot_is entry.used;
         };
       }

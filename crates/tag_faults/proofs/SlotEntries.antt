@@ -1,5 +1,5 @@
 -- Used entries of the directories of slots.
-use Rattle.std.proofs.Common.{◌≡◌, ◌↔◌, ◌==◌, ℕ, ◌+◌, ◌*◌, ◌≤◌, true, false, List, length, Option, Some, None, if◌then◌else◌, eqb-true, refl, sym, ap, subst, arith}
+use Rattle.std.proofs.Common.{◌≡◌, ◌∙◌, ◌↔◌, ◌==◌, ℕ, ◌+◌, ◌*◌, ◌≤◌, true, false, List, length, Option, Some, None, if◌then◌else◌, eqb-true, refl, sym, ap, subst, arith}
 use Rattle.std.proofs.lemmas.Bool.Decides.{nat_tests}
 use Rattle.std.proofs.lemmas.Option.{get_or_from_slice_get, slice_get_read, slice_get_within}
 use Rattle.cell_faults.specs.domain_base.declared.place.CellAt.{CellAt}
@@ -56,7 +56,7 @@ module _ (pages : Pages) (frame : Frame) (table : Table) where
 
   pub entries_all : (number : ℕ) → length table.slots ≤ number → (one : NamedCell) → IsBelow (IsEntryIn pages frame table one) number ↔ HasEntry pages frame table one.number (tag_of one) (address_of one) one.home
   entries_all number whole one = (
-    λ (k, below, (home, place, page, is, (e, within, (used, same)))).
+    λ (k, below, (home, place, page, is, (e, within, ((used, seq, slot), same)))).
         subst (λ (o : NamedCell). HasEntry pages frame table o.number (tag_of o) (address_of o) o.home) same (record {
           place = place;
           page = page;
@@ -65,6 +65,7 @@ module _ (pages : Pages) (frame : Frame) (table : Table) where
           within = within;
           slot = refl;
           used = ap (λ (o : Option CellAt). entry_with page e o) (used_there page e used);
+          names = (seq, slot);
         }),
     λ has.
         let leads = is_used has.page has.entry (address_of one) (ap (λ (t : TagEntry). t.at) has.used) in
@@ -80,7 +81,7 @@ module _ (pages : Pages) (frame : Frame) (table : Table) where
               has.entry,
               has.within,
               (
-                leads.0,
+                (leads.0, subst (λ n. 1 ≤ n) (sym seqs) has.names.0, λ none. has.names.1 (sym has.slot ∙ none)),
                 λ i. record {
                   number = one.number;
                   slot = has.slot i;

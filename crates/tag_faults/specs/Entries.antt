@@ -1,5 +1,5 @@
--- Used entries of tag directories.
-use Rattle.std.specs.Prelude.{◌≡◌, ◌↔◌, ◌+◌, ◌*◌, ◌<◌, ℕ, List, Some, Contains}
+-- Used entries of tag directories that may name a cell.
+use Rattle.std.specs.Prelude.{◌≡◌, ◌↔◌, ◌+◌, ◌*◌, ◌<◌, ◌≤◌, ℕ, List, Some, Contains}
 use Rattle.cell_faults.specs.domain_base.declared.place.CellAt.{CellAt}
 use Rattle.cell_faults.specs.domain_base.declared.place.Home.{Home}
 use Rattle.cell_faults.specs.domain_base.declared.place.Tag.{Tag}
@@ -31,10 +31,16 @@ named_at number home page entry = record {
   home = home;
 }
 
--- the entry at a place of a page is used, and is this one
+-- the entry at a place of a page leads to a volume, and may name a cell: its slot is not 0, and it
+-- has a sequence
+abbrev pub NamesCell : List ℕ → ℕ → Type 0
+NamesCell page entry = (¬ number_at 1 (18 + 8 * entry) page ≡ 0)
+    × (1 ≤ number_at 2 (16 + 8 * entry) page) × ¬ slot_of page entry ≡ 0
+
+-- it does so, and is this one
 abbrev pub IsEntryAt : List ℕ → ℕ → Home → NamedCell → ℕ → Type 0
 IsEntryAt page number home one entry =
-    (¬ number_at 1 (18 + 8 * entry) page ≡ 0) × (named_at number home page entry ≡ one)
+    NamesCell page entry × (named_at number home page entry ≡ one)
 
 -- so is some entry of a page, of that at a home, and of one of a list
 abbrev pub IsEntryOf : List ℕ → ℕ → Home → NamedCell → Type 0

@@ -1,13 +1,15 @@
-//! Whether a page is a well-formed page of a tag directory.
+//! Whether a page is a well-formed page of a tag directory, and which of its entries may name a
+//! cell.
 ghost use Rattle.std.specs.Prelude.{◌≡◌, ◌↔◌, ◌+◌, ◌*◌, ◌<◌, ◌≤◌, IsTrue, ℕ};
 ghost use Rattle.cell_faults.specs.cell_records.Fields.{number_at};
 ghost use Rattle.cell_faults.specs.tag_dirs.TagPage.{IsTagPage, slot_of};
 ghost use Rattle.tag_faults.specs.Directories.{IsGoodEntry};
+ghost use Rattle.tag_faults.specs.Entries.{NamesCell};
 
 use cell_faults::{Page, u8_at, u16_at, u32_at};
 
 /// Whether an entry leads to a volume, which need not exist.
-pub(crate) fn is_used(page: &Page, entry: usize) -> bool
+fn is_used(page: &Page, entry: usize) -> bool
     requires { entry < 1022 }
     ensures { IsTrue result ↔ ¬ number_at 1 (18 + 8 * entry) page.now ≡ 0 }
 {
@@ -43,6 +45,17 @@ fn may_be_used(page: &Page, entry: usize) -> bool
     u8_at(bytes, 18 + 8 * entry) <= 8
         && u8_at(bytes, 19 + 8 * entry) <= 27
         && 1 <= u16_at(bytes, 16 + 8 * entry)
+        && !is_slot_0(page, entry)
+}
+
+/// Whether an entry leads to a volume, which need not exist, and may name a cell: whether its slot
+/// is not 0, and it has a sequence.
+pub(crate) fn names_cell(page: &Page, entry: usize) -> bool
+    requires { entry < 1022 }
+    ensures { IsTrue result ↔ NamesCell page.now entry }
+{
+    is_used(page, entry)
+        && 1 <= u16_at(page.bytes(), 16 + 8 * entry)
         && !is_slot_0(page, entry)
 }
 

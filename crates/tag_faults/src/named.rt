@@ -1,4 +1,4 @@
-//! Used entries of tag directories.
+//! Used entries of tag directories that may name a cell.
 ghost use Rattle.std.specs.Prelude.{◌≡◌, ◌⊎◌, ◌↔◌, ◌<◌, ◌+◌, ◌*◌, Contains, IfOk, OnOk};
 ghost use Rattle.cell_faults.specs.cell_records.Fields.{number_at};
 ghost use Rattle.cell_faults.specs.tag_dirs.TagPage.{slot_of};
@@ -7,7 +7,7 @@ ghost use Rattle.tag_faults.specs.Entries.{AreEntries, IsEntryAmong, IsEntryAt, 
 ghost use Rattle.tag_faults.specs.declared.named.NamedCell.{NamedCell as NamedOf};
 
 use crate::directories::read_directory;
-use crate::entries::is_used;
+use crate::entries::names_cell;
 use crate::table::{count_slots, slot_number};
 use cell_faults::{
     DomainFrame, FilesetNo, FilesetTable, Home, MetaPages, OutOfMemory, Page, u8_at, u16_at, u32_at,
@@ -53,7 +53,7 @@ fn entry_at(page: &Page, number: FilesetNo, home: &Home, entry: usize) -> NamedC
     }
 }
 
-/// Appends an entry of a page to others, if it is used.
+/// Appends an entry of a page to others, if it is used and may name a cell.
 fn push_entry(
     page: &Page,
     number: FilesetNo,
@@ -65,7 +65,7 @@ fn push_entry(
     ensures { OnOk result ((one : NamedOf) → Contains entries.new.items one
         ↔ (Contains entries.old.items one ⊎ IsEntryAt page.now number home.now one entry)) }
 {
-    if is_used(page, entry) {
+    if names_cell(page, entry) {
         entries.push(entry_at(page, number, home, entry))?;
     }
     Ok(())
