@@ -252,7 +252,7 @@ module _ (all : FilesetMap) (place : Place) (choose : ℕ → Pages → List ℕ
 
 written_changes : (all : FilesetMap) (c : Command) (page : FilePage) → Contains (pages_written all c) page → Contains (changed_by all c) (page.0, page.1)
 written_changes all (command.Write place offset bytes) page wrote = written_at all place (λ size pages. pages_of offset (length bytes)) page wrote
-written_changes all (command.Truncate place size) page wrote = written_at all place (cut_pages size) page wrote
+written_changes all (command.Truncate place size) page wrote = written_at all place (λ old_size pages. cut_pages size pages) page wrote
 written_changes all c page wrote = absurd (omega (arith, wrote.1))
 
 -- what may have written its pages may have acted

@@ -1,5 +1,5 @@
 -- What the filesets may be after a stop.
-use Rattle.std.specs.Prelude.{◌≡◌, ◌⊎◌, ℕ, ◌/◌, ◌%◌, ◌==◌, ◌&&◌, ◌≤◌, ◌++◌, nat_lt, nat_le, not, Bool, true, false, List, [], ◌∷◌, length, map as map_list, suc, All, Contains, IsSomeAnd, Option, Some, None, if◌then◌else◌}
+use Rattle.std.specs.Prelude.{◌≡◌, ◌⊎◌, ℕ, ◌/◌, ◌%◌, ◌==◌, ◌&&◌, ◌≤◌, ◌++◌, nat_le, not, Bool, true, false, List, [], ◌∷◌, length, map as map_list, suc, All, Contains, IsSomeAnd, Option, Some, None, if◌then◌else◌}
 use Rattle.std.specs.Option.{option_map, option_map_or}
 use Rattle.std.specs.List.{before_last, list_any}
 use Rattle.std.specs.FinMap as map
@@ -86,18 +86,18 @@ unlogged_pages all place choose =
         if logged then [] else map_list (λ q. (place.fileset, number, q)) (choose size pages)
     of number (Directory uid gid) = []
 
--- the page in which a file is cut
-abbrev pub cut_pages : ℕ → ℕ → Pages → List ℕ
-cut_pages size old_size pages =
+-- the page in which a file is cut: also where it grows, since bytes may stand behind its end
+abbrev pub cut_pages : ℕ → Pages → List ℕ
+cut_pages size pages =
     let q = size / PAGE_BYTES in
-    if nat_lt size old_size && not (size % PAGE_BYTES == 0) && map.contains_key pages q
-    then q ∷ [] else []
+    if not (size % PAGE_BYTES == 0) && map.contains_key pages q then q ∷ [] else []
 
 -- the pages of files that are not logged that a command writes
 abbrev pub pages_written : FilesetMap → Command → List FilePage
 pages_written all (Write place offset bytes) =
     unlogged_pages all place (λ size pages. pages_of offset (length bytes))
-pages_written all (Truncate place size) = unlogged_pages all place (cut_pages size)
+pages_written all (Truncate place size) =
+    unlogged_pages all place (λ old_size pages. cut_pages size pages)
 pages_written all command = []
 
 -- whether a place leads to the file of a page
