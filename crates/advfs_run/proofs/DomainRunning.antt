@@ -1,17 +1,19 @@
 -- A run over a domain that was opened, and its closing.
 use Rattle.std.proofs.Common.{◌≡◌, ◌∙◌, ℕ, ◌≤◌, List, All, Option, None, ap, arith, refl, sym, subst}
-use Rattle.std.proofs.Math.Logic.{∥∥₁_map}
+use Rattle.std.proofs.Math.Logic.{∥∥₁_elim, ∥∥₁_map, ∥∥₁_prop}
 use Rattle.domain_attaching.specs.domain_base.Counts.{HasRisen}
 use Rattle.domain_attaching.specs.domain_base.declared.version.Version.{Version}
 use Rattle.domain_attaching.specs.page_store.Pages.{Pages}
-use Rattle.domain_attaching.specs.volume_disk.Disk.{Disk, Tells, raised_at}
+use Rattle.domain_attaching.specs.volume_disk.Disk.{Disk, MayLeave, Tells, raised_at}
+use Rattle.domain_attaching.specs.volume_disk.Image.{Image}
+use Rattle.domain_attaching.specs.disk_label.declared.anchor.Anchor.{Anchor}
 use Rattle.domain_attaching.specs.volume_disk.Run.{Touches}
 use Rattle.domain_attaching.proofs.OfVolumeDisk.Laws.{HasRisen-before, HasRisen-raised_at}
 use Rattle.domain_attaching.specs.fileset_model.Filesets.{FilesetMap}
 use Rattle.domain_attaching.specs.fileset_values.declared.command.Command.{Command}
 use Rattle.domain_attaching.specs.fileset_values.declared.entry.Entry.{Entry}
 use Rattle.domain_attaching.specs.legal_histories.Legal.{Legal}
-use Rattle.domain_attaching.specs.legal_histories.State.{new_domain}
+use Rattle.domain_attaching.specs.legal_histories.State.{State, new_domain}
 use Rattle.domain_attaching.specs.log_recovery.Settling.{Anywhere, HasNoGroup}
 use Rattle.domain_attaching.specs.staged_pages.Store.{before_of}
 use Rattle.domain_attaching.specs.domain_layout.Read.{Means}
@@ -20,7 +22,8 @@ use Rattle.domain_attaching.specs.page_ways.Frame.{frame_in}
 use Rattle.domain_attaching.specs.domain_memory.Memory.{StandsFor, kept_in}
 use Rattle.domain_attaching.specs.domain_memory.declared.memory.DomainMemory.{DomainMemory}
 use Rattle.domain_attaching.specs.domain_state.History.{GoesOn, StandsForSome}
-use Rattle.domain_attaching.specs.domain_state.Opening.{IsStartOf}
+use Rattle.domain_attaching.specs.domain_state.Opening.{HasVolumesOf, IsStartOf}
+use Rattle.domain_attaching.proofs.OfLogRecovery.OneOutcome.{one_anchor}
 use Rattle.domain_attaching.proofs.OfDomainState.AttachedStart.{has_start}
 use Rattle.domain_attaching.proofs.OfDomainState.NewStart.{is_start}
 use Rattle.domain_attaching.specs.domain_layout.NewDomain.{IsNew}
@@ -32,9 +35,18 @@ use Rattle.domain_attaching.proofs.AtClose.{room_of_other}
 use Rattle.domain_attaching.proofs.OfDomainStanding.OneMeaning.{reads_so}
 use Rattle.run_parts.specs.declared.status.Status.{Status}
 use Rattle.run_parts.specs.declared.status.Status.TheVariants as status
-use Rattle.advfs_run.specs.Runs.{AreStampedWithin, ClosesAs, LeadsFrom, LeadsFromNew, RunsFrom}
+use Rattle.advfs_run.specs.Runs.{AreStampedWithin, ClosesAs, Keeps, LeadsFrom, LeadsFromNew, RunsFrom}
 
 -- ---- where a history leads
+
+-- images that mean these filesets, and have an anchor with the volumes of a state, mean the state
+keeps_state : (disk : Disk) (anchor : Anchor) (all : FilesetMap) (start : State) → ((image : Image) → MayLeave disk.now image → ∥ Means disk.sizes image all ∥₁) → ∥ HasNoGroup disk anchor ∥₁ → HasVolumesOf anchor start → Keeps disk (record start { filesets = all })
+keeps_state disk anchor all start keeps none volumes image left =
+    ∥∥₁_elim none ∥∥₁_prop (λ n. ∥∥₁_map (keeps image left) (λ means. record {
+      means = means;
+      volumes = subst (λ a. HasVolumesOf a (record start { filesets = all })) (one_anchor disk.sizes image anchor means.anchor (n.stands image left).anchor_is means.log.anchor_is)
+          (record { members = volumes.members; log_volume = volumes.log_volume; version = volumes.version });
+    }))
 
 -- a domain that goes on leads to what it stands for, which is kept where that is
 pub leads_kept : (pages : Pages) (frame : Frame) (sizes : List ℕ) (memory : DomainMemory) (entries : List Entry) (job : Option Command) (old new : Disk) (closed : Type 0)
@@ -43,7 +55,7 @@ pub leads_kept : (pages : Pages) (frame : Frame) (sizes : List ℕ) (memory : Do
 leads_kept pages frame sizes memory entries job old new closed goes none means stands = ∥∥₁_map goes (λ on. record {
   all = on.all;
   leads = λ start is. subst (λ (j : Option Command). ∥ Legal start entries j (record start { filesets = on.all }) ∥₁) none (on.leads start is);
-  kept = λ both. means both.1 both.0 on.all on.stands;
+  kept = λ both start is. keeps_state new frame.anchor on.all start (means both.1 both.0 on.all on.stands) (subst (λ (f : Frame). ∥ HasNoGroup new f.anchor ∥₁) on.same (stands both.1 both.0)) is.volumes;
   volumes = λ both. subst (λ (f : Frame). ∥ HasNoGroup new f.anchor ∥₁) on.same (stands both.1 both.0);
 })
 
@@ -66,7 +78,8 @@ runs_new version old made new memory entries closed touches fresh frame leads = 
   all = on.all;
   leads = on.leads (new_domain version old.sizes)
       (subst (λ (l : List ℕ). IsStartOf (before_of memory.pages) (frame_in memory.frame) l (new_domain version old.sizes)) (sym touches.sizes) starts);
-  kept = λ both. on.kept (touches.told ∙ both.0, both.1);
+  kept = λ both. on.kept (touches.told ∙ both.0, both.1) (new_domain version old.sizes)
+      (subst (λ (l : List ℕ). IsStartOf (before_of memory.pages) (frame_in memory.frame) l (new_domain version old.sizes)) (sym touches.sizes) starts);
   volumes = λ both. ∥∥₁_map (on.volumes (touches.told ∙ both.0, both.1)) (λ none. (memory.frame.anchor, starts.volumes, none));
 })
   where

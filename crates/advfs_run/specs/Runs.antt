@@ -21,7 +21,7 @@ use Rattle.domain_attaching.specs.domain_bringing.Brought.{IsBroughtFrom, IsWhol
 use Rattle.domain_attaching.specs.domain_bringing.Fault.{IsNoDomain}
 use Rattle.domain_attaching.specs.attached_domain.declared.unfit.Unfit.{Unfit}
 use Rattle.domain_attaching.specs.attached_domain.declared.unfit.Unfit.TheVariants as unfit
-use Rattle.domain_attaching.specs.domain_state.Opening.{HasVolumesOf, IsStartOf}
+use Rattle.domain_attaching.specs.domain_state.Opening.{HasVolumesOf, IsStartOf, MeansState}
 use Rattle.domain_attaching.specs.Attaching.{IsUnfitDomain}
 use Rattle.domain_attaching.specs.Settling.{LacksNumbers, StaysReadSince, rested_anchor}
 use Rattle.run_parts.specs.declared.status.Status.{Status}
@@ -31,10 +31,10 @@ use Rattle.run_parts.specs.declared.status.Unattached.TheVariants as why
 
 -- ** Where a run leads
 
--- an image that a stop may leave now means these filesets, whichever it is
-abbrev pub Keeps : Disk → FilesetMap → Type 0
-Keeps disk all =
-    (image : Image) → MayLeave disk.now image → ∥ Means disk.sizes image all ∥₁
+-- an image that a stop may leave now means this state, whichever it is
+abbrev pub Keeps : Disk → State → Type 0
+Keeps disk s =
+    (image : Image) → MayLeave disk.now image → ∥ MeansState disk.sizes image s ∥₁
 
 -- and has an anchor with the volumes of a state, and no group of a log behind it
 abbrev pub KeepsVolumes : Disk → State → Type 0
@@ -47,7 +47,8 @@ pub record LeadsFrom (pages : Pages) (frame : Frame) (sizes : List ℕ) (entries
   pub all : FilesetMap
   pub leads : (start : State) → IsStartOf pages frame sizes start
       → ∥ Legal start entries None (record start { filesets = all }) ∥₁
-  pub kept : closed → Keeps new all
+  pub kept : closed → (start : State) → IsStartOf pages frame sizes start
+      → Keeps new (record start { filesets = all })
   pub volumes : closed → ∥ HasNoGroup new frame.anchor ∥₁
 
 -- the same from the state of a domain that was just made
@@ -56,7 +57,7 @@ pub record LeadsFromNew (version : Version) (sizes : List ℕ) (entries : List E
   pub all : FilesetMap
   pub leads : ∥ Legal (new_domain version sizes) entries None
       (record (new_domain version sizes) { filesets = all }) ∥₁
-  pub kept : closed → Keeps new all
+  pub kept : closed → Keeps new (record (new_domain version sizes) { filesets = all })
   pub volumes : closed → KeepsVolumes new (new_domain version sizes)
 
 -- pages with this anchor are those of an image once its log is redone and at rest, and break no

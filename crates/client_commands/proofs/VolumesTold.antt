@@ -80,7 +80,7 @@ may_tell pages frame sizes memory entries job e all frame_is next showing shown 
     has_volumes : HasVolumesOf memory.frame.anchor point.state
     has_volumes =
         let at_start : HasVolumesOf memory.frame.anchor start = subst (λ (f : Frame). HasVolumesOf f.anchor start) (sym frame_is) is.volumes in
-        subst (HasVolumesOf memory.frame.anchor) (sym same) (record { members = at_start.members; log_volume = at_start.log_volume })
+        subst (HasVolumesOf memory.frame.anchor) (sym same) (record { members = at_start.members; log_volume = at_start.log_volume; version = at_start.version })
 
     steps : IsShownIfMemory memory all e.command e.reply → Step point e point.state
     steps (inl told) = on_volumes (replies memory all point (ap (λ (s : State). s.filesets) same) has_volumes e.command e.reply showing told)

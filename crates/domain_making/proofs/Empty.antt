@@ -216,4 +216,4 @@ module _ (version : Version) (pages : ℕ) (room : (first_pages version pages).t
       }
 
       pub empty_domain : IsEmptyDomain sizes (new_anchor version pages) image
-      empty_domain = record { good = good; log = has_log; version = version; is_version = refl; fresh = is_new; means = means }
+      empty_domain = record { good = good; log = has_log; version = version; is_version = refl; label = says_version; fresh = is_new; means = means }

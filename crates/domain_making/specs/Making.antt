@@ -12,6 +12,7 @@ use Rattle.domain_layout.specs.disk_label.FirstPages.{first_pages}
 use Rattle.domain_layout.specs.disk_label.Slot.{IsReady, IsReadyFor}
 use Rattle.domain_layout.specs.disk_label.declared.anchor.Anchor.{Anchor}
 use Rattle.domain_layout.specs.log_ring.Groups.{HasLog, pages_in}
+use Rattle.domain_layout.specs.log_recovery.Members.{label_version}
 use Rattle.domain_layout.specs.log_recovery.Outcome.{HasGoodAnchor}
 use Rattle.domain_layout.specs.Reached.{Frame}
 use Rattle.domain_layout.specs.Read.{Means}
@@ -46,12 +47,14 @@ abbrev pub new_frame : Version → ℕ → Frame
 new_frame version pages = record { anchor = new_anchor version pages; version = version }
 
 -- an image is that of an empty domain with this anchor: recovery takes the anchor and no group
--- behind it, the pages are those of a domain that was just made, and the image means no fileset
+-- behind it, the label of the first volume says its version, the pages are those of a domain that
+-- was just made, and the image means no fileset
 pub record IsEmptyDomain (sizes : List ℕ) (anchor : Anchor) (image : Image) : Type 0 where
   pub good : HasGoodAnchor sizes image anchor
   pub log : HasLog sizes anchor [] image
   pub version : Version
   pub is_version : anchor.version ≡ number_of version
+  pub label : label_version image 1 ≡ version
   pub fresh : IsNew (pages_in image) (record { anchor = anchor; version = version })
   pub means : Means sizes image empty
 

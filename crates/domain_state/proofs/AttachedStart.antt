@@ -47,7 +47,7 @@ module _ (memory : DomainMemory) (sizes : List ℕ) (all : FilesetMap) (stands :
     record {
       filesets = λ home at. reads_so d all home stands.stands at (λ place. refl);
       rack = refl;
-      volumes = record { members = are_members d.frame.anchor; log_volume = refl };
+      volumes = record { members = are_members d.frame.anchor; log_volume = refl; version = stands.sound.below.tables.laid.version };
       version = refl;
       striped = refl;
       old_pages = old_counted d all so stands.sound.sound;

@@ -134,7 +134,7 @@ module _ (version : Version) (sizes : List ℕ) (pages : Pages) (new : IsNew pag
       record {
         filesets = λ home at. subst (λ h. ReadsFrom pages h empty) (some_same (on_first (firsts frame).table) home (sym new.anchor.table ∙ at)) (reads_none pages frame new);
         rack = refl;
-        volumes = record { members = λ vol member. (as_member vol member, as_there vol member); log_volume = refl };
+        volumes = record { members = λ vol member. (as_member vol member, as_there vol member); log_volume = refl; version = refl };
         version = refl;
         striped = refl;
         old_pages = counts_one pages frame new table.is.table table.is.fresh (laid_with pages frame new refl table.is.table table.is.fresh (first_table frame) refl);

@@ -2,11 +2,13 @@
 use Rattle.std.specs.Prelude.{◌≡◌, ◌⊎◌, ◌↔◌, ℕ, true, List, Some, Contains, length, slice_get}
 use Rattle.std.specs.FinMap.{get}
 use Rattle.std.specs.FinSet as set
+use Rattle.no_faults.specs.domain_base.Version.{number_of}
 use Rattle.no_faults.specs.domain_base.declared.place.Home.{Home}
 use Rattle.no_faults.specs.domain_base.declared.place.Kind.TheVariants.{File}
 use Rattle.no_faults.specs.domain_base.declared.place.Tag.{Tag}
 use Rattle.no_faults.specs.page_store.Pages.{Pages}
 use Rattle.no_faults.specs.metadata_cells.Chain.{PlacedCell}
+use Rattle.no_faults.specs.volume_disk.Image.{Image}
 use Rattle.no_faults.specs.log_ring.Homes.{IsMember, member_of}
 use Rattle.no_faults.specs.disk_label.declared.anchor.Anchor.{Anchor}
 use Rattle.no_faults.specs.fileset_table.Table.{Table}
@@ -16,7 +18,7 @@ use Rattle.no_faults.specs.domain_layout.DirectoryRules.{Has}
 use Rattle.no_faults.specs.domain_layout.Layout.{IsLayout, Layout}
 use Rattle.no_faults.specs.domain_layout.Owners.{BelongsTo, IsOwned, frame_of}
 use Rattle.no_faults.specs.domain_layout.Owners.Owner.{of_log, of_table, of_volume}
-use Rattle.no_faults.specs.domain_layout.Read.{ReadsFrom}
+use Rattle.no_faults.specs.domain_layout.Read.{Means, ReadsFrom}
 use Rattle.no_faults.specs.domain_layout.Reached.{Frame}
 use Rattle.no_faults.specs.domain_layout.Seen.{SeenFile}
 
@@ -60,11 +62,18 @@ pub record IsMemberAs (anchor : Anchor) (vol : ℕ) (member : Member) : Type 0 w
   pub pages : member.pages ≡ (member_of anchor vol).pages
   pub opened : (member.is_open ≡ true) ↔ IsOpen anchor vol
 
--- the members of a state and the volume of its log are those of an anchor
+-- the members of a state, the volume of its log and its version are those of an anchor
 pub record HasVolumesOf (anchor : Anchor) (s : State) : Type 0 where
   pub members : (vol : ℕ) (member : Member) → (get s.members vol ≡ Some member)
       ↔ IsMemberAs anchor vol member
   pub log_volume : s.log_volume ≡ anchor.log_vol
+  pub version : anchor.version ≡ number_of s.version
+
+-- an image of a rack with volumes of these sizes means a state: it has no fault, and the filesets,
+-- the members, the volume of the log and the version are what it has
+pub record MeansState (sizes : List ℕ) (image : Image) (s : State) : Type 0 where
+  pub means : Means sizes image s.filesets
+  pub volumes : HasVolumesOf means.anchor s
 
 -- a state that pages with this anchor mean, on a rack with volumes of these sizes
 pub record IsStartOf (pages : Pages) (frame : Frame) (sizes : List ℕ) (start : State) : Type 0 where

@@ -19,7 +19,7 @@ use Rattle.log_recovery.specs.declared.redone.Redone.{Redone}
 
 -- One anchor.
 
-one_anchor : (sizes : List ℕ) (image : Image) (one other : Anchor) → IsAnchor sizes image (Some one) → IsAnchor sizes image (Some other) → one ≡ other
+pub one_anchor : (sizes : List ℕ) (image : Image) (one other : Anchor) → IsAnchor sizes image (Some one) → IsAnchor sizes image (Some other) → one ≡ other
 one_anchor sizes image one other a b = let same = IsAnchorBelow-unique 16 sizes image (Some one) (Some other) a b in cc
 
 no_anchor : (sizes : List ℕ) (image : Image) (one : Anchor) → IsAnchor sizes image (Some one) → IsAnchor sizes image None → ⊥
