@@ -19,10 +19,12 @@ use Rattle.fileset_files.specs.declared.attributes.Attributes.{Attributes}
 use Rattle.fileset_files.specs.declared.indexing.IndexPlace.{IndexPlace}
 use Rattle.fileset_files.specs.Changes.{kind_number, says_attributes, says_parent, says_removed, with_attributes, with_first}
 use Rattle.fileset_files.specs.Index.{index_place_in, index_record, says_index}
+use Rattle.fileset_files.specs.Stripes.{says_stripe, stripe_record}
+use Rattle.fileset_files.specs.declared.striping.Stripe.{Stripe}
 use Rattle.fileset_files.specs.State.{FileState, parent_in, pending_in, state_of}
 use Rattle.fileset_files.specs.Truncation.{resized, says_size, says_truncated}
 use Rattle.fileset_files.proofs.FirstCell.{find_other, find_put}
-use Rattle.fileset_files.proofs.FirstTogether.{attributes_keep, index_keeps, parent_keeps, runs_kept, truncated_keeps}
+use Rattle.fileset_files.proofs.FirstTogether.{attributes_keep, index_keeps, parent_keeps, runs_kept, stripe_keeps, truncated_keeps}
 use Rattle.fileset_files.proofs.RemovedTogether.{removed_keeps}
 use Rattle.fileset_files.proofs.Room.{attributes_kind}
 use Rattle.fileset_files.proofs.Parts.{from_parts, state_is}
@@ -116,6 +118,17 @@ module _ (pages : Pages) (first : PlacedCell) (rest : List PlacedCell) (file : A
       by_record : (o : Option Record) → said o (Some (written.Parent value.slot value.seq)) (record_of 9 was) (record_of 6 was) ≡ option_map (put_in value) (said o (record_of 10 was) (record_of 9 was) (record_of 6 was))
       by_record None = refl
       by_record (Some r) = by_attributes r
+
+  pub stripe_said : (value : Stripe) → state_of (with_first (says_stripe value) (first ∷ rest)) ≡ option_map (λ (state : FileState). state) (state_of (first ∷ rest))
+  stripe_said value =
+      let new : Option Record = Some (stripe_record value) in
+      said_after (says_stripe value) (stripe_keeps pages first rest file value) (record_of 1 was) (record_of 10 was) (record_of 9 was) (record_of 6 was) (find_other 11 1 new was (λ is. omega (arith, is)) refl)
+      (find_other 11 10 new was (λ is. omega (arith, is)) refl) (find_other 11 9 new was (λ is. omega (arith, is)) refl) (find_other 11 6 new was (λ is. omega (arith, is)) refl)
+      ∙ sym said_before ∙ as_it_was (state_of (first ∷ rest))
+    where
+      as_it_was : (o : Option FileState) → o ≡ option_map (λ (state : FileState). state) o
+      as_it_was None = refl
+      as_it_was (Some state) = refl
 
   pub index_said : (value : Option IndexPlace) → state_of (with_first (says_index value) (first ∷ rest)) ≡ option_map (indexed value) (state_of (first ∷ rest))
   index_said value =

@@ -28,6 +28,8 @@ use Rattle.fileset_files.specs.declared.attributes.Attributes.{Attributes}
 use Rattle.fileset_files.specs.Changes.{says_attributes, says_parent, with_attributes, with_chain, with_first}
 use Rattle.fileset_files.specs.declared.indexing.IndexPlace.{IndexPlace}
 use Rattle.fileset_files.specs.Files.{AreFiles, Chains, place_at}
+use Rattle.fileset_files.specs.Stripes.{says_stripe, stripe_record}
+use Rattle.fileset_files.specs.declared.striping.Stripe.{Stripe}
 use Rattle.fileset_files.specs.Index.{index_record, says_index}
 use Rattle.fileset_files.specs.Together.{AreTogether}
 use Rattle.std.proofs.lemmas.Grind.{flat_map-append}
@@ -97,6 +99,9 @@ module _ (pages : Pages) (first : PlacedCell) (rest : List PlacedCell) (file : A
 
   pub parent_keeps : (parent : Tag) → map_records (says_parent parent first.cell).records ≡ map_records first.cell.records
   parent_keeps parent = map_stays 10 (Some (written.Parent parent.slot parent.seq)) first.cell.records file.value file.map.only (not_of file.value 10 rows refl) refl ∙ sym file.map.only
+
+  pub stripe_keeps : (stripe : Stripe) → map_records (says_stripe stripe first.cell).records ≡ map_records first.cell.records
+  stripe_keeps stripe = map_stays 11 (Some (stripe_record stripe)) first.cell.records file.value file.map.only (not_of file.value 11 rows refl) refl ∙ sym file.map.only
 
   pub index_keeps : (index : Option IndexPlace) → map_records (says_index index first.cell).records ≡ map_records first.cell.records
   index_keeps index = map_stays 9 (option_map index_record index) first.cell.records file.value file.map.only (not_of file.value 9 rows refl) (no_rows index) ∙ sym file.map.only

@@ -9,6 +9,7 @@ pub mod Truncation
 pub mod Index
 pub mod State
 pub mod States
+pub mod Stripes
 pub use Rattle.file_chains.specs.cell_records
 pub use Rattle.file_chains.specs.domain_base
 pub use Rattle.file_chains.specs.extent_maps

@@ -11,6 +11,7 @@ mod laws;
 mod map_laws;
 mod moving;
 mod new_cells;
+mod striping;
 mod truncating;
 
 pub use attributes::Attributes;
@@ -20,8 +21,10 @@ pub use laws::{a_first_page_is_new, a_new_directory_names_none, files_show_once}
 pub use map_laws::{
     files_are_one_map, files_are_told, one_file_is_cut, one_file_is_described, one_file_is_made,
     one_file_is_removed, one_index_is_set, one_page_is_placed, one_parent_is_set,
+    one_stripe_is_set,
 };
 pub use new_cells::NewFile;
+pub use striping::Stripe;
 
 // What stands below and is named above.
 pub use file_chains::{

@@ -12,12 +12,14 @@ ghost use Rattle.file_chains.specs.free_space.Spaces.{Spaces};
 ghost use Rattle.fileset_files.specs.declared.attributes.Attributes.{Attributes};
 ghost use Rattle.fileset_files.specs.declared.indexing.IndexPlace.{IndexPlace};
 ghost use Rattle.fileset_files.specs.declared.new_cells.NewFile.{NewFile};
+ghost use Rattle.fileset_files.specs.declared.striping.Stripe.{Stripe};
 ghost use Rattle.fileset_files.specs.Changes.{Removes, says_attributes, says_parent, with_chain, with_first, without_chain};
 ghost use Rattle.fileset_files.specs.Creation.{Creates};
 ghost use Rattle.fileset_files.specs.Files.{AreFiles, Chains, attributes_of, keep_of, of_live, place_at};
 ghost use Rattle.fileset_files.specs.Index.{index_place_of, says_index};
 ghost use Rattle.fileset_files.specs.Pages.{ChangesFile};
 ghost use Rattle.fileset_files.specs.State.{FileState, States, with_changed, with_state, without_state};
+ghost use Rattle.fileset_files.specs.Stripes.{says_stripe};
 ghost use Rattle.fileset_files.specs.Together.{AreTogether};
 ghost use Rattle.fileset_files.specs.Truncation.{TruncatesTogether};
 ghost use Rattle.fileset_files.specs.States.{CutsFile, HaveStates, StandsAlone, described, indexed, live_at, new_state, place_in, placed, put_in, to_remove};
@@ -119,6 +121,18 @@ pub fn one_index_is_set()
         (with_chain tag (with_first (says_index index)) chains))
         → HaveStates fileset places space cells new
         (with_changed tag (indexed index) states) }
+{}
+
+/// If the stripe of a tag's file is set, each tag names what it named: the map says nothing of
+/// stripes.
+pub fn one_stripe_is_set()
+    ensures { (fileset : ℕ) (places : List TagPlace) (space : Spaces) (cells : Cells)
+        (old new : Pages) (tag : Tag) (stripe : Stripe) (states : States)
+        → HaveStates fileset places space cells old states
+        → ((chains : Chains) → AreTogether fileset places space cells old chains
+        → AreTogether fileset places space cells new
+        (with_chain tag (with_first (says_stripe stripe)) chains))
+        → HaveStates fileset places space cells new states }
 {}
 
 /// What calls tell of a tag's file is what the map of files says: its attributes, how many pages it
