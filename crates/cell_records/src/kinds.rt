@@ -72,8 +72,7 @@ pub const CLONE_FILE_RULES: [Rule; 9] =
 
 pub const EXTENTS: Layout<67> = row_layout!(16, [4, 4, 4, 4]);
 
-pub const EXTENTS_RULES: [Rule; 67] =
-    row_rules!(3 260; 16, [Rule::Page, Rule::Count, USED, USED]);
+pub const EXTENTS_RULES: [Rule; 67] = row_rules!(3 260; 16, [Rule::Page, Rule::Count, USED, USED]);
 
 pub const SHORT_EXTENTS: Layout<19> = row_layout!(4, [4, 4, 4, 4]);
 

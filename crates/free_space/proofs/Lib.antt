@@ -1,6 +1,7 @@
 pub mod Blank
 pub mod Longest
 pub mod Runs
+pub mod RunsFound
 pub mod Used
 pub mod Walks
 pub mod Words

@@ -4,6 +4,7 @@
 
 mod bitmap;
 mod bits;
+mod runs;
 mod spaces;
 mod volume;
 mod waiting;
@@ -12,6 +13,7 @@ mod word;
 
 pub use bitmap::Bitmap;
 pub use bits::is_wrong_page;
+pub use runs::FreeRun;
 pub use spaces::FreeSpace;
 pub use waiting::{PageUse, Waiting};
 

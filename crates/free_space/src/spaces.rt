@@ -2,11 +2,13 @@
 ghost use Rattle.std.specs.Prelude.{◌≡◌, ℕ, ◌+◌, ◌<◌, ◌≤◌, ◌^◌, ◌↔◌, true, false, None, Some, List, length, sum_by, IfOk, IfErr, IfSome, IfNone, OnOk, OnErr, IsSomeAnd, MatchBool};
 ghost use Rattle.free_space.specs.declared.waiting.PageUse.TheVariants.{Data, Metadata};
 ghost use Rattle.free_space.specs.VolumeSpace.{added, with_page, with_run, without_page, with_open, with_waiting, keeping, with_none_waiting, with_released};
+ghost use Rattle.free_space.specs.Runs.{AddsRuns, AreRuns, IsRunOf, IsRunOn};
 ghost use Rattle.free_space.specs.Sound.{AreSound, WasSoundVolume};
 ghost use Rattle.free_space.specs.Spaces.{no_spaces, volume_of, with_volume, change_volume, change_volumes, kept_spaces, AreTakenOn, AreFreedOn, AreGivenBackOn, IsFree, CanTake, CanTakeRun, IsHeld, missed, free_pages, waiting_pages, held_pages, IsLongestOn};
 
+use crate::runs::push_runs_on;
 use crate::volume::Volume;
-use crate::{Bitmap, PageUse, Waiting};
+use crate::{Bitmap, FreeRun, PageUse, Waiting};
 use sorted_sets::limits::MAX_VOLUMES;
 use sorted_sets::{Home, OutOfMemory, VolIx};
 use std::alloc::Global;
@@ -327,6 +329,30 @@ impl FreeSpace {
             Some(volume) => volume.longest_run(),
             None => 0,
         }
+    }
+
+    /// Appends the runs of free pages of a volume to others, if it is there and open.
+    fn push_runs(&self, runs: &mut Vec<FreeRun>, vol: VolIx) -> Result<(), OutOfMemory>
+        ensures { OnOk result (AddsRuns (IsRunOn vol (volume_of self.now vol)) runs.old.items
+            runs.new.items) }
+    {
+        let volume = &self.volumes[vol.index()];
+        push_runs_on(runs, vol, volume)
+    }
+
+    /// The runs of free pages on open volumes, each as long as it can be, in order of volumes and
+    /// pages.
+    pub fn runs(&self, alloc: Global) -> Result<Vec<FreeRun>, OutOfMemory>
+        ensures { IfOk result (λ runs. AreRuns (IsRunOf self.now) runs.items) }
+    {
+        let mut runs = Vec::new(alloc);
+        for index in 0..MAX_VOLUMES {
+            let Some(vol) = VolIx::new(index + 1) else {
+                unreachable!()
+            };
+            self.push_runs(&mut runs, vol)?;
+        }
+        Ok(runs)
     }
 
     /// Closes the volume, if it is there: no page is allocated from it until it is activated.

@@ -357,6 +357,13 @@ impl Volume {
         self.is_open
     }
 
+    /// Its bitmap, in which waiting pages are used.
+    pub(crate) fn map(&self) -> &Bitmap
+        ensures { result.now ≡ volume_pages self.now }
+    {
+        &self.map
+    }
+
     /// How many pages are free.
     pub fn count_free(&self) -> u32
         ensures value { result ≡ self.now.pages - len self.now.used }

@@ -11,8 +11,7 @@ ghost use Rattle.slot_files.specs.Indexes.{AreWhole, MayHaveIndex, ReadsIndex, s
 
 use crate::records::first_record;
 use index_row_faults::{
-    CellAt, FileThere, Home, IndexThere, Kind, MetaPages, OutOfMemory, Record, VolIx,
-    look_at_chain,
+    CellAt, FileThere, Home, IndexThere, Kind, MetaPages, OutOfMemory, Record, VolIx, look_at_chain,
 };
 use std::alloc::Global;
 

@@ -132,6 +132,22 @@ fn changed(alloc: Global, space: &FreeSpace, vol: VolIx) -> Result<String> {
     Ok(format!(in alloc; "{taken} taken, {freed} freed, {given_back} given back")?)
 }
 
+/// The runs of free pages: the volume and the page at which each begins, and how many pages it has.
+fn runs(alloc: Global, space: &FreeSpace) -> Result<String> {
+    let runs = space.runs(alloc)?;
+    if runs.is_empty() {
+        return Ok(String::from_str(alloc, "none")?);
+    }
+    let mut told = String::new(alloc);
+    for run in &runs {
+        let (vol, page) = (run.first.vol.number(), run.first.page);
+        let between = if told.is_empty() { "" } else { ", " };
+        let line = format!(in alloc; "{between}{vol}:{page}+{}", run.count)?;
+        told.push_str(line.as_str())?;
+    }
+    Ok(told)
+}
+
 /// Reserves a page of the volume.
 fn reserve(alloc: Global, space: &mut FreeSpace, vol: VolIx, page: u32) -> Result<String> {
     let word = if space.reserve(Home { vol, page }) {
@@ -152,6 +168,7 @@ fn answer(
 ) -> Result<String> {
     match word {
         "counts" => counts(alloc, space, vol),
+        "runs" => runs(alloc, space),
         "changed" => changed(alloc, space, volume_of(rest)?),
         "free" => {
             let (free, waiting) = (space.free_now(), space.waiting());

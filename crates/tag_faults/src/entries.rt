@@ -54,9 +54,7 @@ pub(crate) fn names_cell(page: &Page, entry: usize) -> bool
     requires { entry < 1022 }
     ensures { IsTrue result ↔ NamesCell page.now entry }
 {
-    is_used(page, entry)
-        && 1 <= u16_at(page.bytes(), 16 + 8 * entry)
-        && !is_slot_0(page, entry)
+    is_used(page, entry) && 1 <= u16_at(page.bytes(), 16 + 8 * entry) && !is_slot_0(page, entry)
 }
 
 /// Whether an entry is well formed.
