@@ -112,12 +112,15 @@ IsLostBehind old new status history =
 
 -- ** An image that is made, or verified
 
+-- verifying only reads, and ends by its status as `VerifyEnds` says; of other words nothing is said
 abbrev pub VerifyEndsFor : Result Form ℕ → Disk → Disk → Status → Option (List ℕ)
     → Option (List ℕ) → Type 0
 VerifyEndsFor (Ok Verify) old new status before after =
     OnlyReads old new × VerifyEnds old new status before after
 VerifyEndsFor other old new status before after = Unit {0}
 
+-- making touches the first volume alone, and ends by its status as `MakeEnds` says; of other words
+-- nothing is said
 abbrev pub MakeEndsFor : Result Form ℕ → Disk → Disk → Status → Type 0
 MakeEndsFor (Ok (Make version)) old new status =
     Touches old new IsOnFirst × MakeEnds version old new status
@@ -137,6 +140,7 @@ IsPrinted ended.Ok = Unit {0}
 IsPrinted (ended.VolumeFault vol) = Unit {0}
 IsPrinted other = ⊥
 
+-- at this status the text of the run is printed whole
 abbrev pub IsTold : Result Form ℕ → Status → Type 0
 IsTold (Ok (Try pages)) status = IsPrinted status
 IsTold (Ok Run) status = IsPrinted status

@@ -21,6 +21,7 @@ abbrev pub blocks_if : Kind → List (Option Home) → ℕ
 blocks_if Directory homes = 0
 blocks_if File homes = blocks_per_page * pages_there homes
 
+-- the blocks that the pages of a file take that are there, and none of a directory
 abbrev pub blocks_there : TaggedFile → ℕ
 blocks_there file = blocks_if file.seen.is.kind file.seen.homes.items
 
@@ -29,9 +30,11 @@ abbrev pub counts_for : Owner → TaggedFile → Bool
 counts_for who file = is_owned who file.seen.is.uid file.seen.is.gid
     && not (same_tag file.tag root_tag)
 
+-- how many files a file counts for an owner: 1 if it is the owner's and not the root, else 0
 abbrev pub files_of : Owner → TaggedFile → ℕ
 files_of who file = if counts_for who file then 1 else 0
 
+-- how many blocks it counts for an owner
 abbrev pub blocks_of : Owner → TaggedFile → ℕ
 blocks_of who file = if counts_for who file then blocks_there file else 0
 

@@ -10,6 +10,7 @@ use Rattle.no_faults.specs.domain_standing.Sources.{HaveNoSource}
 use Rattle.attached_domain.specs.Signs.{SlotSays}
 use Rattle.attached_domain.specs.declared.signs.Sign.TheVariants.{Cut, Removed}
 
+-- there is none of the causes for which a domain without a fault is not attached
 pub record Fits (pages : Pages) (layout : Layout) (tables : DomainTables) : Type 0 where
   pub no_clone : (number : ℕ) → of_clone (slice_get layout.table.slots number) ≡ false
   pub sources : HaveNoSource pages layout

@@ -7,6 +7,7 @@ use Rattle.no_faults.specs.fileset_table.declared.slot.FilesetEntry.{FilesetEntr
 use Rattle.no_faults.specs.quota_book.Book.{Book, HasBindingLimits, limits_in}
 use Rattle.no_faults.specs.domain_layout.Shape.{limits_in as limits_said}
 
+-- a book with the limits that the slot and the quota cells of a fileset say, and no totals
 pub record HasLimitsAlone (entry : FilesetEntry) (records : List Record) (book : Book) : Type 0
   where
     pub unused : book.totals ≡ empty

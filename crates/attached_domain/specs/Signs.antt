@@ -24,6 +24,7 @@ says_cut (written.Attributes kind uid gid flags size keep links birth unsynced) 
     (kind == 2) && not (keep == file_pages)
 says_cut _ = false
 
+-- the records of a first cell say that a directory keeps fewer pages than a file can have
 abbrev pub say_cut : List Record → Bool
 say_cut records = option_map_or says_cut (record_of 1 records) false
 
@@ -67,6 +68,7 @@ pub record IsSaidIn (pages : Pages) (sign : Sign) (tables : DomainTables) (numbe
   pub there : slice_get tables.tags.items number ≡ Some places
   pub says : ItemSays pages sign item places
 
+-- in one of the 32 slots a first cell, to which a tag leads, says what is looked for there
 abbrev pub SlotSays : Pages → Sign → DomainTables → Type 0
 SlotSays pages sign tables =
     (number : ℕ) × (number < 32) × IsSaidIn pages sign tables number

@@ -32,9 +32,11 @@ IsLate links led at link = (onto : CellAt) × (start : CellAt) × (other : CellA
 
 -- ** Pages on which such a cell stands
 
+-- a chain that begins at this cell ends, on this page, at a cell that leads to some other one
 abbrev pub HasEndAstray : CellLinks → CellSet → Home → CellAt → CellLink → Type 0
 HasEndAstray links led home start first = IsHead led start first
     × ((at : CellAt) × (home_of at ≡ home) × EndsAstray links start at)
 
+-- at a cell of this page an earlier cell of another chain goes on to the same cell
 abbrev pub HasLate : CellLinks → CellSet → Home → CellAt → CellLink → Type 0
 HasLate links led home at link = (home_of at ≡ home) × IsLate links led at link

@@ -14,5 +14,6 @@ cells_of links = links.cells.items
 abbrev pub HasLink : CellLinks → CellAt → CellLink → Type 0
 HasLink links at link = value_at (cells_of links) (key_of at) ≡ Some (at, link)
 
+-- the cell is in use
 abbrev pub IsInUse : CellLinks → CellAt → Type 0
 IsInUse links at = (link : CellLink) × HasLink links at link

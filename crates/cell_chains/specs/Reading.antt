@@ -36,6 +36,7 @@ runs_at at (row ∷ rows) =
 abbrev pub runs_in : CellAt → Record → List FileRun
 runs_in at value = runs_at at (rows_in value)
 
+-- the runs that the records of a cell say
 abbrev pub runs_from : CellAt → List Record → List FileRun
 runs_from at records = flat_map (runs_in at) records
 

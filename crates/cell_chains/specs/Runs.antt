@@ -20,9 +20,11 @@ spans_on vol (run ∷ runs) =
 abbrev pub IsPageOf : FileRun → ℕ → Type 0
 IsPageOf run page = (run.row.page ≤ page) × (page < run.row.page + run.row.count)
 
+-- on which page of its volume a run has a page of its file
 abbrev pub page_in : FileRun → ℕ → ℕ
 page_in run page = run.row.first + (page - run.row.page)
 
+-- where a run has a page of its file
 abbrev pub home_in : FileRun → ℕ → Home
 home_in run page = record { vol = run.row.vol; page = page_in run page }
 
@@ -38,6 +40,7 @@ HaveAt runs at page home = (run : FileRun) × Contains runs run × HasAt run at 
 abbrev pub Apart : FileRun → FileRun → Type 0
 Apart run other = (page : ℕ) → IsPageOf run page → IsPageOf other page → ¬ run.at ≡ other.at
 
+-- no two of the runs have one page of one cell
 abbrev pub AreApart : List FileRun → Type 0
 AreApart [] = Unit {0}
 AreApart (run ∷ runs) = AllByRecursion (Apart run) runs × AreApart runs

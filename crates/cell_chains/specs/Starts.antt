@@ -31,6 +31,7 @@ abbrev pub with_start : CellAt → Starts → Starts
 with_start start (One other) = if is_at start other then One start else Several
 with_start start Several = Several
 
+-- two sets of first cells as one, of which only none, one alone and several are told apart
 abbrev pub joined : Option Starts → Starts → Starts
 joined None more = more
 joined (Some (One start)) more = with_start start more
@@ -58,9 +59,11 @@ HasKey cells key = (at : CellAt) × Contains cells at × (key_of at ≡ key)
 abbrev pub AddsOne : CellAt → StartMap → StartMap → ℕ → Type 0
 AddsOne start old new key = told_in new key ≡ Some (joined (told_in old key) (One start))
 
+-- nothing else is told under this number
 abbrev pub Stays : StartMap → StartMap → ℕ → Type 0
 Stays old new key = told_in new key ≡ told_in old key
 
+-- a first cell is added to the sets of the cells of its chain, and to no others
 abbrev pub AddsChain : List CellAt → CellAt → StartMap → StartMap → Type 0
 AddsChain cells start old new = (key : ℕ) → (HasKey cells key × AddsOne start old new key)
     ⊎ ((¬ HasKey cells key) × Stays old new key)

@@ -30,12 +30,14 @@ HasWrongLead pages frame home = (at : CellAt) × (home_of at ≡ home) × LeadsW
 abbrev pub HasPageTwice : Pages → Frame → Home → Type 0
 HasPageTwice pages frame home = (at : CellAt) × (home_of at ≡ home) × IsPageTwice pages frame at
 
+-- some cell of the page says limits that an earlier cell of its chain says
 abbrev pub HasLimitsTwice : Pages → Frame → Home → Type 0
 HasLimitsTwice pages frame home =
     (at : CellAt) × (home_of at ≡ home) × AreLimitsTwice pages frame at
 
 -- ** All rules of chains
 
+-- a rule of chains is broken on the page
 abbrev pub IsChainFault : Pages → Frame → Table → Home → Type 0
 IsChainFault pages frame table home = HasWrongLead pages frame home ⊎ HasUnchained pages frame home
     ⊎ HasPageTwice pages frame home ⊎ HasLimitsTwice pages frame home

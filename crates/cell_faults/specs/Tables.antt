@@ -38,5 +38,6 @@ pub record AreTablesBelow (number : ℕ) (pages : Pages) (frame : Frame) (read :
       ↔ ((page.home.vol < number) × IsThere pages frame page)
   pub none : (home : Home) → Contains unread home ↔ IsNoneBelow number pages frame home
 
+-- those of the volumes up to this one
 abbrev pub AreTablesUpTo : ℕ → Pages → Frame → List CellsPage → List Home → Type 0
 AreTablesUpTo number = AreTablesBelow (number + 1)

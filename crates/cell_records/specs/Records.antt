@@ -12,6 +12,7 @@ use Rattle.cell_records.specs.Layouts.{widths, size_of, with_head, repeated}
 use Rattle.domain_base.specs.declared.version.Version.{Version}
 use Rattle.domain_base.specs.declared.version.Version.TheVariants.{Three, Four}
 
+-- the number of a record's kind on disk
 abbrev pub kind_of : Record → ℕ
 kind_of (Attributes kind uid gid flags size keep links birth unsynced) = 1
 kind_of (CloneFile vol cell page frozen) = 2

@@ -9,6 +9,7 @@ use Rattle.word_forms.specs.fileset_values.declared.command.Owner.TheVariants as
 use Rattle.word_forms.specs.Runs.{bytes_text}
 use Rattle.word_forms.specs.Texts.{path_text, place_text, spaced}
 
+-- `c` and the client's number, or `m` for the mover
 abbrev pub actor_text : Actor → List ℕ
 actor_text (Client n) = codes "c" ++ decimal n
 actor_text Mover = codes "m"

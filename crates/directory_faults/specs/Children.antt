@@ -12,6 +12,7 @@ abbrev pub children_in : {Z : Type 0} → BTreeMap Tag (Vec Tag Z) → Tag → L
 children_in children dir =
     unwrap_or (option_map vec_items (get ((tag_ord.ghosts).cmp) children dir)) []
 
+-- a directory has a row of another directory, by the map of children
 abbrev pub HasChild : {Z : Type 0} → BTreeMap Tag (Vec Tag Z) → Tag → Tag → Type 0
 HasChild children dir tag = Contains (children_in children dir) tag
 

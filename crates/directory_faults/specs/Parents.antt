@@ -23,9 +23,11 @@ abbrev pub pair_order : Tag × Tag → Tag × Tag → Ordering
 pair_order one other = ordering_then ((tag_ord.ghosts).cmp one.0 other.0)
     ((tag_ord.ghosts).cmp one.1 other.1)
 
+-- a set of pairs of tags has this pair
 abbrev pub HasPair : BTreeSet (Tag × Tag) → Tag → Tag → Type 0
 HasPair pairs tag dir = IsTrue (contains pair_order pairs (tag, dir))
 
+-- a set of tags has this tag
 abbrev pub HasTag : BTreeSet Tag → Tag → Type 0
 HasTag tags tag = IsTrue (contains ((tag_ord.ghosts).cmp) tags tag)
 

@@ -69,5 +69,6 @@ IsRowOf pages frame file r =
 abbrev pub IsRowIn : Pages → Frame → Table → ℕ → RowThere → Type 0
 IsRowIn pages frame table number r = IsRow pages frame table number (place_of r) r.row r.at.home
 
+-- a list has each row of the fileset in a slot, once and in order
 abbrev pub AreRowsIn : Pages → Frame → Table → ℕ → List RowThere → Type 0
 AreRowsIn pages frame table number = AreRows (IsRowIn pages frame table number)

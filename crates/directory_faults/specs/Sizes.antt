@@ -15,6 +15,7 @@ use Rattle.directory_faults.specs.declared.there.FileThere.{FileThere}
 abbrev pub IsOfWrongSize : FileThere → Type 0
 IsOfWrongSize file = (file.seen.is.kind ≡ Directory) × IsTrue file.has_wrong_size
 
+-- the first cell of a directory of a wrong size stands on this page
 abbrev pub IsOfWrongSizeAt : FileThere → Home → Type 0
 IsOfWrongSizeAt file home = IsOfWrongSize file × (home ≡ home_of file.at)
 

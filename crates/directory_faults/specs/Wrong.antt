@@ -19,6 +19,7 @@ use Rattle.fileset_shapes.specs.domain_layout.Reached.{Frame}
 use Rattle.directory_faults.specs.declared.rows.RowThere.{RowThere}
 use Rattle.directory_faults.specs.declared.there.FileThere.{FileThere}
 
+-- the other kind
 abbrev pub other_of : Kind → Kind
 other_of File = Directory
 other_of Directory = File

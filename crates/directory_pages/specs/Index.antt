@@ -87,6 +87,7 @@ IsFirstPage key index low high (Some number) = FirstPage key index low number
 abbrev pub spelled_entry : IndexEntry → List ℕ
 spelled_entry entry = spelled (4 ∷ 4 ∷ []) (entry.hash ∷ entry.page ∷ [])
 
+-- the bytes of entries, one after another
 abbrev pub spelling : List IndexEntry → List ℕ
 spelling [] = []
 spelling (entry ∷ entries) = spelled_entry entry ++ spelling entries

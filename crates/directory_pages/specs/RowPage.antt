@@ -14,6 +14,7 @@ header_widths = 4 ∷ 2 ∷ 2 ∷ 8 ∷ []
 abbrev pub header_numbers : ℕ → ℕ → List ℕ
 header_numbers size count = 0x50524944 ∷ size ∷ count ∷ 0 ∷ []
 
+-- the first bytes of a page of rows
 abbrev pub header : List Row → List ℕ
 header rows = spelled header_widths (header_numbers (length (spelling rows)) (length rows))
 
@@ -36,6 +37,7 @@ size_of page = number_at 2 4 page
 abbrev pub rows_of : List ℕ → List Row
 rows_of page = first_rows (number_at 2 6 page) (drop 16 page)
 
+-- the bytes after the rows, which are not read
 abbrev pub behind : List ℕ → List ℕ
 behind page = drop (16 + size_of page) page
 

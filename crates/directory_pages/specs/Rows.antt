@@ -41,9 +41,11 @@ kind_number Directory = 2
 abbrev pub row_widths : List ℕ
 row_widths = 4 ∷ 2 ∷ 1 ∷ 1 ∷ []
 
+-- the numbers of a row before its name
 abbrev pub row_numbers : Row → List ℕ
 row_numbers row = row.tag.slot ∷ row.tag.seq ∷ kind_number row.kind ∷ length row.name ∷ []
 
+-- the bytes of a row
 abbrev pub spelled_row : Row → List ℕ
 spelled_row row = spelled row_widths (row_numbers row) ++ row.name
 
@@ -62,6 +64,7 @@ kind_of number = if number == 2 then Directory else File
 abbrev pub name_len : List ℕ → ℕ
 name_len bytes = number_at 1 7 bytes
 
+-- the row at the front of some bytes, well formed or not
 abbrev pub first_row : List ℕ → Row
 first_row bytes = record {
   tag = record { slot = number_at 4 0 bytes; seq = number_at 2 4 bytes };
@@ -98,6 +101,7 @@ are_rows (suc n) bytes = is_row bytes && are_rows n (other_rows bytes)
 
 -- ---- rows by their names
 
+-- whether a row has this name
 abbrev pub has_name : List ℕ → Row → Bool
 has_name name row = pointwise nat_eq row.name name
 

@@ -19,6 +19,7 @@ rows_of_homes pages homes = flat_map (rows_at pages) homes
 abbrev pub IsRowsAt : Pages → Option Home → Type 0
 IsRowsAt pages home = IfSome (option_and_then pages home) IsDirPage
 
+-- a page of rows stands at each of these homes
 abbrev pub AreRowPages : Pages → List (Option Home) → Type 0
 AreRowPages pages homes = (number : ℕ) (home : Option Home) → slice_get homes number ≡ Some home
     → IsRowsAt pages home

@@ -9,6 +9,7 @@ use Rattle.disk_label.specs.declared.first_pages.FirstPages.{FirstPages}
 abbrev pub label_page : ℕ
 label_page = 0
 
+-- the page of both anchors
 abbrev pub anchors_page : ℕ
 anchors_page = 1
 

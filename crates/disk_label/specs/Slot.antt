@@ -19,9 +19,11 @@ IsOnAnchors v k = (page_bytes * anchors_page ≤ k) × (k < page_bytes * (anchor
 abbrev pub IsSlot : ℕ → ℕ → Places
 IsSlot vol slot = IsIn vol (gate_byte slot) 4096
 
+-- the bytes of a slot's gate, one block
 abbrev pub IsGate : ℕ → ℕ → Places
 IsGate vol slot = IsIn vol (gate_byte slot) block_bytes
 
+-- the bytes of a slot's body, seven blocks
 abbrev pub IsBody : ℕ → ℕ → Places
 IsBody vol slot = IsIn vol (gate_byte slot + block_bytes) 3584
 

@@ -9,13 +9,16 @@ use Rattle.volume_disk.specs.domain_base.declared.place.Home.{Home}
 use Rattle.disk_label.specs.declared.anchor.Anchor.{Anchor}
 use Rattle.disk_label.specs.declared.anchor.Member.{Member}
 
+-- a home as numbers of four bytes; zeros for none
 abbrev pub home_words : Option Home → List ℕ
 home_words None = 0 ∷ 0 ∷ []
 home_words (Some home) = home.vol ∷ home.page ∷ []
 
+-- a member's entry as numbers of four bytes
 abbrev pub member_words : Member → List ℕ
 member_words member = member.pages ∷ member.state ∷ []
 
+-- the fields of an anchor as numbers of four bytes, in the order of its body
 abbrev pub words_of : Anchor → List ℕ
 words_of anchor =
     (

@@ -36,6 +36,7 @@ of_bringing (bringing.NotADomain vol at) = NotADomain vol at
 of_bringing (bringing.Fault vol) = Fault vol
 of_bringing bringing.OutOfMemory = OutOfMemory
 
+-- why a domain that was brought is not attached, as a fault of attaching
 abbrev pub of_unfit : Unfit → AttachFault
 of_unfit fitting.OutOfMemory = OutOfMemory
 of_unfit why = NotFit why
@@ -52,6 +53,7 @@ abbrev pub IfNotADomain : AttachFault → (ℕ → ℕ → Type 0) → Type 0
 IfNotADomain (NotADomain vol at) P = P vol at
 IfNotADomain fault P = Unit {0}
 
+-- a fact of why a domain without a fault is not attached
 abbrev pub IfNotFit : AttachFault → (Unfit → Type 0) → Type 0
 IfNotFit (NotFit why) P = P why
 IfNotFit fault P = Unit {0}

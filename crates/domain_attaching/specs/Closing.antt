@@ -33,6 +33,7 @@ abbrev pub IsChosen : Anchor → TablePages → Bool → Home → Type 0
 IsChosen anchor tables of_tables home =
     IsLoggable anchor home × (is_table tables home ≡ of_tables)
 
+-- a page of one volume that may be written, and is or is not of a table
 abbrev pub IsChosenOn : ℕ → Anchor → TablePages → Bool → Home → Type 0
 IsChosenOn vol anchor tables of_tables home =
     (home.vol ≡ vol) × IsChosen anchor tables of_tables home
@@ -79,6 +80,7 @@ IsHome pages anchor image home = IsLoggable anchor home
 abbrev pub AreHome : Pages → Anchor → Image → Type 0
 AreHome pages anchor image = (home : Home) → IsHome pages anchor image home
 
+-- each page in memory that has a property stands at its home
 abbrev pub AreTheseHome : (Home → Type 0) → Pages → Anchor → Image → Type 0
 AreTheseHome These pages anchor image = (home : Home) → These home → IsHome pages anchor image home
 
@@ -116,6 +118,7 @@ abbrev pub IsData : DomainMemory → Home → Type 0
 IsData memory home = IsLoggable memory.frame.anchor home
     × ¬ IsTableHome (layout_of (staged_in memory)) home
 
+-- a page that may be written and is one of the tables: of cells, of tags, or the fileset table
 abbrev pub IsOfTables : DomainMemory → Home → Type 0
 IsOfTables memory home = IsLoggable memory.frame.anchor home
     × IsTableHome (layout_of (staged_in memory)) home

@@ -42,6 +42,7 @@ abbrev pub HasMarksOn : Anchor → TablePages → ℕ → Type 0
 HasMarksOn anchor tables vol = IsSomeAnd (slice_get tables.volumes.items (vol - 1))
     (λ marks. length marks.items ≡ (member_of anchor vol).pages)
 
+-- there is a mark for each page of all volumes of an anchor
 abbrev pub HasMarksFor : Anchor → TablePages → Type 0
 HasMarksFor anchor tables =
     (vol : ℕ) → 1 ≤ vol → vol ≤ max_volumes → HasMarksOn anchor tables vol
@@ -51,6 +52,7 @@ abbrev pub HasTablesOn : Layout → TablePages → ℕ → Type 0
 HasTablesOn layout tables vol = IsSomeAnd (slice_get tables.volumes.items (vol - 1))
     (λ marks. AreTablesOn layout vol marks.items)
 
+-- of all volumes exactly the pages of tables are marked
 abbrev pub AreTables : Layout → TablePages → Type 0
 AreTables layout tables = (home : Home) → 1 ≤ home.vol → home.vol ≤ max_volumes
     → home.page < (member_of layout.anchor home.vol).pages

@@ -15,6 +15,7 @@ abbrev pub HasPagesBelow : ℕ → Pages → Frame → FileRun → Type 0
 HasPagesBelow n pages frame run = (page : ℕ) → IsPageOf run page → page < n
     → IsThereWithin pages frame (home_in run page)
 
+-- each page of a run that a cell says is there, if it is one of a member
 abbrev pub HasPagesOf : Pages → Frame → FileRun → Type 0
 HasPagesOf pages frame run =
     (page : ℕ) → IsPageOf run page → IsThereWithin pages frame (home_in run page)

@@ -6,6 +6,7 @@ use Rattle.domain_faults.specs.declared.rows.FaultRow.{FaultRow as Told}
 use Rattle.domain_faults.specs.declared.rows.Rule.{Rule}
 use Rattle.domain_faults.specs.declared.rows.Rule.TheVariants.{Table, Cells, Tags, Extents, Bitmaps, Directories, Indexes}
 
+-- the code of each rule, as the format has them
 abbrev pub code_of : Rule → ℕ
 code_of Table = 4
 code_of Cells = 5
@@ -15,6 +16,7 @@ code_of Bitmaps = 8
 code_of Directories = 9
 code_of Indexes = 10
 
+-- a row of the program as the definitions have it
 abbrev pub row_there : Told → FaultRow
 row_there row = record { code = code_of row.rule; home = row.home }
 
@@ -25,6 +27,7 @@ rows_there rows = map row_there rows
 abbrev pub row_of : ℕ → ℕ × Home → FaultRow
 row_of code entry = record { code = code; home = entry.1 }
 
+-- a row with this code for each home
 abbrev pub rows_of : ℕ → List (ℕ × Home) → List FaultRow
 rows_of code homes = map (row_of code) homes
 

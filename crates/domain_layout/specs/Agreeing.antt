@@ -17,6 +17,7 @@ abbrev pub AgreeOnShape : Contents → Contents → FilesetShape → Type 0
 AgreeOnShape one other shape =
     (tag : Tag) (seen : SeenFile) → shape.files tag ≡ Some seen → AgreeOnFile one other seen
 
+-- contents that have the same bytes at each home of the files of shapes
 abbrev pub AgreeOn : Contents → Contents → Shapes → Type 0
 AgreeOn one other shapes =
     (name : Name) (shape : FilesetShape) → shapes name ≡ Some shape → AgreeOnShape one other shape

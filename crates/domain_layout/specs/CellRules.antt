@@ -197,6 +197,7 @@ is_chain_records _ = false
 abbrev pub are_limits : List Record → Bool
 are_limits records = list_all (λ r. (kind_of r == 7) || (kind_of r == 8)) records
 
+-- a chain cell without its one record, or a quota cell with other records than limits
 pub record IsWrongLater (pages : Pages) (frame : Frame) (at : CellAt) : Type 0 where
   pub cell : Cell
   pub used : IsUsed pages frame at cell

@@ -150,12 +150,15 @@ pub record AreAllInSync (pages : Pages) (frame : Frame) (table : Table) (number 
   pub reached : (tag : Tag) → RowsLead pages frame table number root_tag tag
       → IsHere pages table number tag
 
+-- all directories of the fileset are read: always of an original, of a clone only if its root is
+-- there and each directory to which rows lead from it on
 abbrev pub AreAllRead : Pages → Frame → Table → ℕ → Type 0
 AreAllRead pages frame table number = (of_clone (slice_get table.slots number) ≡ false)
     ⊎ AreAllInSync pages frame table number
 
 -- ** What a directory's pages break: at that page
 
+-- a page of a directory is not well formed, and then has no rows
 abbrev pub IsWrongRowPage : Pages → Frame → Table → Home → Type 0
 IsWrongRowPage pages frame table home = (number : ℕ) × (dir : Tag) × (page : ℕ) × (bytes : List ℕ)
     × IsDirectoryPage pages frame table number dir page home bytes × ¬ IsDirPage bytes
@@ -244,6 +247,8 @@ IsMiscounted pages frame table number tag seen = (rows : List RowPlace)
     × ((seen.is.links < length rows)
     ⊎ (AreAllRead pages frame table number × (length rows < seen.is.links)))
 
+-- the root is a file, or a file has other links than rows; or what is wrong with a directory, by
+-- its size, pages, links, parent and rows
 abbrev pub IsWrongFile : Pages → Frame → Table → ℕ → Tag → List PlacedCell → SeenFile → Kind
     → Type 0
 IsWrongFile pages frame table number tag cells seen File =
@@ -264,6 +269,7 @@ pub record IsFileFault (pages : Pages) (frame : Frame) (table : Table) (home : H
   pub at : IsFirstHome cells home
   pub wrong : IsWrongFile pages frame table number tag cells seen seen.is.kind
 
+-- a rule of code 9 is broken at this page
 abbrev pub IsDirectoryFault : Pages → Frame → Table → Home → Type 0
 IsDirectoryFault pages frame table home =
     IsWrongRowPage pages frame table home ⊎ IsNameTwice pages frame table home
@@ -378,6 +384,8 @@ IsWrongIndex pages frame table number dir seen first total home =
     ⊎ ((home ≡ first) × (¬ seen.is.kind ≡ Directory ⊎ ¬ HasSecondPage seen
     ⊎ IsWrongTotal pages frame table number dir first total))
 
+-- the index of a file that is there is wrong at this page: an entry out of order or more often than
+-- its rows, or, at the first page, what is missing or too many
 pub record IsWrongIndexOf (pages : Pages) (frame : Frame) (table : Table) (home : Home) : Type 0
   where
     pub number : ℕ

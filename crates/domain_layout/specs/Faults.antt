@@ -69,6 +69,7 @@ abbrev pub IsBefore : FaultRow → FaultRow → Type 0
 IsBefore a b = (a.code < b.code) ⊎ ((a.code ≡ b.code) × ((a.home.vol < b.home.vol)
     ⊎ ((a.home.vol ≡ b.home.vol) × (a.home.page < b.home.page))))
 
+-- rows in order, none twice
 abbrev pub AreInOrder : List FaultRow → Type 0
 AreInOrder [] = Unit {0}
 AreInOrder (row ∷ rows) = AllByRecursion (IsBefore row) rows × AreInOrder rows

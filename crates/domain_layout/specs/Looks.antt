@@ -38,6 +38,7 @@ pub record IsOfTags (pages : Pages) (frame : Frame) (home : Home) : Type 0 where
   pub has : HasTags table number first
   pub come : IsComeTo pages frame (tags_way first) home
 
+-- a page of cells, or of the tag directory of what is in a slot
 abbrev pub IsOfTables : Pages → Frame → Home → Type 0
 IsOfTables pages frame home = IsOfCells pages frame home ⊎ IsOfTags pages frame home
 

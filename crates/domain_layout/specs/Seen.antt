@@ -49,9 +49,11 @@ abbrev pub frozen_in : Record → ℕ
 frozen_in (written.CloneFile vol cell page frozen) = frozen
 frozen_in _ = 0
 
+-- the first cell of the file through which a clone's file reads
 abbrev pub source_of : List PlacedCell → Option CellAt
 source_of cells = option_and_then source_in (first_record 2 cells)
 
+-- how many pages were frozen for it
 abbrev pub frozen_of : List PlacedCell → ℕ
 frozen_of cells = option_map_or frozen_in (first_record 2 cells) 0
 

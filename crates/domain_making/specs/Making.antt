@@ -43,6 +43,7 @@ new_anchor version pages = record {
 abbrev pub IsLarge : List ℕ → Type 0
 IsLarge sizes = min_first_volume_pages ≤ volume_pages sizes 1
 
+-- the anchor of a domain that was just made, with its version
 abbrev pub new_frame : Version → ℕ → Frame
 new_frame version pages = record { anchor = new_anchor version pages; version = version }
 

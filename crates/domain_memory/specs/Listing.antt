@@ -25,6 +25,7 @@ abbrev pub put_all_on : List CellAt → List Entry → List Entry
 put_all_on [] entries = entries
 put_all_on (at ∷ more) entries = put_all_on more (put_on at entries)
 
+-- the list with an entry for each of these files
 abbrev pub list_with : List CellAt → Listing → Listing
 list_with listed list = record list { entries = put_all_on listed list.entries }
 

@@ -34,6 +34,7 @@ kept_in memory = record {
   list = memory.list.list;
 }
 
+-- the book of each slot as it was when memory was last kept
 abbrev pub books_in : DomainMemory → ℕ → Book
 books_in memory number = kept_book (slot_in memory.slots.items number)
 

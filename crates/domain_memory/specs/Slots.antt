@@ -14,6 +14,7 @@ abbrev pub places_in : Option SlotFiles → List TagPlace
 places_in None = []
 places_in (Some slot) = slot.files.tags
 
+-- the book of a slot, empty if nothing is in it
 abbrev pub book_in : Option SlotFiles → Book
 book_in None = empty_book
 book_in (Some slot) = slot.book.book
@@ -23,6 +24,7 @@ abbrev pub kept_places : Option SlotFiles → List TagPlace
 kept_places None = []
 kept_places (Some slot) = take slot.tag_pages slot.files.tags
 
+-- the book of a slot as it was when that was last kept
 abbrev pub kept_book : Option SlotFiles → Book
 kept_book None = empty_book
 kept_book (Some slot) = slot.book.kept

@@ -30,6 +30,7 @@ staged_in memory = record {
   list = list_with memory.listed.items memory.list.list;
 }
 
+-- the book of each slot with the change
 abbrev pub staged_books : DomainMemory → ℕ → Book
 staged_books memory number = book_in (slot_in memory.slots.items number)
 

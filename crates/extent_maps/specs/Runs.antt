@@ -27,6 +27,7 @@ abbrev pub behind : ℕ → RunPlace → RunPlace
 behind count (place.At home) = place.At (record { vol = home.vol; page = home.page + count })
 behind count place.Holes = place.Holes
 
+-- the number after the last page of a run
 abbrev pub end_of : Run → ℕ
 end_of run = run.page + run.count
 
@@ -70,6 +71,7 @@ joined run next = record run { count = run.count + next.count }
 abbrev pub front_of : ℕ → Run → Run
 front_of count run = record run { count = count }
 
+-- a run without so many of its first pages
 abbrev pub rest_from : ℕ → Run → Run
 rest_from count run =
     record { page = run.page + count; count = run.count - count; first = behind count run.first }
@@ -78,6 +80,7 @@ rest_from count run =
 abbrev pub front_piece : ℕ → Run → List Run
 front_piece count run = if count == 0 then [] else front_of count run ∷ []
 
+-- what is left of a run after one of its pages, if anything is
 abbrev pub rest_piece : ℕ → Run → List Run
 rest_piece count run = if run.count == count + 1 then [] else rest_from (count + 1) run ∷ []
 
@@ -116,12 +119,15 @@ AreRuns (run ∷ runs) = IsRun run × FirstFollows run runs × AreRuns runs
 abbrev pub BeginUpTo : ℕ → List Run → Type 0
 BeginUpTo page runs = AllByRecursion (λ (run : Run). run.page ≤ page) runs
 
+-- all of these runs begin after a page
 abbrev pub BeginBehind : ℕ → List Run → Type 0
 BeginBehind page runs = AllByRecursion (λ (run : Run). page < run.page) runs
 
+-- all of these runs begin before a page
 abbrev pub BeginBefore : ℕ → List Run → Type 0
 BeginBefore page runs = AllByRecursion (λ (run : Run). run.page < page) runs
 
+-- all of these runs begin at a page or after it
 abbrev pub BeginFrom : ℕ → List Run → Type 0
 BeginFrom page runs = AllByRecursion (λ (run : Run). page ≤ run.page) runs
 

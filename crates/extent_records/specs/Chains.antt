@@ -49,9 +49,11 @@ pub record IsFirst (P : Record → Type 0) (records : List Record) (i : ℕ) : T
   pub is : (d : Record) → P (get_or records i d)
   pub before : AllByRecursion (λ (r : Record). P r → ⊥) (take i records)
 
+-- no record is so
 abbrev pub IsNone : (Record → Type 0) → List Record → Type 0
 IsNone P records = AllByRecursion (λ (r : Record). P r → ⊥) records
 
+-- the first record that is so, or that none is
 abbrev pub Finds : (Record → Type 0) → List Record → Option ℕ → Type 0
 Finds P records (Some i) = IsFirst P records i
 Finds P records None = IsNone P records

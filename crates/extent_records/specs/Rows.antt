@@ -21,6 +21,7 @@ run_of e = record {
   first = place.At (record { vol = e.vol; page = e.first });
 }
 
+-- the pages that a row of a hole names
 abbrev pub hole_run : HoleField → Run
 hole_run h = record { page = h.page; count = h.count; first = place.Holes }
 
@@ -28,6 +29,7 @@ hole_run h = record { page = h.page; count = h.count; first = place.Holes }
 abbrev pub runs_at : ExtentField → List Run
 runs_at e = if e.count == 0 then [] else run_of e ∷ []
 
+-- the run of a row of holes that is used, and none of one that is not
 abbrev pub holes_at : HoleField → List Run
 holes_at h = if h.count == 0 then [] else hole_run h ∷ []
 
@@ -53,6 +55,7 @@ times (run ∷ runs) page = (if covers run page then 1 else 0) + times runs page
 abbrev pub NoPageTwice : List Run → Type 0
 NoPageTwice runs = (page : ℕ) → times runs page ≤ 1
 
+-- a run's first page is on one of the volumes 1 to 8, or the run is a hole
 abbrev pub OnVolume : RunPlace → Type 0
 OnVolume (place.At home) = (1 ≤ home.vol) × (home.vol ≤ max_volumes)
 OnVolume place.Holes = Unit {0}

@@ -19,6 +19,7 @@ use Rattle.extent_records.specs.Rows.{IsPlaced, NoPageTwice, OnVolume, runs_in}
 abbrev pub rows_each : List ℕ
 rows_each = 0 ∷ 0 ∷ 0 ∷ 16 ∷ 4 ∷ 16 ∷ 0 ∷ 0 ∷ 0 ∷ 0 ∷ 0 ∷ 0 ∷ 0 ∷ 22 ∷ 4 ∷ []
 
+-- how many rows a record of a kind has, none if its fields are others
 abbrev pub most_rows : ℕ → ℕ
 most_rows kind = get_or rows_each kind 0
 
@@ -35,10 +36,12 @@ abbrev pub short_kind : Version → ℕ
 short_kind Three = 4
 short_kind Four = 14
 
+-- the kind of a chain cell's record of extents, as a version writes it
 abbrev pub chain_kind : Version → ℕ
 chain_kind Three = 3
 chain_kind Four = 13
 
+-- the kind of a record of holes
 abbrev pub hole_kind : ℕ
 hole_kind = 5
 
@@ -113,6 +116,7 @@ abbrev pub pieces : ℕ → Run → List Run
 pieces most run =
     if nat_le run.count most then run ∷ [] else front_of most run ∷ rest_from most run ∷ []
 
+-- runs as the rows of a record: a run that has more pages than a row is two
 abbrev pub parts : ℕ → List Run → List Run
 parts most = flat_map (pieces most)
 
@@ -152,6 +156,7 @@ pub record HasRows (kind : ℕ) (rows : List Run) (r : Record) : Type 0 where
   pub allowed : Allowed r
   pub says : runs_in r ≡ rows
 
+-- the record of a kind with these rows, or none if it has no room for them
 abbrev pub IsRecordOf : ℕ → List Run → Option Record → Type 0
 IsRecordOf kind rows (Some r) = HasRows kind rows r
 IsRecordOf kind rows None = most_rows kind < length rows

@@ -43,6 +43,7 @@ abbrev pub pages_in : Node → Pages
 pages_in (File uid gid size logged pages) = pages
 pages_in (Directory uid gid) = empty
 
+-- the pages of the file at a path, none where none is
 abbrev pub pages_at : Fileset → Path → Pages
 pages_at tree path = option_map_or pages_in (node_at tree path) empty
 
@@ -51,6 +52,7 @@ pub record IsOpenAt (tag : Tag) (page : ℕ) (chains : Chains) : Type 0 where
   pub kept : IsSomeAnd (option_and_then (of_live keep_of) (chains tag)) (λ keep. page < keep)
   pub solid : ¬ place_at chains tag page ≡ Hole
 
+-- the file of a tag keeps a page, which is no hole: so it has the page or may get it
 abbrev pub IsOpen : DomainMemory → ℕ → Tag → ℕ → Type 0
 IsOpen memory number tag page =
     (chains : Chains) → AreFilesIn memory number chains → IsOpenAt tag page chains

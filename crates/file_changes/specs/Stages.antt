@@ -53,6 +53,7 @@ pub record IsPageOf (tag : Tag) (page : ℕ) (chains : Chains) : Type 0 where
   pub home : Home
   pub there : place_at chains tag page ≡ At home
 
+-- the file of a tag keeps a page and has it
 abbrev pub HasPage : DomainMemory → ℕ → Tag → ℕ → Type 0
 HasPage memory number tag page =
     (chains : Chains) → AreFilesIn memory number chains → IsPageOf tag page chains

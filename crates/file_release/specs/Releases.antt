@@ -31,6 +31,7 @@ use_in (Some (written.Attributes kind uid gid flags size keep links birth unsync
     if (kind == 2) || (flags == 1) then Metadata else Data
 use_in _ = Data
 
+-- the pages of a directory and of a logged file are metadata, all others are data
 abbrev pub use_of : List PlacedCell → PageUse
 use_of [] = Data
 use_of (first ∷ rest) = use_in (record_of 1 first.cell.records)

@@ -24,6 +24,7 @@ use Rattle.file_chains.specs.Files.{IsFile}
 use Rattle.fileset_files.specs.declared.attributes.Attributes.{Attributes}
 use Rattle.fileset_files.specs.Files.{AreFiles, Chains, attributes_of, is_first_kind, of_live}
 
+-- the number of a kind in a record of attributes
 abbrev pub kind_number : Kind → ℕ
 kind_number File = 1
 kind_number Directory = 2

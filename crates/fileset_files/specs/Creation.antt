@@ -37,6 +37,7 @@ use Rattle.fileset_files.specs.Changes.{kind_number}
 use Rattle.fileset_files.specs.Files.{Chains, is_first_kind}
 use Rattle.fileset_files.specs.Together.{AreTogether}
 
+-- what a new file is before it has a tag
 abbrev pub new_file : Kind → ℕ → ℕ → ℕ → NewFile
 new_file kind uid gid birth = record { kind = kind; uid = uid; gid = gid; birth = birth }
 
@@ -109,6 +110,7 @@ pub record TakesTagPage (prefer : ℕ) (places places_now : List TagPlace)
   pub cell : TakesOne prefer (change_volume (with_page home.page) space home.vol) space_now cells
       cells_now old
 
+-- for a new file one cell was taken, and a page of tags more only if no entry was free
 abbrev pub TakesForFile : ℕ → List TagPlace → List TagPlace → Spaces → Spaces → Cells → Cells
     → Pages → Type 0
 TakesForFile prefer places places_now space space_now cells cells_now old =

@@ -57,9 +57,11 @@ is_removed cells = option_map_or says_remove (first_record 6 cells) false
 abbrev pub of_live : {X : Type 0} → (List PlacedCell → Option X) → List PlacedCell → Option X
 of_live what cells = if is_removed cells then None else what cells
 
+-- what the first cell says of the file: its kind, owner, flag, size and links
 abbrev pub attributes_of : List PlacedCell → Option Attributes
 attributes_of cells = option_and_then attributes_in (first_record 1 cells)
 
+-- how many of its first pages the file keeps
 abbrev pub keep_of : List PlacedCell → Option ℕ
 keep_of cells = option_and_then keep_in (first_record 1 cells)
 
@@ -81,6 +83,7 @@ first_kinds = 1 ∷ 2 ∷ 4 ∷ 6 ∷ 9 ∷ 10 ∷ 11 ∷ 14 ∷ []
 abbrev pub is_first_kind : ℕ → Bool
 is_first_kind kind = list_any (λ k. kind == k) first_kinds
 
+-- the first cell has records of the kinds of a first cell alone
 abbrev pub HasFirstKinds : List PlacedCell → Type 0
 HasFirstKinds [] = ⊥
 HasFirstKinds (first ∷ rest) =
@@ -120,6 +123,8 @@ abbrev pub IsFirstUnless : Bool → Pages → List PlacedCell → Option CellAt 
 IsFirstUnless true pages cells found = found ≡ None
 IsFirstUnless false pages cells found = IsSomeAnd found (λ at. IsFile pages at cells)
 
+-- this is the first cell of a file that is not to be removed; there is none if the tag names
+-- nothing, or such a file
 abbrev pub IsLiveCell : Pages → Option (List PlacedCell) → Option CellAt → Type 0
 IsLiveCell pages None found = found ≡ None
 IsLiveCell pages (Some cells) found = IsFirstUnless (is_removed cells) pages cells found

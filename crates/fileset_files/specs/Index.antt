@@ -19,6 +19,7 @@ abbrev pub index_place_in : Record → Option IndexPlace
 index_place_in (written.DirIndex vol page entries) = Some (index_at vol page entries)
 index_place_in _ = None
 
+-- where the index of a directory begins and how many entries it has, if its first cell names one
 abbrev pub index_place_of : List PlacedCell → Option IndexPlace
 index_place_of cells = option_and_then index_place_in (first_record 9 cells)
 

@@ -34,6 +34,7 @@ abbrev pub index_in : Record → Option Home
 index_in (written.DirIndex vol page entries) = Some (record { vol = vol; page = page })
 index_in _ = None
 
+-- where the index of a directory begins
 abbrev pub index_of : List PlacedCell → Option Home
 index_of cells = option_and_then index_in (first_record 9 cells)
 

@@ -58,6 +58,7 @@ state_with cells (written.Attributes kind uid gid flags size keep links birth un
     }) (attributes_in (written.Attributes kind uid gid flags size keep links birth unsynced))
 state_with cells _ = None
 
+-- all that the cells of a file say of it, as one record
 abbrev pub state_of : List PlacedCell → Option FileState
 state_of cells = option_and_then (state_with cells) (first_record 1 cells)
 
@@ -65,6 +66,7 @@ state_of cells = option_and_then (state_with cells) (first_record 1 cells)
 abbrev pub States : Type 0
 States = Tag → Option FileState
 
+-- the state of the file of each tag that is used
 abbrev pub states_of : Chains → States
 states_of chains = λ tag. option_and_then state_of (chains tag)
 
@@ -72,9 +74,11 @@ states_of chains = λ tag. option_and_then state_of (chains tag)
 abbrev pub with_state : Tag → FileState → States → States
 with_state tag state states = λ t. if same_tag t tag then Some state else states t
 
+-- the files of which that of one tag has changed
 abbrev pub with_changed : Tag → (FileState → FileState) → States → States
 with_changed tag change states =
     λ t. if same_tag t tag then option_map change (states t) else states t
 
+-- the files without that of one tag
 abbrev pub without_state : Tag → States → States
 without_state tag states = λ t. if same_tag t tag then None else states t

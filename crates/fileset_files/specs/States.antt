@@ -39,6 +39,8 @@ abbrev pub new_parent_tag : Kind → Tag → Option Tag
 new_parent_tag File tag = None
 new_parent_tag Directory tag = Some tag
 
+-- a new file or directory: no byte, one link, no page, and all pages kept; a directory is its own
+-- parent
 abbrev pub new_state : NewFile → Tag → FileState
 new_state what tag = record {
   attributes = record {
@@ -63,15 +65,19 @@ new_state what tag = record {
 abbrev pub described : Attributes → FileState → FileState
 described value state = record state { attributes = value }
 
+-- a directory that says to stand in another one
 abbrev pub put_in : Tag → FileState → FileState
 put_in parent state = record state { parent = Some parent }
 
+-- a directory with its index elsewhere, or with none
 abbrev pub indexed : Option IndexPlace → FileState → FileState
 indexed index state = record state { index = index }
 
+-- a file with one page at another place
 abbrev pub placed : ℕ → PagePlace → FileState → FileState
 placed page place state = record state { places = with_place page place state.places }
 
+-- a file of which all is to be let go of
 abbrev pub to_remove : FileState → FileState
 to_remove state = record state { pending = Some Remove }
 
@@ -102,9 +108,11 @@ is_removing None = false
 abbrev pub if_live : FileState → Option FileState
 if_live state = if is_removing state.pending then None else Some state
 
+-- the file of a tag, if it is not to be removed
 abbrev pub live_at : States → Tag → Option FileState
 live_at states tag = option_and_then if_live (states tag)
 
+-- where the file of a tag has a page
 abbrev pub place_in : States → Tag → ℕ → PagePlace
 place_in states tag page =
     option_map_or (λ (state : FileState). state.places page) (states tag) Absent

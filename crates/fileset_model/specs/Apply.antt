@@ -29,6 +29,7 @@ abbrev pub original_of : Role → Option Name
 original_of Original = None
 original_of (CloneOf original out) = Some original
 
+-- whether a fileset is a clone
 abbrev pub is_clone : Role → Bool
 is_clone Original = false
 is_clone (CloneOf original out) = true
@@ -37,6 +38,7 @@ is_clone (CloneOf original out) = true
 abbrev pub is_clone_of : Name → Role → Bool
 is_clone_of name role = option_map_or (same_name name) (original_of role) false
 
+-- whether a fileset with this name has a clone
 abbrev pub has_clone : FilesetMap → Name → Bool
 has_clone all name = list_any (λ slot. is_clone_of name slot.role) (map.values all)
 
@@ -168,6 +170,7 @@ refusal_of all command = None
 
 -- ---- the answer of each command that is not refused
 
+-- what a read of a node answers
 abbrev pub read_of : ℕ → ℕ → Node → Reply
 read_of offset count (File uid gid size logged pages) =
     Bytes (bytes_between pages size offset count)
@@ -195,6 +198,7 @@ abbrev pub of_node : FilesetMap → Place → (Fileset → Node → Reply) → R
 of_node all place answer =
     of_tree all place.fileset (λ tree. option_map_or (answer tree) (node_at tree place.path) Done)
 
+-- what a command answers that is not refused
 abbrev pub answer_of : FilesetMap → Command → Reply
 answer_of all (Write place offset bytes) = Count (length bytes)
 answer_of all (Read place offset count) = of_node all place (λ tree. read_of offset count)
@@ -280,15 +284,18 @@ moved from to tree = record tree {
 abbrev pub renamed : Path → Path → Fileset → Fileset
 renamed from to tree = if names_one tree from to then tree else moved from to (without to tree)
 
+-- a file after a write
 abbrev pub written_node : ℕ → List ℕ → Node → Node
 written_node offset bytes (File uid gid size logged pages) =
     File uid gid (max size (offset + length bytes)) logged (written pages offset bytes)
 written_node offset bytes (Directory uid gid) = Directory uid gid
 
+-- a file after a cut
 abbrev pub truncated_node : ℕ → Node → Node
 truncated_node cut (File uid gid size logged pages) = File uid gid cut logged (truncated pages cut)
 truncated_node cut (Directory uid gid) = Directory uid gid
 
+-- a file that is logged from now on, or is not
 abbrev pub flagged_node : Bool → Node → Node
 flagged_node flag (File uid gid size logged pages) = File uid gid size flag pages
 flagged_node flag (Directory uid gid) = Directory uid gid

@@ -38,9 +38,11 @@ counts_for who root e =
 abbrev pub owned : Fileset → Owner → List (ℕ × Node)
 owned tree who = filter (counts_for who (map.get tree.paths [])) (map.entries tree.nodes)
 
+-- how many files and directories count for an owner, each number once, without the root
 abbrev pub used_files : Fileset → Owner → ℕ
 used_files tree who = length (owned tree who)
 
+-- how many blocks of 512 bytes they use
 abbrev pub used_blocks : Fileset → Owner → ℕ
 used_blocks tree who = sum_by (λ e. blocks_of e.1) (owned tree who)
 

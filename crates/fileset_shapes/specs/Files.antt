@@ -63,6 +63,7 @@ pub record AreClones (pages : Pages) (own behind : FilesetFiles) (number : ℕ) 
 
 -- ** What is read at a tag
 
+-- what was seen of a file that was found
 abbrev pub seen_of : Option TaggedFile → Option SeenPages
 seen_of found = option_map (λ (file : TaggedFile). file.seen) found
 

@@ -106,6 +106,7 @@ SeesItem pages table number (slot.Original entry) found =
 SeesItem pages table number (slot.Clone of clone entry) found =
     IsSomeAnd found (SeesFileset pages table number (slot.Clone of clone entry) entry)
 
+-- what was read of a slot is what is in it, and nothing was read of an empty one
 abbrev pub SeesSlot : Pages → Table → ℕ → Option FilesetSeen → Type 0
 SeesSlot pages table number found = (item : SlotItem) → slice_get table.slots number ≡ Some item
     → SeesItem pages table number item found

@@ -34,6 +34,7 @@ abbrev pub IsUsedOnFirst : Pages → List TagPlace → ℕ → Tag → Type 0
 IsUsedOnFirst pages places count tag =
     IsOnFirst places count tag.slot × IsUsed pages places tag
 
+-- a tag in use among the slots of the first pages of a directory and some entries of the next one
 abbrev pub IsUsedOnFirstEntries : Pages → List TagPlace → ℕ → TagPlace → ℕ → Tag → Type 0
 IsUsedOnFirstEntries pages places count place entries tag =
     IsOnFirstEntries places count place entries tag.slot × IsUsed pages places tag

@@ -33,10 +33,12 @@ entry_of (Original entry) = Some entry
 entry_of (Clone original number entry) = Some entry
 entry_of (Removed first_tag quota) = None
 
+-- the slot has nothing
 abbrev pub is_free : SlotItem → Bool
 is_free Free = true
 is_free _ = false
 
+-- the slot has an original
 abbrev pub is_original : SlotItem → Bool
 is_original (Original entry) = true
 is_original _ = false
@@ -46,6 +48,7 @@ abbrev pub has_name : List ℕ → SlotItem → Bool
 has_name name item =
     option_map_or (λ (e : FilesetEntry). same_name e.name name) (entry_of item) false
 
+-- the slot has an original or a clone, and nothing that is being removed
 abbrev pub is_fileset : SlotItem → Bool
 is_fileset item = option_map_or (λ _. true) (entry_of item) false
 
@@ -64,6 +67,7 @@ IsCellNumber quota = IfSome quota (λ at. at.cell < 28)
 abbrev pub IsAllowedEntry : FilesetEntry → Type 0
 IsAllowedEntry entry = (is_fileset_name entry.name ≡ true) × IsCellNumber entry.quota
 
+-- what is in a slot has a name of the form, and a cell that a page can have
 abbrev pub IsAllowed : SlotItem → Type 0
 IsAllowed Free = Unit {0}
 IsAllowed (Original entry) = IsAllowedEntry entry
@@ -83,9 +87,11 @@ abbrev pub share_original : SlotItem → SlotItem → Bool
 share_original (Clone original number entry) other = is_clone_of original other
 share_original _ other = false
 
+-- no two slots have filesets of one name
 abbrev pub HaveOwnNames : List SlotItem → Type 0
 HaveOwnNames slots = IsDistinct share_name slots
 
+-- no two slots have clones of one original
 abbrev pub HaveOneClone : List SlotItem → Type 0
 HaveOneClone slots = IsDistinct share_original slots
 
@@ -95,6 +101,7 @@ leads_to_original slots (Clone original number entry) =
     option_map_or is_original (slice_get slots original) false
 leads_to_original slots _ = true
 
+-- each clone's original is in the slot that it names
 abbrev pub LeadToOriginals : List SlotItem → Type 0
 LeadToOriginals slots = list_all (leads_to_original slots) slots ≡ true
 

@@ -12,6 +12,7 @@ use Rattle.fileset_values.specs.declared.command.Owner.TheVariants.{User, Group,
 abbrev pub Name : Type 0
 Name = List ℕ
 
+-- a path from the root on; the root is the empty one
 abbrev pub Path : Type 0
 Path = List Name
 
@@ -34,6 +35,7 @@ owner_id (User id) = id
 owner_id (Group id) = id
 owner_id Fileset = 0
 
+-- users before groups before the whole fileset, each by id
 abbrev pub owner_cmp : Owner → Owner → Ordering
 owner_cmp = then_cmp (on owner_kind nat_cmp) (on owner_id nat_cmp)
 

@@ -24,6 +24,7 @@ abbrev pub rows_if : Pages → List (Option Home) → Kind → List Row
 rows_if pages homes Directory = rows_of_homes pages homes
 rows_if pages homes File = []
 
+-- the rows of a file that was read, none of a file that is no directory
 abbrev pub rows_seen : Pages → TaggedFile → List Row
 rows_seen pages file = rows_if pages file.seen.homes.items file.seen.is.kind
 

@@ -27,6 +27,7 @@ abbrev pub HasLinksAt : Pages → List TagPlace → ℕ → Type 0
 HasLinksAt pages places slot = (tag : Tag) (at : CellAt) → tag.slot ≡ slot
     → cell_of pages places tag ≡ Some at → HasLinks pages at
 
+-- so begins a chain at each cell to which a tag of a page's slots leads
 abbrev pub HaveLinksOn : Pages → List TagPlace → TagPlace → Type 0
 HaveLinksOn pages places place = (tag : Tag) (at : CellAt) → tag.slot / 1022 ≡ place.index
     → cell_of pages places tag ≡ Some at → HasLinks pages at

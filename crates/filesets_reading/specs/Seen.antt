@@ -24,6 +24,7 @@ pub record IsSeenAs (seen : SeenFile) (found : SeenPages) : Type 0 where
   pub is : found.is ≡ seen.is
   pub homes : (page : ℕ) → home_in found.homes.items page ≡ seen.homes page
 
+-- nothing was found where there is no file, and else that file
 abbrev pub IsSeenThere : Option SeenFile → Option SeenPages → Type 0
 IsSeenThere None found = found ≡ None
 IsSeenThere (Some seen) found = IsSomeAnd found (IsSeenAs seen)

@@ -11,6 +11,7 @@ use Rattle.free_cells.specs.VolumeTable.{KeptTable, VolumeTable, as_kept, no_tab
 abbrev pub Cells : Type 0
 Cells = List VolumeTable
 
+-- what stands in the table of a volume; no table for volume 0, or for one that is not there
 abbrev pub volume_of : Cells → ℕ → VolumeTable
 volume_of cells vol = slice_index_or (no_table ∷ cells) vol no_table
 

@@ -37,6 +37,7 @@ volume_code =
     (λ p. record { table = p.0; free = p.1.0; is_closed = p.1.1.0; kept = p.1.1.1 })
     (λ _. refl)
 
+-- no page and no free cell was kept
 abbrev pub nothing_kept : KeptTable
 nothing_kept = record { table = []; free = [] }
 
@@ -52,9 +53,11 @@ with_kept v = record v { kept = record { table = v.table; free = v.free } }
 abbrev pub as_kept : VolumeTable → VolumeTable
 as_kept v = record v { table = v.kept.table; free = v.kept.free }
 
+-- two free cells of a volume are one
 abbrev pub same_cell : FreeCell → FreeCell → Bool
 same_cell a b = (a.page == b.page) && (a.cell == b.cell)
 
+-- a cell is one of these free ones
 abbrev pub is_among : List FreeCell → FreeCell → Bool
 is_among free f = list_any (same_cell f) free
 
@@ -66,6 +69,7 @@ is_free_there number page f = (f.page == number) && (nat_lt f.cell 28 && is_free
 abbrev pub IsOn : List ℕ → FreeCell → Type 0
 IsOn table f = Contains table f.page × (f.cell < 28)
 
+-- each free cell is one of a page of the table
 abbrev pub AreOn : VolumeTable → Type 0
 AreOn v = (f : FreeCell) → is_among v.free f ≡ true → IsOn v.table f
 

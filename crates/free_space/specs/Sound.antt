@@ -30,6 +30,8 @@ WasSoundVolume v = IsSound v.pages v.kept_used v.kept_waiting
 abbrev pub AreSoundVolumes : List (Option VolumeSpace) → Type 0
 AreSoundVolumes volumes = AllByRecursion (λ o. IfSome o IsSoundVolume) volumes
 
+-- what is always so of the free space of all volumes: used pages are the volume's, and waiting ones
+-- are used and all different
 abbrev pub AreSound : Spaces → Type 0
 AreSound s = AreSoundVolumes s.volumes
 

@@ -22,6 +22,7 @@ spaces_code = code_by (List (Option VolumeSpace) × ℕ)
 abbrev pub no_spaces : Spaces
 no_spaces = record { volumes = replicate 8 None; misses = 0 }
 
+-- the volume with a number, if it is there
 abbrev pub volume_of : Spaces → ℕ → Option VolumeSpace
 volume_of s vol = slice_index_or s.volumes (vol - 1) None
 
@@ -85,6 +86,7 @@ abbrev pub free_pages : Option VolumeSpace → ℕ
 free_pages None = 0
 free_pages (Some v) = if v.is_open then v.pages - len v.used else 0
 
+-- how many pages of a volume wait, none where it is not there
 abbrev pub waiting_pages : Option VolumeSpace → ℕ
 waiting_pages None = 0
 waiting_pages (Some v) = length v.waiting

@@ -99,15 +99,19 @@ abbrev pub insert_run : FinSet nat_cmp → ℕ → ℕ → FinSet nat_cmp
 insert_run used p zero = used
 insert_run used p (suc count) = insert (insert_run used p count) (p + count)
 
+-- one page more is used
 abbrev pub with_page : ℕ → VolumeSpace → VolumeSpace
 with_page p v = record v { used = insert v.used p }
 
+-- so many pages in a row more are used
 abbrev pub with_run : ℕ → ℕ → VolumeSpace → VolumeSpace
 with_run p count v = record v { used = insert_run v.used p count }
 
+-- one page less is used
 abbrev pub without_page : ℕ → VolumeSpace → VolumeSpace
 without_page p v = record v { used = remove v.used p }
 
+-- the volume is opened or closed: pages may be taken of an open one alone
 abbrev pub with_open : Bool → VolumeSpace → VolumeSpace
 with_open is_open v = record v { is_open = is_open }
 

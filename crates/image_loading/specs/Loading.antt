@@ -67,6 +67,7 @@ HasBitmap pages frame vol = (page : ℕ) → 2 ≤ page → page < first_cells f
     → IsWithin frame (record { vol = vol; page = page })
     → IsSome (pages (record { vol = vol; page = page }))
 
+-- the bitmaps of the volumes below a number are there
 abbrev pub HasBitmapsBelow : ℕ → Pages → Frame → Type 0
 HasBitmapsBelow n pages frame = (vol : ℕ) → vol < n → HasBitmap pages frame vol
 
@@ -89,9 +90,11 @@ HasTagsBelow n pages frame table = (number : ℕ) → number < n → HasTagsOf p
 abbrev pub HasBitmaps : Pages → Frame → Type 0
 HasBitmaps pages frame = (vol : ℕ) → HasBitmap pages frame vol
 
+-- the pages of cells of all volumes are there
 abbrev pub HasCells : Pages → Frame → Type 0
 HasCells pages frame = (vol : ℕ) → HasCellsOf pages frame vol
 
+-- the pages of tags of all slots of a table are there
 abbrev pub HasTagPages : Pages → Frame → Table → Type 0
 HasTagPages pages frame table = (number : ℕ) → HasTagsOf pages frame table number
 

@@ -20,6 +20,7 @@ page_at pages home = unwrap_or (pages home) []
 abbrev pub entries_at : Pages → Home → List EntryAt
 entries_at pages home = placed home (entries_in (page_at pages home))
 
+-- the entries of the pages at these homes, page after page
 abbrev pub entries_on : Pages → List Home → List EntryAt
 entries_on pages homes = flat_map (entries_at pages) homes
 

@@ -41,6 +41,7 @@ IsShort keys entries total = (¬ total ≡ length entries)
 abbrev pub IsGoodAt : Pages → Home → Type 0
 IsGoodAt pages home = (page : List ℕ) × (pages home ≡ Some page) × IsGoodIndexPage page
 
+-- a well-formed page of an index stands at each of these homes
 abbrev pub AreGoodPages : Pages → List Home → Type 0
 AreGoodPages pages homes = (home : Home) → Contains homes home → IsGoodAt pages home
 

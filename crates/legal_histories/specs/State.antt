@@ -28,6 +28,7 @@ pub numbered_cmp-total : IsTotalOrder numbered_cmp
 numbered_cmp-total =
     then_total (on_total (λ n. n.0) nat_list_cmp_total) (on_total (λ n. n.1) nat_cmp_total)
 
+-- a set of such numbers
 abbrev pub NumberedSet : Type 0
 NumberedSet = set.FinSet numbered_cmp
 

@@ -47,6 +47,7 @@ pub record IsGroupFault (sizes : List ℕ) (image : Image) (vol at : ℕ) : Type
   pub good : HasGoodAnchor sizes image anchor
   pub first : IsFirstNoGroup image anchor vol at
 
+-- the first place at which an image has no domain: a label, an anchor or a group
 abbrev pub IsFirstFault : List ℕ → Image → ℕ → ℕ → Type 0
 IsFirstFault sizes image vol at =
     IsLabelFault sizes image vol at ⊎ IsAnchorFault sizes image vol at

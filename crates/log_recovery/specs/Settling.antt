@@ -46,6 +46,7 @@ pub record HasNoGroup (disk : Disk) (anchor : Anchor) : Type 0 where
   pub stands : LogStands disk anchor []
   pub good : IsGoodNow disk anchor
 
+-- no group stands behind the anchor on any image that a stop may leave
 abbrev pub IsBehindAll : Disk → Anchor → Type 0
 IsBehindAll disk anchor = Tells disk → HasNoGroup disk anchor
 

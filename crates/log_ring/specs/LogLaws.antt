@@ -23,6 +23,8 @@ pub record LogStays (old new : Disk) (anchor : Anchor) (groups : List Group) : T
   pub now : LogStands new anchor groups
   pub any_moment : LeavesOnly old new (HasLog old.sizes anchor groups)
 
+-- a run of calls that touches neither the pages of anchors nor the ring leaves the log of each
+-- image
 abbrev pub KeepsLog : Disk → Disk → Anchor → List Group → Type 0
 KeepsLog old new anchor groups =
     Tells old → LogStands old anchor groups → Touches old new (IsElsewhere anchor)

@@ -11,6 +11,7 @@ use Rattle.disk_label.specs.declared.anchor.Anchor.{Anchor}
 abbrev pub ring_page : Anchor → ℕ → ℕ
 ring_page anchor place = anchor.log_page + place % log_pages
 
+-- the first byte of a place of the ring
 abbrev pub ring_byte : Anchor → ℕ → ℕ
 ring_byte anchor place = page_bytes * ring_page anchor place
 

@@ -49,6 +49,7 @@ pub data Steps (first : Now) : Now → Type 0 where
 abbrev pub IsAlike : Pages → Move → Type 0
 IsAlike pages move = ¬ move.phase ≡ Reserved → pages move.to ≡ pages move.from
 
+-- each of these moves whose page was copied has it at both homes
 abbrev pub AreAlike : Pages → List Move → Type 0
 AreAlike pages [] = Unit {0}
 AreAlike pages (move ∷ moves) = IsAlike pages move × AreAlike pages moves

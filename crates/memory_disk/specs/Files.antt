@@ -10,6 +10,7 @@ use Rattle.memory_disk.specs.declared.rack.FileRack.{FileRack}
 abbrev pub untold : Moment
 untold = record { contents = λ _ _. 0; unsynced = λ _ _. false }
 
+-- what a rack of files stands for: it tells only its clock, its sizes and its counts of faults
 abbrev pub file_disk : FileRack → Disk
 file_disk rack = record {
   calls = rack.calls;

@@ -14,6 +14,7 @@ use Rattle.memory_disk.specs.declared.volume.Volume.{Volume}
 abbrev pub past_of : Bool → ℕ → Moment → List KeptCall → ℕ → Moment
 past_of keeps calls first kept t = if keeps && nat_lt t calls then replayed first kept t else blank
 
+-- what a rack in memory stands for
 abbrev pub memory_disk : MemoryRack → Disk
 memory_disk rack = record {
   calls = rack.calls;

@@ -4,6 +4,7 @@ use Rattle.volume_disk.specs.Disk.{Moment}
 use Rattle.memory_disk.specs.Marks.{is_marked}
 use Rattle.memory_disk.specs.declared.volume.Volume.{Volume}
 
+-- the byte at a place of a volume
 abbrev pub byte_of : Volume → ℕ → ℕ
 byte_of volume k = slice_index volume.bytes.items k
 

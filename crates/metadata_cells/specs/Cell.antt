@@ -47,6 +47,7 @@ id_of (UserQuota id files blocks) = id
 id_of (GroupQuota id files blocks) = id
 id_of _ = 0
 
+-- the order of records in a cell: by kind, and limits of quotas by id
 abbrev pub place_of : Record → ℕ
 place_of r = 2 ^ 32 * kind_of r + id_of r
 

@@ -30,6 +30,7 @@ free_cells page = count_by (is_free_in page) (range_with_len 0 28)
 abbrev pub index_of : List ℕ → ℕ
 index_of page = number_at 4 4 page
 
+-- the next page of the table on the same volume, or 0
 abbrev pub next_of : List ℕ → ℕ
 next_of page = number_at 4 8 page
 
@@ -100,5 +101,6 @@ KeepsWellFormed old new = (home : Home) → IfSome (old home) IsCellPage
 abbrev pub header : List ℕ → ℕ × ℕ
 header page = (index_of page, next_of page)
 
+-- a change leaves the index and the next page of each page of cells
 abbrev pub KeepsHeaders : Pages → Pages → Type 0
 KeepsHeaders old new = (home : Home) → option_map header (new home) ≡ option_map header (old home)

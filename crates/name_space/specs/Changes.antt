@@ -126,9 +126,11 @@ leaf_checks kind.Directory path slot = file_here slot path ∷ not_empty slot pa
 abbrev pub taking_checks : Kind → Path → Checks
 taking_checks of path slot = target_refusal slot path ∷ leaf_checks of path slot
 
+-- what is asked of the path of a file that is to go
 abbrev pub unlink_checks : Path → Checks
 unlink_checks path slot = target_refusal slot path ∷ directory_here slot path ∷ []
 
+-- what is asked of the path of a directory that is to go
 abbrev pub rmdir_checks : Path → Checks
 rmdir_checks path slot =
     target_refusal slot path ∷ file_here slot path ∷ not_empty slot path ∷ []

@@ -69,6 +69,7 @@ pub record IsCloned (files : Bitfiles) (slot : FilesetSlot) : Type 0 where
   pub names : Names files slot
   pub valid : IsValidSlot slot
 
+-- the rows of an original make its new clone
 abbrev pub ClonesHaveNames : Type 0
 ClonesHaveNames = (files : Bitfiles) (slot : FilesetSlot) (name : Name) → IsOriginal files slot
     → IsCloned files (clone_of name slot)

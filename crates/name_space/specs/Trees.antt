@@ -69,6 +69,7 @@ IsFoundMissing files (Some path) = IsMissing files path
 abbrev pub most_paths : Option Bitfile → ℕ
 most_paths file = option_map_or (λ (f : Bitfile). f.links) file max_links
 
+-- no more paths lead to a tag than may
 pub record HasFewPaths (files : Bitfiles) (tree : Fileset) : Type 0 where
   pub few : (tag : Tag) (of : Kind) → IsReached files tag of
       → paths_to tree (number_of tag) ≤ most_paths (files tag)

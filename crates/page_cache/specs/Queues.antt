@@ -10,6 +10,7 @@ use Rattle.page_cache.specs.Entries.{Entries, clean_in, groups_in, one_for}
 abbrev pub place_at : ℕ → ℕ → ℕ
 place_at group number = group * 2 ^ 64 + number
 
+-- the place in the queue of a frame that waits for a group, and none of a clean one
 abbrev pub place_of : Option ℕ → ℕ → Option ℕ
 place_of group number = option_map (λ g. place_at g number) group
 

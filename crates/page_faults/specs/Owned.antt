@@ -19,6 +19,7 @@ abbrev pub IsIndexOf : Pages → Frame → CellAt → Home → Type 0
 IsIndexOf pages frame at home =
     (first : Home) × HasIndexAt pages frame at first × IsReached pages frame (index_way first) home
 
+-- the page is one of an index that some cell in use names
 abbrev pub IsOfIndex : Pages → Frame → Home → Type 0
 IsOfIndex pages frame home = (at : CellAt) × IsIndexOf pages frame at home
 

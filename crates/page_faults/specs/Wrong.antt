@@ -68,6 +68,7 @@ abbrev pub IsWrongBitmapOf : Pages → Frame → List Home → List FileRun → 
 IsWrongBitmapOf pages frame homes runs home vol = IsMember frame.anchor vol
     × HasWrongBitmap pages frame (λ n. IsOwnedBy frame homes runs (on vol n)) vol home
 
+-- the page is one of a member's bitmap and has a wrong bit
 abbrev pub IsWrongBitmap : Pages → Frame → List Home → List FileRun → Home → Type 0
 IsWrongBitmap pages frame homes runs home =
     (vol : ℕ) × IsWrongBitmapOf pages frame homes runs home vol

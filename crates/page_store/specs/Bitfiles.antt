@@ -24,6 +24,7 @@ pub record Bitfile : Type 0 where
 abbrev pub Bitfiles : Type 0
 Bitfiles = Tag → Option Bitfile
 
+-- two tags are one
 abbrev pub same_tag : Tag → Tag → Bool
 same_tag a b = (a.slot == b.slot) && (a.seq == b.seq)
 
@@ -53,12 +54,15 @@ with_entry at page pages = take at pages ++ page ∷ drop (at + 1) pages
 abbrev pub put_page : ℕ → List ℕ → Bitfile → Bitfile
 put_page at page file = record file { pages = with_entry at page file.pages }
 
+-- a file with an index page in place of one, or after the last
 abbrev pub put_index : ℕ → List ℕ → Bitfile → Bitfile
 put_index at page file = record file { index = with_entry at page file.index }
 
+-- a file with an index page put between others
 abbrev pub insert_index : ℕ → List ℕ → Bitfile → Bitfile
 insert_index at page file = record file { index = insert file.index at page }
 
+-- a file with another number of links
 abbrev pub linked : ℕ → Bitfile → Bitfile
 linked links file = record file { links = links }
 
@@ -66,19 +70,24 @@ linked links file = record file { links = links }
 abbrev pub kind_at : Bitfiles → Tag → Option Kind
 kind_at files tag = option_map (λ (file : Bitfile). file.kind) (files tag)
 
+-- how many links the file of a tag has, 0 if the tag names nothing
 abbrev pub links_at : Bitfiles → Tag → ℕ
 links_at files tag = option_map_or (λ (file : Bitfile). file.links) (files tag) 0
 
+-- how many pages it has as a directory
 abbrev pub count_pages : Bitfiles → Tag → ℕ
 count_pages files tag = option_map_or (λ (file : Bitfile). length file.pages) (files tag) 0
 
+-- how many pages its index has
 abbrev pub count_index : Bitfiles → Tag → ℕ
 count_index files tag = option_map_or (λ (file : Bitfile). length file.index) (files tag) 0
 
+-- its page with a number
 abbrev pub page_at : Bitfiles → Tag → ℕ → Option (List ℕ)
 page_at files tag page =
     option_and_then (λ (file : Bitfile). slice_get file.pages page) (files tag)
 
+-- the page of its index with a number
 abbrev pub index_at : Bitfiles → Tag → ℕ → Option (List ℕ)
 index_at files tag page =
     option_and_then (λ (file : Bitfile). slice_get file.index page) (files tag)
@@ -87,6 +96,7 @@ index_at files tag page =
 abbrev pub shown_index : List ℕ → List ℕ
 shown_index page = overwritten page 8 (zero_bytes 8)
 
+-- a tag names a directory
 abbrev pub IsDirectory : Bitfiles → Tag → Type 0
 IsDirectory files tag = IsSomeAnd (files tag) (λ file. file.kind ≡ Directory)
 
@@ -105,6 +115,7 @@ pub record IsBitfile (file : Bitfile) : Type 0 where
   pub no_pages : file.kind ≡ File → length file.pages ≡ 0
   pub no_index : file.kind ≡ File → length file.index ≡ 0
 
+-- all files are within their limits
 abbrev pub AreBitfiles : Bitfiles → Type 0
 AreBitfiles files = (tag : Tag) → IfSome (files tag) IsBitfile
 

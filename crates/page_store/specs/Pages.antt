@@ -8,9 +8,11 @@ use Rattle.sorted_sets.specs.domain_base.declared.place.Home.{Home}
 abbrev pub Pages : Type 0
 Pages = Home → Option (List ℕ)
 
+-- two homes are one
 abbrev pub same_home : Home → Home → Bool
 same_home a b = (a.vol == b.vol) && (a.page == b.page)
 
+-- nothing stands anywhere
 abbrev pub no_pages : Pages
 no_pages home = None
 

@@ -56,6 +56,7 @@ pub record AreNumbers (homes : List Home) (numbers : List (ℕ × Unit {0})) : T
 
 -- ** A walk
 
+-- the page that a walk comes to next
 abbrev pub next_of : PageWalk → Option Home
 next_of walk = walk.next
 

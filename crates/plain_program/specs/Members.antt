@@ -12,6 +12,7 @@ member_of line = record { pages = line.pages; is_open = not line.closed }
 abbrev pub entries_of : List VolumeItem → List (ℕ × Member)
 entries_of lines = map (λ line. (line.vol, member_of line)) lines
 
+-- the members that the lines of a member list tell of
 abbrev pub members_of : List VolumeItem → MemberMap
 members_of lines = map_of.from_sorted (entries_of lines)
 

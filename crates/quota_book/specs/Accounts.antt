@@ -38,6 +38,7 @@ no_share = record { usage = nothing; limits = record { files = 0; blocks = 0 } }
 abbrev pub account_at : Accounts → Owner → Account
 account_at accounts who = unwrap_or (find owner_cmp who accounts) (Same no_share)
 
+-- what an owner uses and may use, now or as it was kept
 abbrev pub share_at : Side → Accounts → Owner → Share
 share_at side accounts who = share_on side (account_at accounts who)
 
@@ -50,6 +51,7 @@ used_at accounts who = (share_at Now accounts who).usage
 abbrev pub uses_some : Side → Accounts → Owner → Bool
 uses_some side accounts who = not (is_nothing (share_at side accounts who).usage)
 
+-- an owner's limits bind, so that the book has an entry of them
 abbrev pub is_bound : Side → Accounts → Owner → Bool
 is_bound side accounts who = not (is_unlimited (share_at side accounts who).limits)
 
@@ -62,11 +64,13 @@ book_on side accounts = record {
       (where_key owner_cmp (is_bound side accounts) accounts));
 }
 
+-- the two books of a list of accounts, now and as they were kept
 abbrev pub books_of : Accounts → KeptBook
 books_of accounts = record { book = book_on Now accounts; kept = book_on Kept accounts }
 
 -- ** The list of owners whose accounts may have changed
 
+-- the owner is on the list of those whose two shares may differ
 abbrev pub is_listed : List Owner → Owner → Bool
 is_listed changed who = list_any (same_owner who) changed
 
@@ -75,6 +79,7 @@ abbrev pub with_owner : Bool → Owner → List Owner → List Owner
 with_owner true who changed = changed ++ who ∷ []
 with_owner false who changed = changed
 
+-- how many accounts have two equal shares
 abbrev pub count_same : Accounts → ℕ
 count_same [] = 0
 count_same (entry ∷ accounts) =

@@ -49,6 +49,7 @@ kept_book_code =
 abbrev pub used : Book → Owner → Usage
 used book who = unwrap_or (map.get book.totals who) nothing
 
+-- an owner's limits in a book, 0 and 0 if it has no entry
 abbrev pub limits_in : Book → Owner → Limits
 limits_in book who = unwrap_or (map.get book.limits who) (record { files = 0; blocks = 0 })
 
@@ -79,6 +80,7 @@ refusal_in book who files blocks =
 abbrev pub raised : ℕ → ℕ → Usage → Usage
 raised files blocks usage = record { files = usage.files + files; blocks = usage.blocks + blocks }
 
+-- what an owner uses after so many files and blocks less
 abbrev pub lowered : ℕ → ℕ → Usage → Usage
 lowered files blocks usage = record { files = usage.files - files; blocks = usage.blocks - blocks }
 
@@ -95,6 +97,7 @@ pub record FitsAll (uid gid files blocks : ℕ) (uses : Owner → Usage) : Type 
   pub group : IsBelow files blocks (uses (Group gid))
   pub all : IsBelow files blocks (uses Fileset)
 
+-- the user, the group and the fileset use at least so much
 pub record HasAll (uid gid files blocks : ℕ) (uses : Owner → Usage) : Type 0 where
   pub user : IsWithin (record { files = files; blocks = blocks }) (uses (User uid))
   pub group : IsWithin (record { files = files; blocks = blocks }) (uses (Group gid))
@@ -105,14 +108,17 @@ abbrev pub ChargesAll : ℕ → ℕ → ℕ → ℕ → (Owner → Usage) → (O
 ChargesAll uid gid files blocks old new = (who : Owner) → new who
     ≡ (if is_owned who uid gid then raised files blocks (old who) else old who)
 
+-- the user, the group and the fileset use so much less, and no other owner does
 abbrev pub RefundsAll : ℕ → ℕ → ℕ → ℕ → (Owner → Usage) → (Owner → Usage) → Type 0
 RefundsAll uid gid files blocks old new = (who : Owner) → new who
     ≡ (if is_owned who uid gid then lowered files blocks (old who) else old who)
 
+-- the book after a charge: its limits stay
 pub record Charges (uid gid files blocks : ℕ) (old new : Book) : Type 0 where
   pub totals : ChargesAll uid gid files blocks (used old) (used new)
   pub limits : new.limits ≡ old.limits
 
+-- the book after a refund: its limits stay
 pub record Refunds (uid gid files blocks : ℕ) (old new : Book) : Type 0 where
   pub totals : RefundsAll uid gid files blocks (used old) (used new)
   pub limits : new.limits ≡ old.limits

@@ -5,6 +5,7 @@ use Rattle.fileset_model.specs.fileset_values.Orders.{owner_cmp}
 use Rattle.fileset_model.specs.fileset_values.declared.command.Owner.{Owner}
 use Rattle.fileset_model.specs.declared.fileset.Usage.{Usage}
 
+-- what owners use who use nothing
 abbrev pub nothing : Usage
 nothing = record { files = 0; blocks = 0 }
 

@@ -42,9 +42,11 @@ AreOnce said = IsDistinct (λ (a b : Owner × Limits). same_owner a.0 b.0) said
 abbrev pub Seen : Type 0
 Seen = List (Owner × Unit {0})
 
+-- something was said of an owner so far
 abbrev pub was_seen : Seen → Owner → Bool
 was_seen seen who = is_some (find owner_cmp who seen)
 
+-- an owner is noted, or was noted before
 abbrev pub Notes : Owner → Seen → Seen → Bool → Type 0
 Notes who old new true = (was_seen old who ≡ false)
     × ((other : Owner) → was_seen new other ≡ (same_owner other who || was_seen old other))
@@ -67,6 +69,7 @@ abbrev pub limits_after : Option (Owner × Limits) → Owner → Limits → Limi
 limits_after said who before =
     option_map_or (λ (e : Owner × Limits). if same_owner who e.0 then e.1 else before) said before
 
+-- a book that takes the limits of one record, and no entry of limits that bind nothing
 pub record TakesLimits (said : Option (Owner × Limits)) (old new : Book) : Type 0 where
   pub totals : new.totals ≡ old.totals
   pub limits : (who : Owner) → limits_in new who ≡ limits_after said who (limits_in old who)
@@ -78,6 +81,7 @@ pub record TakesLimits (said : Option (Owner × Limits)) (old new : Book) : Type
 abbrev pub is_said : Owner → Said → Bool
 is_said who cell = is_some (find owner_cmp who cell)
 
+-- a cell has room for one more record of limits, of nine
 abbrev pub has_room : Said → Bool
 has_room cell = nat_lt (length cell) 9
 

@@ -37,6 +37,7 @@ pub record ChangesNode (number : ℕ) (was is : Option Node) (old new : Fileset)
 abbrev pub files_for : Owner → Option Node → ℕ
 files_for who node = option_map_or (λ n. if is_owners who n then 1 else 0) node 0
 
+-- the blocks that a node counts for an owner
 abbrev pub blocks_for : Owner → Option Node → ℕ
 blocks_for who node = option_map_or (λ n. if is_owners who n then blocks_of n else 0) node 0
 

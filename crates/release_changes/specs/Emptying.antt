@@ -148,6 +148,7 @@ FreesQuotaCell number old new = (at : CellAt) × HasQuotaCells old number at × 
     → BeginsQuotas old at files
     → IsSomeAnd (files at) (λ chain. FreesOneOf chain old.cells new.cells))
 
+-- the slot has become free
 abbrev pub IsFreeSlot : ℕ → DomainMemory → Type 0
 IsFreeSlot number memory = slice_get memory.table.slots number ≡ Some slot.Free
 

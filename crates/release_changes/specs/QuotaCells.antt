@@ -27,6 +27,7 @@ abbrev pub LeadsOn : DomainMemory → CellAt → CellAt → Type 0
 LeadsOn memory at next = (cell : Cell) → StandsAt (pages_of memory.pages) at cell
     → Some next ≡ cell.head.next
 
+-- the quota cell leads to none
 abbrev pub LeadsNowhere : DomainMemory → CellAt → Type 0
 LeadsNowhere memory at = (cell : Cell) → StandsAt (pages_of memory.pages) at cell
     → None ≡ cell.head.next

@@ -23,6 +23,7 @@ abbrev pub leftover_in : Record → Option Leftover
 leftover_in (written.Pending what) = Some what
 leftover_in _ = None
 
+-- what the first cell of a file says is left to be done
 abbrev pub left_of : List PlacedCell → Option Leftover
 left_of cells = option_and_then leftover_in (first_record 6 cells)
 
@@ -32,6 +33,7 @@ from_by (Some Trim) cells = unwrap_or (keep_of cells) 65536
 from_by (Some Remove) cells = 0
 from_by None cells = 0
 
+-- from which page on the pages of a file go, by what is left to be done
 abbrev pub stale_from : List PlacedCell → ℕ
 stale_from cells = from_by (left_of cells) cells
 

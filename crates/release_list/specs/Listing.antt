@@ -41,6 +41,7 @@ pub record AddsEntry (at : CellAt) (clone : Option CellAt) (place : ℕ) (old ne
     pub behind : place ≡ length old
     pub is : new ≡ old ++ record { at = at; clone = clone } ∷ []
 
+-- an entry has the file: one that had it, or a new one after all others
 abbrev pub Puts : CellAt → Option CellAt → ℕ → List Entry → List Entry → Type 0
 Puts at clone place old new = SetsEntry at clone place old new ⊎ AddsEntry at clone place old new
 

@@ -46,6 +46,7 @@ source_in (written.CloneFile vol cell page frozen) = if vol == 0 then None
     else Some (record { at = record { vol = vol; page = page; cell = cell }; frozen = frozen })
 source_in _ = None
 
+-- the file through which a clone's file reads, and how many pages were frozen for it
 abbrev pub source_of : List PlacedCell → Option Source
 source_of cells = option_and_then source_in (first_record 2 cells)
 
@@ -63,6 +64,7 @@ read_of files None cells page = read_home 0 (places_of cells) (λ _. Absent) pag
 read_of files (Some source) cells page =
     read_home source.frozen (places_of cells) (place_in files source.at) page
 
+-- at which home a page of a file is read
 abbrev pub read_at : Files → CellAt → ℕ → Option Home
 read_at files at page =
     option_and_then (λ cells. read_of files (source_of cells) cells page) (files at)
@@ -77,6 +79,7 @@ pub record AreQuotas (pages : Pages) (first : PlacedCell) (rest : List PlacedCel
   pub links : AreLinked pages first rest
   pub cells : AllByRecursion (λ (c : PlacedCell). IsQuotaCell c.cell) (first ∷ rest)
 
+-- a chain of quota cells, whose records are limits of users and groups alone
 abbrev pub IsQuotas : Pages → CellAt → List PlacedCell → Type 0
 IsQuotas pages at [] = ⊥
 IsQuotas pages at (first ∷ rest) = (first.at ≡ at) × AreQuotas pages first rest

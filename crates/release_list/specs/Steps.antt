@@ -272,10 +272,13 @@ abbrev pub pages_beside : Option CellAt → ℕ
 pages_beside None = 2
 pages_beside (Some clone) = 5
 
+-- how many pages of metadata a step of this entry changes at most: two, or five if a page may be
+-- handed to a clone
 abbrev pub pages_of_entry : Option Entry → ℕ
 pages_of_entry None = 2
 pages_of_entry (Some entry) = pages_beside entry.clone
 
+-- how many pages of metadata the next step of a list changes at most
 abbrev pub step_pages : Listing → ℕ
 step_pages list = pages_of_entry (slice_get list.entries (length list.entries - 1))
 

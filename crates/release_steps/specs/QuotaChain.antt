@@ -27,6 +27,7 @@ record_for (owner.User id) limits = Some (UserQuota id limits.files limits.block
 record_for (owner.Group id) limits = Some (GroupQuota id limits.files limits.blocks)
 record_for owner.Fileset limits = None
 
+-- the records of a cell that says these limits
 abbrev pub records_for : Said → List Record
 records_for said = filter_map (λ (e : Owner × Limits). record_for e.0 e.1) said
 
@@ -41,6 +42,7 @@ pub record ReadCell : Type 0 where
   pub head : CellHead
   pub said : Said
 
+-- what is read of a quota cell
 abbrev pub read_of : PlacedCell → ReadCell
 read_of c = record { at = c.at; head = c.cell.head; said = said_by c.cell.records }
 
@@ -48,6 +50,7 @@ read_of c = record { at = c.at; head = c.cell.head; said = said_by c.cell.record
 abbrev pub there_of : QuotaCell → ReadCell
 there_of c = record { at = c.at; head = c.head; said = c.said.items }
 
+-- what a quota cell in memory says
 abbrev pub says_of : QuotaCell → Said
 says_of c = c.said.items
 
@@ -76,6 +79,7 @@ with_limits who limits cells =
 abbrev pub filesets_in : List PlacedCell → List (Option ℕ)
 filesets_in chain = map (λ (c : PlacedCell). c.cell.head.fileset) chain
 
+-- the fileset that each cell says, with that of one more if a cell was added
 abbrev pub with_fileset : ℕ → Option ℕ → List (Option ℕ) → List (Option ℕ)
 with_fileset fileset (Some k) filesets = filesets
 with_fileset fileset None filesets = filesets ++ Some fileset ∷ []

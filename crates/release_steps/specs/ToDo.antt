@@ -10,6 +10,7 @@ use Rattle.release_list.specs.Listed.{stale_from}
 use Rattle.release_list.specs.Standing.{Files}
 use Rattle.release_list.specs.Steps.{Now}
 
+-- a page that has a home or is kept as a hole
 abbrev pub is_there : PagePlace → Bool
 is_there (At home) = true
 is_there Hole = true

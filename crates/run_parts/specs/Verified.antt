@@ -24,6 +24,7 @@ use Rattle.run_parts.specs.declared.status.Status.TheVariants as status
 abbrev pub first_code : ℕ → ℕ
 first_code at = if at == 0 then 1 else if at == 1 then 2 else 3
 
+-- the one fault of an image that has no domain from a page on
 abbrev pub first_row : ℕ → ℕ → FaultRow
 first_row vol at = record { code = first_code at; home = record { vol = vol; page = at } }
 
@@ -48,6 +49,7 @@ abbrev pub fault_line : FaultRow → List ℕ
 fault_line row = codes "fault " ++ decimal row.home.vol ++ 32 ∷ decimal row.home.page ++ 32
     ∷ decimal row.code ++ 10 ∷ []
 
+-- the lines of a list of faults
 abbrev pub faults_text : List FaultRow → List ℕ
 faults_text rows = flat_map fault_line rows
 

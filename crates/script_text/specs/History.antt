@@ -99,6 +99,7 @@ refusal_fields (refusal.Panicked vol) = field_text (codes "vol") vol ∷ []
 refusal_fields (refusal.Unsettled moved) = field_text (codes "moved") moved ∷ []
 refusal_fields _ = []
 
+-- `E` with the number of the refusal, its name, and its numbers by their names
 unfoldable pub refusal_text : Refusal → List ℕ
 refusal_text r =
     codes "E" ++ decimal (refusal_number r) ++ codes " " ++ refusal_name r
@@ -157,6 +158,7 @@ reply_words (reply.Volumes volumes) = map volume_item_text volumes
 reply_words (reply.Extents extents) = map extent_item_text extents
 reply_words (reply.Refused r) = []
 
+-- the text of a refusal, or `ok` and the words of the answer
 unfoldable pub reply_text : Reply → List ℕ
 reply_text (reply.Refused r) = refusal_text r
 reply_text answer = codes "ok" ++ behind_spaces (reply_words answer)

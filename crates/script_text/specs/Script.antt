@@ -49,6 +49,7 @@ abbrev pub statement_after : Keyword → List (List ℕ) → Option Statement
 statement_after keyword.Client words = option_map Opens (one_word (number_within 1 8) words)
 statement_after (keyword.Command verb) words = option_map Gives (command_of verb words)
 
+-- what the words of a line say
 abbrev pub statement_of : List (List ℕ) → Option Statement
 statement_of [] = None
 statement_of (word ∷ words) = keyword_of word >>= λ k. statement_after k words
@@ -77,6 +78,7 @@ sections_of (Opens n ∷ statements) = record {
 } ∷ sections_of statements
 sections_of (Gives command ∷ statements) = sections_of statements
 
+-- the sections that some lines say
 abbrev pub sections_in : List (List ℕ) → List Section
 sections_in lines_so_far = sections_of (filter_map statement_of_line lines_so_far)
 

@@ -10,6 +10,7 @@ use Rattle.script_text.specs.declared.script.Section.{Section}
 abbrev pub Turn : Type 0
 Turn = Actor × Command
 
+-- who gives the command of an entry, and the command
 abbrev pub turn_of : Entry → Turn
 turn_of e = (e.actor, e.command)
 

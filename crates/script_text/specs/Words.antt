@@ -35,5 +35,7 @@ words_from Within (b ∷ bs) = if is_blank b then [] ∷ words_from Between bs
 words_from Quoted (b ∷ bs) = onto_first b
     (if is_quote b then words_from Within bs else words_from Quoted bs)
 
+-- the words of a line, separated by spaces and tabs; a word that begins with a quote goes on to the
+-- next quote
 abbrev pub words_of : List ℕ → List (List ℕ)
 words_of line = words_from Between line

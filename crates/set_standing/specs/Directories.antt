@@ -17,6 +17,7 @@ pub record StandsIn (tree : Fileset) (number dir : ℕ) : Type 0 where
   pub outer : get tree.paths path ≡ Some dir
   pub inner : get tree.paths (path ++ name ∷ []) ≡ Some number
 
+-- a number is that of a directory
 abbrev pub IsDirectoryOf : Fileset → ℕ → Type 0
 IsDirectoryOf tree number = IsSomeAnd (get tree.nodes number) (λ node. is_directory node ≡ true)
 

@@ -42,10 +42,12 @@ HasWholeSource pages at = (cells : List PlacedCell) → LinksFrom pages at cells
 abbrev pub IsOfOriginal : Pages → CellAt → List PlacedCell → SeenFile → Type 0
 IsOfOriginal pages at cells seen = LinksFrom pages at cells × (seen_in cells ≡ Some seen)
 
+-- the file of cells that begin there, as a clone has it whose own they are
 abbrev pub IsOfClone : Pages → CellAt → List PlacedCell → SeenFile → Type 0
 IsOfClone pages at cells seen =
     LinksFrom pages at cells × (is_removed cells ≡ false) × IsOwn pages cells seen
 
+-- the file of cells that begin there, as a clone has it through its original
 abbrev pub IsThrough : Pages → ℕ → CellAt → List PlacedCell → SeenFile → Type 0
 IsThrough pages number at cells seen =
     LinksFrom pages at cells × (seen_through number cells ≡ Some seen)
@@ -88,6 +90,7 @@ pub record IsReadAt (pages : Pages) (frame : Frame) (tag : Tag) (at : CellAt) (i
 abbrev pub kept_homes : ℕ → List PlacedCell → ℕ → Option Home
 kept_homes keep cells page = home_at (places_before keep (places_of cells) page)
 
+-- the homes at which a clone's own file is read, with its source
 abbrev pub own_homes : Places → List PlacedCell → ℕ → Option Home
 own_homes source cells page = read_home (frozen_of cells) (places_of cells) source page
 
@@ -111,10 +114,12 @@ abbrev pub IsInOriginal : Pages → List TagPlace → Tag → List PlacedCell �
 IsInOriginal pages places tag cells seen =
     IsSomeAnd (cell_of pages places tag) (λ at. IsOfOriginal pages at cells seen)
 
+-- what the original of a clone has at a tag, as the clone has it
 abbrev pub IsBehind : Pages → List TagPlace → ℕ → Tag → List PlacedCell → SeenFile → Type 0
 IsBehind pages behind number tag cells seen =
     IsSomeAnd (cell_of pages behind tag) (λ at. IsThrough pages number at cells seen)
 
+-- what a clone has at a tag: a file of its own, or the original's
 abbrev pub IsInClone : Pages → List TagPlace → List TagPlace → ℕ → Tag → List PlacedCell → SeenFile
     → Type 0
 IsInClone pages own behind number tag cells seen =
@@ -128,6 +133,7 @@ abbrev pub HasOriginalAt : Table → ℕ → Type 0
 HasOriginalAt table number =
     (entry : FilesetEntry) × (slice_get table.slots number ≡ Some (slot.Original entry))
 
+-- a table has a clone with this number in a slot, of the original in another
 abbrev pub HasCloneAt : Table → ℕ → ℕ → ℕ → Type 0
 HasCloneAt table number of clone =
     (entry : FilesetEntry) × (slice_get table.slots number ≡ Some (slot.Clone of clone entry))

@@ -26,6 +26,7 @@ said_by (written.DirIndex vol page entries) =
     Some (record { first = record { vol = vol; page = page }; total = entries })
 said_by _ = None
 
+-- the index that the first of some cells names
 abbrev pub said_of : List PlacedCell → Option SaidIndex
 said_of cells = option_and_then said_by (first_record 9 cells)
 

@@ -19,15 +19,18 @@ use Rattle.slot_files.specs.declared.said.SaidRun.{SaidRun}
 abbrev pub home_there : SaidHome → Home
 home_there home = record { vol = home.vol; page = home.page }
 
+-- a place that a record says, as the definitions of files have it
 abbrev pub place_there : SaidPlace → PagePlace
 place_there (said.At home) = At (home_there home)
 place_there said.Hole = Hole
 place_there said.Absent = Absent
 
+-- the first page of a run that a record says
 abbrev pub first_there : SaidFirst → RunPlace
 first_there (first.At vol page) = place.At (record { vol = vol; page = page })
 first_there first.Holes = place.Holes
 
+-- a run that a record says
 abbrev pub run_there : SaidRun → Run
 run_there run =
     record { page = run.page; count = run.count; first = first_there run.first }
@@ -35,6 +38,7 @@ run_there run =
 abbrev pub runs_there : List SaidRun → List Run
 runs_there runs = map run_there runs
 
+-- a home that a record says, or none
 abbrev pub home_said : Option SaidHome → Option Home
 home_said home = option_map home_there home
 

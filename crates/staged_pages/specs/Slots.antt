@@ -29,10 +29,12 @@ stays Added = false
 stays Forgotten = false
 stays Passed = false
 
+-- what stands at the home of a slot now
 abbrev pub page_now : Slot → Option (List ℕ)
 page_now Vacant = None
 page_now (Taken page other change) = after change page
 
+-- what stood there when pages were last kept
 abbrev pub page_before : Slot → Option (List ℕ)
 page_before Vacant = None
 page_before (Taken page other change) = before change page other

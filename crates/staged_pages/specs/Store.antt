@@ -14,9 +14,11 @@ use Rattle.staged_pages.specs.declared.slot.Slot.TheVariants.{Taken, Vacant}
 use Rattle.staged_pages.specs.Slots.{AreWhole, after, page_before, page_now}
 use Rattle.staged_pages.specs.Staged.{AreSlots, pages_in}
 
+-- what a store has at each home, with the change
 abbrev pub pages_of : StagedPages → Pages
 pages_of store = pages_in page_now store.entries.items
 
+-- what it had there before the change that is not kept yet
 abbrev pub before_of : StagedPages → Pages
 before_of store = pages_in page_before store.entries.items
 

@@ -43,6 +43,7 @@ shape_limited who limits shape = record shape {
   limits = λ other. if same_owner other who then limits else shape.limits other;
 }
 
+-- a fileset with these limits of an owner
 abbrev pub fileset_limited : Owner → Limits → FilesetSlot → FilesetSlot
 fileset_limited who limits fileset = record fileset {
   tree = record fileset.tree { limits = with_limits fileset.tree.limits who limits };

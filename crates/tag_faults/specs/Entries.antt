@@ -16,6 +16,7 @@ use Rattle.tag_faults.specs.declared.named.NamedCell.{NamedCell}
 abbrev pub tag_of : NamedCell → Tag
 tag_of entry = record { slot = entry.slot; seq = entry.seq }
 
+-- the address to which an entry leads, whatever that is
 abbrev pub address_of : NamedCell → CellAt
 address_of entry = record { vol = entry.vol; page = entry.page; cell = entry.cell }
 
@@ -47,10 +48,12 @@ abbrev pub IsEntryOf : List ℕ → ℕ → Home → NamedCell → Type 0
 IsEntryOf page number home one =
     (entry : ℕ) × (entry < 1022) × IsEntryAt page number home one entry
 
+-- a used entry of the page at a home
 abbrev pub IsEntryThere : Pages → ℕ → NamedCell → Home → Type 0
 IsEntryThere pages number one home =
     (page : List ℕ) × (pages home ≡ Some page) × IsEntryOf page number home one
 
+-- a used entry of one of these pages
 abbrev pub IsEntryAmong : Pages → ℕ → List Home → NamedCell → Type 0
 IsEntryAmong pages number homes one =
     (home : Home) × Contains homes home × IsEntryThere pages number one home

@@ -67,6 +67,7 @@ is_fileset_character b = is_ascii_alphanumeric b || b == 95 || b == 45 || b == 4
 abbrev pub is_fileset_name : List ℕ → Bool
 is_fileset_name name = has_length 1 31 name && list_all is_fileset_character name
 
+-- the name of a fileset that a word says, if it is of the form
 unfoldable pub fileset_of : List ℕ → Option (List ℕ)
 fileset_of word = passing (is_fileset_name word) word
 
@@ -135,6 +136,7 @@ named_path_of word = do
   path ← path_of word
   passing (not (length path == 0)) path
 
+-- a place with at least one name
 unfoldable pub named_place_of : List ℕ → Option Place
 named_place_of word = do
   place ← place_of word

@@ -17,6 +17,7 @@ behind_spaces words = flat_map (λ word. 32 ∷ word) words
 abbrev pub name_byte_text : ℕ → List ℕ
 name_byte_text b = if stands_for_itself b then b ∷ [] else codes "%" ++ hexadecimal b
 
+-- a name as it is written: bytes that may not stand for themselves as `%` and two digits
 unfoldable pub name_text : List ℕ → List ℕ
 name_text name = flat_map name_byte_text name
 
@@ -25,5 +26,6 @@ unfoldable pub path_text : List (List ℕ) → List ℕ
 path_text [] = codes "/"
 path_text (name ∷ names) = flat_map (λ n. codes "/" ++ name_text n) (name ∷ names)
 
+-- the name of the fileset, a colon and the path
 abbrev pub place_text : Place → List ℕ
 place_text place = place.fileset ++ codes ":" ++ path_text place.path
