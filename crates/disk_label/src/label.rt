@@ -19,6 +19,7 @@ ghost use Rattle.volume_disk.specs.domain_base.Version.{most_pages};
 ghost use Rattle.volume_disk.specs.Disk.{HasVolume, Tells, volume_pages};
 ghost use Rattle.volume_disk.specs.Image.{IsIn};
 ghost use Rattle.volume_disk.specs.Run.{
+  IsAtMost,
   NamesReadFault,
   NamesWriteFault,
   OnlyReads,
@@ -77,6 +78,7 @@ pub fn write_label<R: Rack>(
     ensures label { let old = R.disk rack.old in let new = R.disk rack.new in
         let at = PAGE_BYTES * label_page in
         OnOk result (Tells old → Settles vol at (label_bytes vol pages version) old.now new.now) }
+    ensures few { IsAtMost 2 (R.disk rack.old) (R.disk rack.new) }
     ensures fault { NamesWriteFault (R.disk rack.old) (R.disk rack.new) result }
 {
     let mut page = [0; PAGE_BYTES];

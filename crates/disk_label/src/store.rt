@@ -19,6 +19,7 @@ ghost use Rattle.volume_disk.specs.domain_base.Gate.{closed, opened};
 ghost use Rattle.volume_disk.specs.Disk.{HasVolume, Tells, volume_pages};
 ghost use Rattle.volume_disk.specs.Gate.{IsOpenAt};
 ghost use Rattle.volume_disk.specs.Run.{
+  IsAtMost,
   IsLaterBy,
   NamesReadFault,
   NamesWriteFault,
@@ -74,6 +75,7 @@ fn is_slot_open<R: Rack>(rack: &mut R, vol: VolIx, slot: u8) -> Result<bool, Vol
     ensures reads { OnlyReads (R.disk rack.old) (R.disk rack.new) }
     ensures gate { let old = R.disk rack.old in IfOk result (λ found. Tells old
         → (IsTrue found ↔ IsOpenAt old.now.contents vol (gate_byte slot))) }
+    ensures few { IsAtMost 1 (R.disk rack.old) (R.disk rack.new) }
     ensures fault { NamesReadFault (R.disk rack.old) (R.disk rack.new) result }
 {
     read_gate(rack, vol, gate_block(slot))
@@ -88,6 +90,7 @@ fn close_slot<R: Rack>(rack: &mut R, vol: VolIx, slot: u8) -> Result<(), VolIx>
     ensures settled { let old = R.disk rack.old in let new = R.disk rack.new in
         OnOk result (Tells old → Settles vol (gate_byte slot) closed old.now new.now) }
     ensures later { OnOk result (IsLaterBy 2 (R.disk rack.old) (R.disk rack.new)) }
+    ensures few { IsAtMost 2 (R.disk rack.old) (R.disk rack.new) }
     ensures fault { NamesWriteFault (R.disk rack.old) (R.disk rack.new) result }
 {
     close_gate(rack, vol, gate_block(slot))
@@ -102,6 +105,7 @@ fn open_slot<R: Rack>(rack: &mut R, vol: VolIx, slot: u8) -> Result<(), VolIx>
     ensures settled { let old = R.disk rack.old in let new = R.disk rack.new in
         OnOk result (Tells old → Settles vol (gate_byte slot) opened old.now new.now) }
     ensures later { OnOk result (IsLaterBy 2 (R.disk rack.old) (R.disk rack.new)) }
+    ensures few { IsAtMost 2 (R.disk rack.old) (R.disk rack.new) }
     ensures fault { NamesWriteFault (R.disk rack.old) (R.disk rack.new) result }
 {
     open_gate(rack, vol, gate_block(slot))
@@ -122,6 +126,7 @@ fn write_body<R: Rack>(
         let at = gate_byte slot + BLOCK_BYTES in
         OnOk result (Tells old → Settles vol at body.now old.now new.now) }
     ensures later { OnOk result (IsLaterBy 2 (R.disk rack.old) (R.disk rack.new)) }
+    ensures few { IsAtMost 2 (R.disk rack.old) (R.disk rack.new) }
     ensures fault { NamesWriteFault (R.disk rack.old) (R.disk rack.new) result }
 {
     write_synced(rack, vol, gate_block(slot) + 1, body)
@@ -241,6 +246,7 @@ pub fn ready_slot<R: Rack>(rack: &mut R, vol: VolIx, slot: u8) -> Result<(), Slo
     ensures ready { OnOk result (HasReadied (R.disk rack.old) (R.disk rack.new) vol slot) }
     ensures synced { OnOk result (StaysSynced (R.disk rack.old) (R.disk rack.new)) }
     ensures passed { OnOk result (HasPassed (R.disk rack.old) (R.disk rack.new)) }
+    ensures few { IsAtMost 3 (R.disk rack.old) (R.disk rack.new) }
     ensures fault { IfErr result (HasSlotCause (R.disk rack.old) (R.disk rack.new)) }
 {
     match is_slot_open(rack, vol, slot) {
@@ -263,6 +269,7 @@ pub fn close_gates<R: Rack>(rack: &mut R, vol: VolIx) -> Result<(), VolIx>
     requires pages { 2 ≤ volume_pages (R.disk rack.old).sizes vol }
     ensures writes { OnlyWrites (R.disk rack.old) (R.disk rack.new) (IsGateOf vol) }
     ensures none { OnOk result (Tells (R.disk rack.old) → HasNoAnchorOn (R.disk rack.new) vol) }
+    ensures few { IsAtMost 4 (R.disk rack.old) (R.disk rack.new) }
     ensures fault { NamesWriteFault (R.disk rack.old) (R.disk rack.new) result }
 {
     close_slot(rack, vol, 0)?;
@@ -288,6 +295,7 @@ pub fn write_anchor<R: Rack>(rack: &mut R, anchor: &Anchor) -> Result<(), VolIx>
     ensures writes { WritesAnchor (R.disk rack.old) (R.disk rack.new) anchor.now }
     ensures done { OnOk result (HasWritten (R.disk rack.old) (R.disk rack.new) anchor.now) }
     ensures later { OnOk result (IsLaterBy 6 (R.disk rack.old) (R.disk rack.new)) }
+    ensures few { IsAtMost 6 (R.disk rack.old) (R.disk rack.new) }
     ensures fault { NamesWriteFault (R.disk rack.old) (R.disk rack.new) result }
 {
     let Some(vol) = VolIx::new(anchor.log_vol) else {

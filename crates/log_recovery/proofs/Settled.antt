@@ -1,6 +1,9 @@
 -- A log that was recovered is settled.
-use Rattle.std.proofs.Common.{◌≡◌, ℕ, ◌-◌, ◌≤◌, List, Some, refl, sym, ◌∙◌, subst, arith}
-use Rattle.log_ring.specs.volume_disk.Disk.{Disk, HasVolume, IsSettled, MayLeave, Tells, volume_pages}
+use Rattle.std.proofs.Common.{◌≡◌, ◌==◌, ℕ, ◌-◌, ◌<◌, ◌≤◌, true, false, List, Some, refl, sym, ◌∙◌, ap, subst, inl, inr, ⊎_elim, arith}
+use Rattle.std.proofs.lemmas.Bool.{cases_Bool, cases_eq}
+use Rattle.std.specs.List.{list_any}
+use Rattle.log_ring.specs.domain_base.declared.place.Home.{Home}
+use Rattle.log_ring.specs.volume_disk.Disk.{Disk, HasVolume, IsSettled, MayLeave, Moment, Tells, volume_pages}
 use Rattle.log_ring.specs.volume_disk.Image.{AreBytes, Places}
 use Rattle.log_ring.specs.volume_disk.Run.{OnlyReads, Touches}
 use Rattle.log_ring.proofs.OfVolumeDisk.Laws.{leaves-now, touches-then, touches-wider}
@@ -8,7 +11,11 @@ use Rattle.log_ring.specs.disk_label.Anchor.{IsAnchor}
 use Rattle.log_ring.specs.disk_label.Slot.{HasReadied, ReadiesSlot, StaysSynced}
 use Rattle.log_ring.specs.disk_label.declared.anchor.Anchor.{Anchor}
 use Rattle.log_ring.specs.Groups.{Group}
-use Rattle.log_ring.specs.Settling.{BringsHome, HasBroughtHome}
+use Rattle.log_ring.specs.Homes.{IsLoggable}
+use Rattle.log_ring.specs.Settling.{BringsHome, HasBroughtHome, HasHome, IsAtHomes}
+use Rattle.log_ring.specs.declared.image.PageImage.{PageImage}
+use Rattle.log_ring.proofs.HomePages.{each_home}
+use Rattle.log_ring.proofs.Syncing.{elsewhere, home_on}
 use Rattle.log_recovery.specs.Laws.{IsReadyToSettle}
 use Rattle.log_recovery.specs.Outcome.{HasGoodAnchor, HasRecovered, IsSound}
 use Rattle.log_recovery.specs.Readable.{IsReadable, SettlesReadably}
@@ -16,7 +23,7 @@ use Rattle.log_recovery.specs.Settled.{settled_anchor}
 use Rattle.log_recovery.specs.declared.redone.Redone.{Redone}
 use Rattle.log_recovery.proofs.Readied.{readies_to_settle}
 use Rattle.log_recovery.proofs.SettledAnchors.{settles_as_moves}
-use Rattle.log_recovery.specs.Settling.{Anywhere, HasNoGroup, StandsAtHome, StaysRead}
+use Rattle.log_recovery.specs.Settling.{Anywhere, HasNoGroup, IsNextReady, StandsAtHome, StaysRead}
 use Rattle.log_recovery.proofs.Meanings.{good_is, log_settled, only_read, pages_home, slot_readied}
 
 -- what was told at the end was told at the start
@@ -79,6 +86,40 @@ module _ (d0 d1 : Disk) (redone : Redone) (sound : IsSound d0.sizes redone) (rea
 
       pub settled_home : HasBroughtHome d2 d3 redone.images (settled_anchor redone) → StandsAtHome d0 d3
       settled_home done told pages was = pages_home d0 (settled told) told pages was d1 reads redone (recovered told).0 (recovered told).1 d2 slot_readies (ready_then told) d3 brings readable done
+
+    -- the anchor after it finds its slot ready
+    pub next_slot_ready : (d3 : Disk) (next : Anchor) → HasBroughtHome d2 d3 redone.images (settled_anchor redone) → next ≡ settled_anchor redone → Tells d0 → IsNextReady d3 next
+    next_slot_ready d3 next done is_next told = subst (IsNextReady d3) (sym is_next) after
+      where
+        told-2 : Tells d2
+        told-2 = readies.touches.told ∙ reads.touches.told ∙ told
+
+        after : IsNextReady d3 (settled_anchor redone)
+        after later follows same = done.next_ready told-2 redone.anchor later (to_settle told-2).1.may_settle.ready refl follows same
+
+    -- nothing is pending: what was written was synced, and nothing else
+    pub all_synced : (d3 : Disk) → BringsHome d2 d3 redone.images (settled_anchor redone) → HasBroughtHome d2 d3 redone.images (settled_anchor redone) → Tells d0 → IsSettled d3.now
+    all_synced d3 brings done told v k = elim (cases_eq v redone.anchor.log_vol) [
+      | inl is ↦ ap (λ (w : ℕ). d3.now.unsynced w k) is ∙ done.anchor_synced told-2 k
+      | inr other ↦ elim (cases_Bool (list_any (λ (image : PageImage). image.home.vol == v) redone.images)) [
+        | inl some ↦ at_home some
+        | inr none ↦ brings.writes.touches.synced told-2 v k (λ at. ⊎_elim (λ (home : IsAtHomes redone.images v k). elsewhere redone.images v home.0 none home.1 (sym home.2.0)) (λ slot. other slot.0) at) (was v k)
+      ]
+    ]
+      where
+        told-2 : Tells d2
+        told-2 = readies.touches.told ∙ reads.touches.told ∙ told
+
+        was : (v k : ℕ) → d2.now.unsynced v k ≡ false
+        was v k = synced (reads.touches.told ∙ told) v k (ap (λ (m : Moment). m.unsynced v k) (reads.now told) ∙ settled told v k)
+
+        at_home : list_any (λ (image : PageImage). image.home.vol == v) redone.images ≡ true → d3.now.unsynced v k ≡ false
+        at_home some =
+            let home = home_on redone.images v some in
+            ap (λ (w : ℕ). d3.now.unsynced w k) (sym home.2) ∙ done.synced told-2 home.0 home.1 (few home.0 home.1) k
+
+        few : (home : Home) → HasHome redone.images home → home.vol < 9
+        few home has = let is : IsLoggable redone.anchor home = each_home (IsLoggable redone.anchor) redone.images home sound.loggable has in let last = is.last_volume in omega arith
 
     sizes-2 : d2.sizes ≡ d0.sizes
     sizes-2 = readies.touches.sizes ∙ reads.touches.sizes

@@ -1,12 +1,14 @@
 -- What a log leaves that is settled.
-use Rattle.std.specs.Prelude.{◌≡◌, ◌≢◌, ℕ, List, []}
+use Rattle.std.specs.Prelude.{◌≡◌, ◌≢◌, ℕ, List, [], Some}
 use Rattle.log_ring.specs.domain_base.declared.place.Home.{Home}
 use Rattle.log_ring.specs.page_store.Pages.{Pages}
 use Rattle.log_ring.specs.volume_disk.Disk.{Disk, MayLeave, Tells, raised_at}
 use Rattle.log_ring.specs.volume_disk.Image.{Image, Places}
 use Rattle.log_ring.specs.volume_disk.Run.{LeavesOnly}
+use Rattle.log_ring.specs.disk_label.Anchor.{IsNext}
 use Rattle.log_ring.specs.disk_label.Fault.{HasSlotCause}
 use Rattle.log_ring.specs.disk_label.FirstPages.{anchors_page}
+use Rattle.log_ring.specs.disk_label.Slot.{IsReadyFor}
 use Rattle.log_ring.specs.disk_label.declared.anchor.Anchor.{Anchor}
 use Rattle.log_ring.specs.Groups.{Group, HasLog, LogStands, pages_in, redone}
 use Rattle.log_recovery.specs.Outcome.{HasGoodAnchor}
@@ -49,6 +51,12 @@ pub record HasNoGroup (disk : Disk) (anchor : Anchor) : Type 0 where
 -- no group stands behind the anchor on any image that a stop may leave
 abbrev pub IsBehindAll : Disk → Anchor → Type 0
 IsBehindAll disk anchor = Tells disk → HasNoGroup disk anchor
+
+-- the anchor after this one finds its slot ready, on the same volume
+abbrev pub IsNextReady : Disk → Anchor → Type 0
+IsNextReady disk anchor =
+    (later : Anchor) → IsNext (Some anchor) later → later.log_vol ≡ anchor.log_vol
+    → IsReadyFor disk (Some anchor) later
 
 -- a log was not settled: it has no numbers left, or which call has failed
 abbrev pub HasCause : Disk → Disk → Redone → SettleFault → Type 0

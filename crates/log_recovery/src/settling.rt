@@ -1,8 +1,8 @@
 //! How a log that was recovered is settled: its images are brought home, and its start is moved
 //! past them.
-ghost use Rattle.std.specs.Prelude.{OnOk, Some};
+ghost use Rattle.std.specs.Prelude.{◌+◌, OnOk, Some, length};
 ghost use Rattle.log_ring.specs.volume_disk.Disk.{Tells};
-ghost use Rattle.log_ring.specs.volume_disk.Run.{IsLaterBy, NamesWriteFault};
+ghost use Rattle.log_ring.specs.volume_disk.Run.{IsAtMost, IsLaterBy, NamesWriteFault};
 ghost use Rattle.log_ring.specs.disk_label.Anchor.{IsAnchor};
 ghost use Rattle.log_ring.specs.Settling.{BringsHome, HasBroughtHome};
 ghost use Rattle.log_recovery.specs.Outcome.{IsSound};
@@ -34,6 +34,7 @@ pub fn settle<R: Rack>(rack: &mut R, redone: &Redone) -> Result<(), VolIx>
         redone.now.images (settled_anchor redone.now)) }
     ensures readable { SettlesReadably (R.disk rack.old) (R.disk rack.new) redone.now }
     ensures later { OnOk result (IsLaterBy 6 (R.disk rack.old) (R.disk rack.new)) }
+    ensures few { IsAtMost (length redone.now.images + 14) (R.disk rack.old) (R.disk rack.new) }
     ensures fault { NamesWriteFault (R.disk rack.old) (R.disk rack.new) result }
 {
     let next = redone.settled_anchor();

@@ -1,6 +1,6 @@
 -- The images of a log brought home: what each image of a stop has meanwhile.
 use Rattle.std.proofs.Common.{◌≡◌, ◌≢◌, ◌⊎◌, ℕ, ◌+◌, ◌<◌, ◌≤◌, true, false, List, [], ◌∷◌, length, Option, Some, None, is_some, IfSome, refl, sym, ◌∙◌, ap, subst, inl, inr, arith}
-use Rattle.std.proofs.lemmas.Bool.{both_ways, cases_Bool}
+use Rattle.std.proofs.lemmas.Bool.{both_ways, cases_Bool, cases_eq}
 use Rattle.std.proofs.lemmas.List.Elements.{All-append, All-nil, All-weaker}
 use Rattle.disk_label.specs.domain_base.declared.place.Home.{Home}
 use Rattle.disk_label.specs.volume_disk.Disk.{Disk, Moment, MayLeave, Tells}
@@ -217,6 +217,12 @@ module _ (images : List PageImage) (next : Anchor) (d0 d2 d3 : Disk) (homes : Ha
           let was = torn-2 told torn.0 torn.1 in
           (was.0, was.1, new_pages images next d0 homes anchor groups move torn.0 was slot image torn.2 beside behind (home-2 told torn.0 torn.1));
       next_ready = λ told anchor later ready same follows stays. done.next (told-2 told) anchor later (ready-2 told (Some anchor) next.log_vol next.slot ready) same follows stays;
+      synced = λ told home has low k.
+          elim (cases_eq home.vol next.log_vol) [
+            | inl is ↦ ap (λ (v : ℕ). d3.now.unsynced v k) is ∙ (done.settled (told-2 told)).here k
+            | inr other ↦ (done.settled (told-2 told)).elsewhere home.vol k other ∙ synced told home has low k
+          ];
+      anchor_synced = λ told. (done.settled (told-2 told)).here;
       others = λ told anchor v s ready other_ready other. done.others (told-2 told) anchor v s (ready-2 told anchor next.log_vol next.slot ready) (ready-2 told anchor v s other_ready) other;
     }
 

@@ -9,7 +9,7 @@ use Rattle.disk_label.specs.volume_disk.Disk.{Disk, HasVolume, Moment, Syncs}
 use Rattle.log_ring.specs.declared.image.PageImage.{PageImage}
 use Rattle.log_ring.specs.Homes.{HaveHomes, IsHomeOf}
 use Rattle.log_ring.specs.Settling.{AreSyncedBelow, HasHome}
-use Rattle.log_ring.proofs.HomePages.{each_home}
+use Rattle.log_ring.proofs.HomePages.{each_home, has_at}
 
 abbrev on : ℕ → PageImage → Bool
 on vol image = image.home.vol == vol
@@ -27,6 +27,12 @@ pub elsewhere : (images : List PageImage) (vol : ℕ) (home : Home) → list_any
 elsewhere images vol home none =
     each_home (λ h. h.vol ≡ vol → ⊥) images home
     (λ k d lt is. both_ways (list_any (on vol) images) none (list_any-from_Any (on vol) images (k, get_or images k d, lt, get_or_default images k (get_or images k d) d lt, eq-eqb (get_or images k d).home.vol vol is)))
+
+-- and where one has, that home is one of theirs
+pub home_on : (images : List PageImage) (vol : ℕ) → list_any (on vol) images ≡ true → (home : Home) × HasHome images home × (home.vol ≡ vol)
+home_on images vol some =
+    let any = Any-from_list_any (on vol) images some in
+    ((get_or images any.0 any.1).home, has_at images any.0 any.1 any.2, (λ i. (any.3 i).home.vol) ∙ eqb-true any.1.home.vol vol any.4)
 
 -- one volume more is synced
 pub one_more_synced : (images : List PageImage) (vol : ℕ) (old new : Moment) → Syncs vol old new → AreSyncedBelow vol images old → AreSyncedBelow (vol + 1) images new

@@ -1,6 +1,6 @@
 -- The images of a log brought home, and its start moved behind them.
-use Rattle.std.specs.Prelude.{◌≡◌, ◌≢◌, ◌⊎◌, ◌*◌, ◌<◌, ℕ, false, List, [], Option, Some, IsSome}
-use Rattle.disk_label.specs.domain_base.Limits.{page_bytes}
+use Rattle.std.specs.Prelude.{◌≡◌, ◌≢◌, ◌⊎◌, ◌+◌, ◌*◌, ◌<◌, ℕ, false, List, [], Option, Some, IsSome}
+use Rattle.disk_label.specs.domain_base.Limits.{max_volumes, page_bytes}
 use Rattle.disk_label.specs.domain_base.declared.place.Home.{Home}
 use Rattle.disk_label.specs.volume_disk.Disk.{Disk, MayLeave, Moment, Tells}
 use Rattle.disk_label.specs.volume_disk.Image.{Image, IsIn, Places}
@@ -83,6 +83,9 @@ pub record HasBroughtHome (old new : Disk) (images : List PageImage) (next : Anc
   pub next_ready : Tells old → (anchor later : Anchor) → IsReadyFor old (Some anchor) next
       → anchor.log_vol ≡ next.log_vol → IsNext (Some next) later → later.log_vol ≡ next.log_vol
       → IsReadyFor new (Some next) later
+  -- nothing is pending on the volumes of the homes, nor on that of the log
+  pub synced : Tells old → AreSyncedBelow (max_volumes + 1) images new.now
+  pub anchor_synced : Tells old → (k : ℕ) → new.now.unsynced next.log_vol k ≡ false
   -- and each other slot that was ready stays so
   pub others : Tells old → (anchor : Option Anchor) (vol slot : ℕ)
       → IsReadyFor old anchor next → IsReady old anchor vol slot

@@ -14,7 +14,12 @@ ghost use Rattle.std.specs.Prelude.{
 ghost use Rattle.std.specs.List.{list_any};
 ghost use Rattle.disk_label.specs.volume_disk.Disk.{Tells};
 ghost use Rattle.disk_label.specs.volume_disk.Image.{NoPlace, page_at};
-ghost use Rattle.disk_label.specs.volume_disk.Run.{IsLaterBy, NamesWriteFault, OnlyWrites};
+ghost use Rattle.disk_label.specs.volume_disk.Run.{
+  IsAtMost,
+  IsLaterBy,
+  NamesWriteFault,
+  OnlyWrites,
+};
 ghost use Rattle.disk_label.specs.Anchor.{IsAnchor, IsNext, IsWhole};
 ghost use Rattle.page_store.specs.Pages.{same_home};
 ghost use Rattle.log_ring.specs.Images.{homes_of};
@@ -41,6 +46,7 @@ fn write_image<R: Rack>(rack: &mut R, image: &PageImage) -> Result<(), VolIx>
     ensures written { let home = image.now.home in let new = R.disk rack.new in
         OnOk result (Tells (R.disk rack.old)
         → page_at new.now.contents home.vol home.page ≡ image.now.page) }
+    ensures few { IsAtMost 1 (R.disk rack.old) (R.disk rack.new) }
     ensures fault { NamesWriteFault (R.disk rack.old) (R.disk rack.new) result }
 {
     let block = BLOCKS_PER_PAGE * image.home.page;
@@ -65,6 +71,7 @@ fn write_last<R: Rack>(rack: &mut R, images: &[PageImage], at: usize) -> Result<
     ensures home { let old = R.disk rack.old in let new = R.disk rack.new in
         OnOk result (Tells old → AreHome (drop (at + 1) images.now) old.now.contents
         → AreHome (drop at images.now) new.now.contents) }
+    ensures few { IsAtMost 1 (R.disk rack.old) (R.disk rack.new) }
     ensures fault { NamesWriteFault (R.disk rack.old) (R.disk rack.new) result }
 {
     let image = &images[at];
@@ -81,6 +88,7 @@ fn write_images<R: Rack>(rack: &mut R, images: &[PageImage]) -> Result<(), VolIx
     ensures writes { OnlyWrites (R.disk rack.old) (R.disk rack.new) (IsAtHomes images.now) }
     ensures home { OnOk result (Tells (R.disk rack.old)
         → AreHome images.now (R.disk rack.new).now.contents) }
+    ensures few { IsAtMost (length images.now) (R.disk rack.old) (R.disk rack.new) }
     ensures fault { NamesWriteFault (R.disk rack.old) (R.disk rack.new) result }
 {
     for written in 0..images.len() {
@@ -103,6 +111,7 @@ fn sync_home<R: Rack>(rack: &mut R, images: &[PageImage], vol: VolIx) -> Result<
     ensures synced { let old = R.disk rack.old in let new = R.disk rack.new in
         OnOk result (Tells old → AreSyncedBelow vol images.now old.now
         → AreSyncedBelow (vol + 1) images.now new.now) }
+    ensures few { IsAtMost 1 (R.disk rack.old) (R.disk rack.new) }
     ensures fault { NamesWriteFault (R.disk rack.old) (R.disk rack.new) result }
 {
     if has_home_on(images, vol) {
@@ -118,6 +127,7 @@ fn sync_homes<R: Rack>(rack: &mut R, images: &[PageImage]) -> Result<(), VolIx>
     ensures writes { OnlyWrites (R.disk rack.old) (R.disk rack.new) NoPlace }
     ensures synced { OnOk result (Tells (R.disk rack.old)
         → AreSyncedBelow 9 images.now (R.disk rack.new).now) }
+    ensures few { IsAtMost 8 (R.disk rack.old) (R.disk rack.new) }
     ensures fault { NamesWriteFault (R.disk rack.old) (R.disk rack.new) result }
 {
     for number in 1..MAX_VOLUMES + 1 {
@@ -131,7 +141,7 @@ fn sync_homes<R: Rack>(rack: &mut R, images: &[PageImage]) -> Result<(), VolIx>
 
 /// Brings the images of a log home, and writes the anchor with which it starts after them. Each
 /// home is written once, with the last image of it, and each volume that was written is synced
-/// once, before the anchor.
+/// once, before the anchor. These volumes and that of the log then have nothing pending.
 pub fn bring_home<R: Rack>(rack: &mut R, images: &[PageImage], next: &Anchor) -> Result<(), VolIx>
     requires homes { HaveHomes (R.disk rack.old).sizes images.now }
     requires outside { AreOutside next.now images.now }
@@ -143,6 +153,7 @@ pub fn bring_home<R: Rack>(rack: &mut R, images: &[PageImage], next: &Anchor) ->
     ensures done { OnOk result
         (HasBroughtHome (R.disk rack.old) (R.disk rack.new) images.now next.now) }
     ensures later { OnOk result (IsLaterBy 6 (R.disk rack.old) (R.disk rack.new)) }
+    ensures few { IsAtMost (length images.now + 14) (R.disk rack.old) (R.disk rack.new) }
     ensures fault { NamesWriteFault (R.disk rack.old) (R.disk rack.new) result }
 {
     write_images(rack, images)?;

@@ -20,6 +20,10 @@ pub record LeavesOnly (old new : Disk) (P : Image → Type 0) : Type 0 where
 abbrev pub IsLaterBy : ℕ → Disk → Disk → Type 0
 IsLaterBy n old new = old.calls + n ≤ new.calls
 
+-- no more than n calls were made
+abbrev pub IsAtMost : ℕ → Disk → Disk → Type 0
+IsAtMost n old new = new.calls ≤ old.calls + n
+
 -- A run of calls that has changed nothing but these places. What a stop since its start may leave
 -- is what one at its start might have left, with any bytes there. It may have read anything, and
 -- synced any volume.

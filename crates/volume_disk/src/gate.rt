@@ -6,6 +6,7 @@ ghost use Rattle.volume_disk.specs.Disk.{AreBlocks, Tells};
 ghost use Rattle.volume_disk.specs.Gate.{IsOpenAt};
 ghost use Rattle.volume_disk.specs.Image.{IsIn};
 ghost use Rattle.volume_disk.specs.Run.{
+  IsAtMost,
   IsLaterBy,
   NamesReadFault,
   NamesWriteFault,
@@ -25,6 +26,7 @@ pub fn read_gate<R: Rack>(rack: &mut R, vol: VolIx, block: u32) -> Result<bool, 
     ensures reads { OnlyReads (R.disk rack.old) (R.disk rack.new) }
     ensures gate { let held = (R.disk rack.old).now.contents in IfOk result (λ found.
         Tells (R.disk rack.old) → (IsTrue found ↔ IsOpenAt held vol (512 * block))) }
+    ensures few { IsAtMost 1 (R.disk rack.old) (R.disk rack.new) }
     ensures fault { NamesReadFault (R.disk rack.old) (R.disk rack.new) result }
 {
     let mut gate = [0; BLOCK_BYTES];
@@ -41,6 +43,7 @@ pub fn open_gate<R: Rack>(rack: &mut R, vol: VolIx, block: u32) -> Result<(), Vo
     ensures settled { let old = R.disk rack.old in let new = R.disk rack.new in
         OnOk result (Tells old → Settles vol (512 * block) opened old.now new.now) }
     ensures later { OnOk result (IsLaterBy 2 (R.disk rack.old) (R.disk rack.new)) }
+    ensures few { IsAtMost 2 (R.disk rack.old) (R.disk rack.new) }
     ensures fault { NamesWriteFault (R.disk rack.old) (R.disk rack.new) result }
 {
     write_synced(rack, vol, block, &open_block())
@@ -55,6 +58,7 @@ pub fn close_gate<R: Rack>(rack: &mut R, vol: VolIx, block: u32) -> Result<(), V
     ensures settled { let old = R.disk rack.old in let new = R.disk rack.new in
         OnOk result (Tells old → Settles vol (512 * block) closed old.now new.now) }
     ensures later { OnOk result (IsLaterBy 2 (R.disk rack.old) (R.disk rack.new)) }
+    ensures few { IsAtMost 2 (R.disk rack.old) (R.disk rack.new) }
     ensures fault { NamesWriteFault (R.disk rack.old) (R.disk rack.new) result }
 {
     write_synced(rack, vol, block, &closed_block())

@@ -3,6 +3,7 @@ ghost use Rattle.std.specs.Prelude.{◌≡◌, ◌*◌, ◌+◌, length, OnOk};
 ghost use Rattle.volume_disk.specs.Disk.{AreBlocks, HasVolume, IsSettled, Syncs, Tells, Writes};
 ghost use Rattle.volume_disk.specs.Image.{IsIn, NoPlace, bytes_at};
 ghost use Rattle.volume_disk.specs.Run.{
+  IsAtMost,
   IsLaterBy,
   IsSettledBelow,
   NamesReadFault,
@@ -28,6 +29,7 @@ pub fn read_blocks<R: Rack>(
     ensures reads { OnlyReads (R.disk rack.old) (R.disk rack.new) }
     ensures bytes { let n = length out.old in let held = (R.disk rack.old).now.contents in
         OnOk result (Tells (R.disk rack.old) → out.new ≡ bytes_at held vol (512 * block) n) }
+    ensures few { IsAtMost 1 (R.disk rack.old) (R.disk rack.new) }
     ensures fault { NamesReadFault (R.disk rack.old) (R.disk rack.new) result }
 {
     match rack.read(vol, block, out) {
@@ -50,6 +52,7 @@ pub fn write_blocks<R: Rack>(
     ensures written { let old = R.disk rack.old in let new = R.disk rack.new in
         OnOk result (Tells old → Writes vol (512 * block) bytes.now old.now new.now) }
     ensures later { OnOk result (IsLaterBy 1 (R.disk rack.old) (R.disk rack.new)) }
+    ensures few { IsAtMost 1 (R.disk rack.old) (R.disk rack.new) }
     ensures fault { NamesWriteFault (R.disk rack.old) (R.disk rack.new) result }
 {
     match rack.write(vol, block, bytes) {
@@ -65,6 +68,7 @@ pub fn sync_volume<R: Rack>(rack: &mut R, vol: VolIx) -> Result<(), VolIx>
     ensures synced { let old = R.disk rack.old in
         OnOk result (Tells old → Syncs vol old.now (R.disk rack.new).now) }
     ensures later { OnOk result (IsLaterBy 1 (R.disk rack.old) (R.disk rack.new)) }
+    ensures few { IsAtMost 1 (R.disk rack.old) (R.disk rack.new) }
     ensures fault { NamesWriteFault (R.disk rack.old) (R.disk rack.new) result }
 {
     match rack.sync(vol) {
@@ -78,6 +82,7 @@ fn sync_there<R: Rack>(rack: &mut R, vol: VolIx) -> Result<(), VolIx>
     ensures writes { OnlyWrites (R.disk rack.old) (R.disk rack.new) NoPlace }
     ensures settled { let old = R.disk rack.old in let new = R.disk rack.new in
         OnOk result (Tells old → IsSettledBelow vol old.now → IsSettledBelow (vol + 1) new.now) }
+    ensures few { IsAtMost 1 (R.disk rack.old) (R.disk rack.new) }
     ensures fault { NamesWriteFault (R.disk rack.old) (R.disk rack.new) result }
 {
     if vol.number() <= rack.volumes() {
@@ -93,6 +98,7 @@ fn sync_there<R: Rack>(rack: &mut R, vol: VolIx) -> Result<(), VolIx>
 pub fn sync_volumes<R: Rack>(rack: &mut R) -> Result<(), VolIx>
     ensures writes { OnlyWrites (R.disk rack.old) (R.disk rack.new) NoPlace }
     ensures settled { OnOk result (Tells (R.disk rack.old) → IsSettled (R.disk rack.new).now) }
+    ensures few { IsAtMost 8 (R.disk rack.old) (R.disk rack.new) }
     ensures fault { NamesWriteFault (R.disk rack.old) (R.disk rack.new) result }
 {
     for number in 1..MAX_VOLUMES + 1 {
@@ -118,6 +124,7 @@ pub fn write_synced<R: Rack>(
     ensures settled { let old = R.disk rack.old in let new = R.disk rack.new in
         OnOk result (Tells old → Settles vol (512 * block) bytes.now old.now new.now) }
     ensures later { OnOk result (IsLaterBy 2 (R.disk rack.old) (R.disk rack.new)) }
+    ensures few { IsAtMost 2 (R.disk rack.old) (R.disk rack.new) }
     ensures fault { NamesWriteFault (R.disk rack.old) (R.disk rack.new) result }
 {
     match write_blocks(rack, vol, block, bytes) {

@@ -5,7 +5,7 @@ use Rattle.log_ring.specs.disk_label.declared.anchor.Anchor.{Anchor}
 use Rattle.log_ring.specs.Settling.{IsAtHomesOrSlot}
 use Rattle.log_recovery.specs.Settled.{settled_anchor}
 use Rattle.log_recovery.specs.Settling.{Anywhere}
-use Rattle.log_recovery.proofs.Settled.{anywhere, anywhere_then, no_group, read_still, readied_still, settled_home, settled_still, still_counts}
+use Rattle.log_recovery.proofs.Settled.{all_synced, anywhere, anywhere_then, next_slot_ready, no_group, read_still, readied_still, settled_home, settled_still, still_counts}
 use Rattle.log_recovery.proofs.log_settling.settle_log.Goals as goal
 
 pub returns-then-not-has_numbers_left-clause-any_moment : goal.returns-then-not-has_numbers_left-clause-any_moment
@@ -71,3 +71,17 @@ returns-in-Ok-settle-clause-touches g c =
 
 pub returns-in-Ok-settle-clause-passed : goal.returns-in-Ok-settle-clause-passed
 returns-in-Ok-settle-clause-passed g c = (c.settle.ensures.brings.writes.read_faults ∙ c.in-Ok.ensures.passed.0, c.in-Ok-settle.ensures.fault ∙ c.in-Ok.ensures.passed.1)
+
+pub returns-in-Ok-settle-clause-settled : goal.returns-in-Ok-settle-clause-settled
+returns-in-Ok-settle-clause-settled g c =
+    let disk = g.R.Rack.disk c.args.rack.now in
+    let ready = g.R.Rack.disk c.ready_slot.new.rack in
+    let slot_is = ap (λ (a : Anchor). a.slot) c.settled_anchor-next.ensures in
+    all_synced disk disk c.args.redone.now c.requires.sound (only_reads-none disk) c.requires.pending c.requires.recovered ready c.in-Some.vol c.settled_anchor-next.result.slot c.in-Some.ensures.value slot_is c.ready_slot.ensures.readies c.in-Ok.ensures.ready c.in-Ok.ensures.synced (g.R.Rack.disk c.settle.new.rack) c.settle.ensures.brings c.in-Ok-settle.ensures.done
+
+pub returns-in-Ok-settle-clause-ready : goal.returns-in-Ok-settle-clause-ready
+returns-in-Ok-settle-clause-ready g c =
+    let disk = g.R.Rack.disk c.args.rack.now in
+    let ready = g.R.Rack.disk c.ready_slot.new.rack in
+    let slot_is = ap (λ (a : Anchor). a.slot) c.settled_anchor-next.ensures in
+    next_slot_ready disk disk c.args.redone.now c.requires.sound (only_reads-none disk) c.requires.pending c.requires.recovered ready c.in-Some.vol c.settled_anchor-next.result.slot c.in-Some.ensures.value slot_is c.ready_slot.ensures.readies c.in-Ok.ensures.ready c.in-Ok.ensures.synced (g.R.Rack.disk c.settle.new.rack) c.settled_anchor-next.result c.in-Ok-settle.ensures.done c.settled_anchor-next.ensures

@@ -1,4 +1,5 @@
-use Rattle.std.proofs.Common.{List, Some, sym, subst}
+use Rattle.std.proofs.Common.{◌+◌, List, Some, length, sym, subst}
+use Rattle.log_ring.specs.volume_disk.Run.{IsAtMost}
 use Rattle.log_ring.specs.disk_label.Anchor.{IsNext}
 use Rattle.log_ring.specs.disk_label.declared.anchor.Anchor.{Anchor}
 use Rattle.log_ring.specs.declared.image.PageImage.{PageImage}
@@ -19,3 +20,6 @@ returns-clause-readable g c =
     let new = g.R.Rack.disk c.bring_home.new.rack in
     settles_readably old new redone c.requires.left c.requires.sound
     (subst (λ (next : Anchor). BringsHome old new redone.images next) c.settled_anchor-next.ensures (subst (λ (images : List PageImage). BringsHome old new images c.settled_anchor-next.result) c.as_slice.ensures c.bring_home.ensures.brings))
+
+pub returns-clause-few : goal.returns-clause-few
+returns-clause-few g c = subst (λ (images : List PageImage). IsAtMost (length images + 14) (g.R.Rack.disk c.args.rack.now) (g.R.Rack.disk c.bring_home.new.rack)) c.as_slice.ensures c.bring_home.ensures.few

@@ -12,6 +12,7 @@ loop-number-init g c =
     record {
       writes = record { touches = touches-none old NoPlace; read_faults = refl };
       passed = refl;
+      few = omega arith;
       synced = λ told home has below k. absurd (let is : IsHomeOf old.sizes home = each_home (IsHomeOf old.sizes) c.args.images.now home c.requires has in let low = is.first_volume in omega arith);
     }
 
@@ -27,6 +28,7 @@ loop-number-preserved g c =
     record {
       writes = only_writes-then old mid new NoPlace so_far.writes c.sync_home.ensures.writes;
       passed = c.in_ok-sync_home.ensures.fault ∙ so_far.passed;
+      few = omega (arith, so_far.few, c.sync_home.ensures.few);
       synced = λ told.
           subst (λ (v : ℕ). AreSyncedBelow (v + 1) c.args.images.now new.now) c.in-Some.ensures.value
           (c.in_ok-sync_home.ensures.synced (so_far.writes.touches.told ∙ told) (subst (λ (v : ℕ). AreSyncedBelow v c.args.images.now mid.now) (sym c.in-Some.ensures.value) (so_far.synced told)));

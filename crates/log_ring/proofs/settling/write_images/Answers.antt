@@ -23,6 +23,7 @@ loop-written-preserved g c =
     record {
       writes = only_writes-then old mid new (IsAtHomes images) so_far.writes c.write_last.ensures.writes;
       passed = c.in_ok-write_last.ensures.fault ∙ so_far.passed;
+      few = omega (arith, so_far.few, c.write_last.ensures.few);
       home = λ told.
           subst (λ (at : ℕ). AreHome (drop at images) new.now.contents) after
           (c.in_ok-write_last.ensures.home (so_far.writes.touches.told ∙ told) (subst (λ (at : ℕ). AreHome (drop at images) mid.now.contents) before (so_far.home told)));

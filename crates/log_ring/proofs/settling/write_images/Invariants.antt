@@ -1,4 +1,4 @@
-use Rattle.std.proofs.Common.{◌≡◌, ◌-◌, drop, length}
+use Rattle.std.proofs.Common.{◌≡◌, ◌+◌, ◌-◌, ◌≤◌, drop, length}
 use Rattle.disk_label.specs.volume_disk.Disk.{Tells}
 use Rattle.disk_label.specs.volume_disk.Run.{OnlyWrites}
 use Rattle.log_ring.specs.LogLaws.{AreHome}
@@ -9,5 +9,6 @@ abbrev pub invariant-loop-written : goal.invariant-loop-written
 invariant-loop-written g l = record {
   writes : OnlyWrites (g.R.Rack.disk l.initial.rack) (g.R.Rack.disk l.rack) (IsAtHomes l.images);
   passed : (g.R.Rack.disk l.rack).write_faults ≡ (g.R.Rack.disk l.initial.rack).write_faults;
+  few : (g.R.Rack.disk l.rack).calls ≤ (g.R.Rack.disk l.initial.rack).calls + l.written;
   home : Tells (g.R.Rack.disk l.initial.rack) → AreHome (drop (length l.images - l.written) l.images) (g.R.Rack.disk l.rack).now.contents;
 }

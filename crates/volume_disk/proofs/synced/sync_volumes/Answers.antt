@@ -1,4 +1,4 @@
-use Rattle.std.proofs.Common.{ℕ, ◌+◌, refl, sym, ◌∙◌, subst}
+use Rattle.std.proofs.Common.{ℕ, ◌+◌, refl, sym, ◌∙◌, subst, arith}
 use Rattle.volume_disk.specs.Image.{NoPlace}
 use Rattle.volume_disk.specs.Run.{IsSettledBelow}
 use Rattle.volume_disk.proofs.Laws.{only_writes-then, touches-none}
@@ -11,6 +11,7 @@ loop-number-init g c =
     record {
       writes = record { touches = touches-none old NoPlace; read_faults = refl };
       passed = refl;
+      few = omega arith;
       settled = λ told. none_before old (g.met.R.Rack.pends_within c.args.rack.now told);
     }
 
@@ -27,6 +28,7 @@ loop-number-preserved g c =
     record {
       writes = only_writes-then old mid new NoPlace so_far.writes c.sync_there.ensures.writes;
       passed = c.in_ok-sync_there.ensures.fault ∙ so_far.passed;
+      few = omega (arith, so_far.few, c.sync_there.ensures.few);
       settled = λ told.
           subst (λ (v : ℕ). IsSettledBelow (v + 1) new.now) c.in-Some.ensures.value
           (c.in_ok-sync_there.ensures.settled (so_far.writes.touches.told ∙ told) (subst (λ (v : ℕ). IsSettledBelow v mid.now) (sym c.in-Some.ensures.value) (so_far.settled told)));
