@@ -21,8 +21,8 @@ use Rattle.domain_state.specs.Rest.{IsAtRest}
 use Rattle.domain_attaching.specs.Settling.{HasNoGroups, HasSettleCause, IsRecovered, LacksNumbers, StandHome, StaysReadSince, rested_anchor}
 
 -- what was recovered is read as the pages once redone
-pub read_as : (sizes : List ℕ) (image : Image) (found : Redone) (is : IsRecovered sizes image found) → ReadsAs sizes (redone is.0 image) image
-read_as sizes image found is = record { anchor = found.anchor; groups = is.0; good = is.1.good; log = is.1.log; same = λ home beside. refl }
+pub read_as : (sizes : List ℕ) (image : Image) (found : Redone) (is : IsRecovered sizes image found) → ReadsAs sizes found.anchor (redone is.0 image) image
+read_as sizes image found is = record { anchor = found.anchor; groups = is.0; good = is.1.good; restarts = refl; log = is.1.log; same = λ home beside. refl }
 
 -- an image that is left torn in no place is left whole
 whole_left : (disk : Disk) (image : Image) → MayLeaveTorn NoPlace disk.now image → MayLeave disk.now image
@@ -37,8 +37,8 @@ left_since old new told touches = weaker old new (MayLeaveTorn NoPlace old.now) 
 
 -- so the start is still read, or might have been left, on each
 pub still_since : (old new : Disk) → Touches old new NoPlace → StaysReadSince old new
-still_since old new touches told pages reads =
-    weaker old new (MayLeave old.now) (λ image. MayLeave old.now image ⊎ ReadsAs old.sizes pages image) (λ image left. inl left) (left_since old new told touches)
+still_since old new touches told first pages reads =
+    weaker old new (MayLeave old.now) (λ image. MayLeave old.now image ⊎ ReadsAs old.sizes first pages image) (λ image left. inl left) (left_since old new told touches)
 
 -- ---- a log without a group
 
@@ -61,7 +61,7 @@ module _ (disk : Disk) (found : Redone) (pending : Tells disk → IsSettled disk
   }
 
   pub none_home : StandsAtHome disk disk
-  none_home told pages reads image left home beside =
+  none_home told first pages reads image left home beside =
       let one = has_one_log disk.sizes disk.now.contents reads.anchor reads.groups (recovered told).0 found reads.log (recovered told).1 in
       ap (λ (im : Image). pages_in im home) (whole told image left) ∙ ap (λ (g : List Group). redone g disk.now.contents home) (sym (one.1 ∙ no_groups told)) ∙ reads.same home beside
 
@@ -93,21 +93,21 @@ module _ (old mid : Disk) (writes : Touches old mid NoPlace) where
       subst (λ (l : List ℕ). IsRecovered l mid.now.contents found) (sym writes.sizes)
       (subst (λ (c : Image). IsRecovered old.sizes c found) (sym (same_contents (told_synced told))) (is (told_synced told)))
 
-  reads_synced : Tells old → (pages : Pages) → ReadsAs old.sizes pages old.now.contents → ReadsAs mid.sizes pages mid.now.contents
-  reads_synced told pages reads =
-      subst (λ (l : List ℕ). ReadsAs l pages mid.now.contents) (sym writes.sizes)
-      (subst (λ (c : Image). ReadsAs old.sizes pages c) (sym (same_contents told)) reads)
+  reads_synced : Tells old → (first : Anchor) (pages : Pages) → ReadsAs old.sizes first pages old.now.contents → ReadsAs mid.sizes first pages mid.now.contents
+  reads_synced told first pages reads =
+      subst (λ (l : List ℕ). ReadsAs l first pages mid.now.contents) (sym writes.sizes)
+      (subst (λ (c : Image). ReadsAs old.sizes first pages c) (sym (same_contents told)) reads)
 
   -- then its log is settled
   module _ (new : Disk) where
     pub read_since : StaysRead mid new → StaysReadSince old new
-    read_since stays told pages reads =
-        let P : Image → Type 0 = λ image. MayLeave old.now image ⊎ ReadsAs old.sizes pages image in
-        then_on old mid new P (still_since old mid writes told pages reads)
-        (weaker mid new (ReadsAs mid.sizes pages) P (λ image is. inr (subst (λ (l : List ℕ). ReadsAs l pages image) writes.sizes is)) (stays (told_too told) pages (reads_synced told pages reads)))
+    read_since stays told first pages reads =
+        let P : Image → Type 0 = λ image. MayLeave old.now image ⊎ ReadsAs old.sizes first pages image in
+        then_on old mid new P (still_since old mid writes told first pages reads)
+        (weaker mid new (ReadsAs mid.sizes first pages) P (λ image is. inr (subst (λ (l : List ℕ). ReadsAs l first pages image) writes.sizes is)) (stays (told_too told) first pages (reads_synced told first pages reads)))
 
     pub home_since : StandsAtHome mid new → StandsAtHome old new
-    home_since home told pages reads image left place beside = home (told_too told) pages (reads_synced told pages reads) image left place beside
+    home_since home told first pages reads image left place beside = home (told_too told) first pages (reads_synced told first pages reads) image left place beside
 
     -- it is at rest
     pub rests : (found : Redone) (next : Anchor) → IsSound old.sizes found → next ≡ rested_anchor found → Touches mid new Anywhere → IsBehindAll new next → StandsAtHome mid new → (Tells old → IsRecovered old.sizes old.now.contents found)
@@ -118,7 +118,7 @@ module _ (old mid : Disk) (writes : Touches old mid NoPlace) where
       synced = λ told image left place member beside.
           let told_mid : Tells mid = sym touches.told ∙ told in
           let there = recovered_synced found recovered told_mid in
-          let stand = home told_mid (redone there.0 mid.now.contents) (read_as mid.sizes mid.now.contents found there) in
+          let stand = home told_mid found.anchor (redone there.0 mid.now.contents) (read_as mid.sizes mid.now.contents found there) in
           stand image left place beside ∙ sym (stand new.now.contents (record { synced = λ v k is. refl; bytes = bytes told }) place beside);
     }
       where
@@ -162,4 +162,4 @@ settle_cause_since old mid new (Write vol) touches reads writes is = raised_too 
 
 pub stand_home : (old new : Disk) (pages : Pages) (found : Redone) → StandsAtHome old new → Tells old → IsBroughtFrom old.sizes old.now.contents pages found → StandHome new pages
 stand_home old new pages found home told from image left place some beside =
-    from.same place some ∙ sym (home told (redone from.groups old.now.contents) (read_as old.sizes old.now.contents found (from.groups, from.recovered)) image left place beside)
+    from.same place some ∙ sym (home told found.anchor (redone from.groups old.now.contents) (read_as old.sizes old.now.contents found (from.groups, from.recovered)) image left place beside)

@@ -15,13 +15,13 @@ use Rattle.domain_attaching.proofs.Rested.{had_none, settle_cause_since}
 
 -- what is read of the start is read, or might have been left at the start, on each image since
 pub since_read : (old mid new : Disk) → OnlyReads old mid → StaysReadSince mid new → StaysReadSince old new
-since_read old mid new reads stays told pages was =
-    let P : Image → Type 0 = λ image. MayLeave old.now image ⊎ ReadsAs old.sizes pages image in
-    let there : ReadsAs mid.sizes pages mid.now.contents = subst (λ (l : List ℕ). ReadsAs l pages mid.now.contents) (sym reads.touches.sizes) (subst (λ (m : Moment). ReadsAs old.sizes pages m.contents) (sym (reads.now told)) was) in
+since_read old mid new reads stays told first pages was =
+    let P : Image → Type 0 = λ image. MayLeave old.now image ⊎ ReadsAs old.sizes first pages image in
+    let there : ReadsAs mid.sizes first pages mid.now.contents = subst (λ (l : List ℕ). ReadsAs l first pages mid.now.contents) (sym reads.touches.sizes) (subst (λ (m : Moment). ReadsAs old.sizes first pages m.contents) (sym (reads.now told)) was) in
     then_on old mid new P (only_reads-leaves old mid P told reads (λ image left. inl left))
-    (weaker mid new (λ image. MayLeave mid.now image ⊎ ReadsAs mid.sizes pages image) P
-    (λ image is. ⊎_elim (λ left. inl (subst (λ (m : Moment). MayLeave m image) (reads.now told) left)) (λ reads_so. inr (subst (λ (l : List ℕ). ReadsAs l pages image) reads.touches.sizes reads_so)) is)
-    (stays (reads.touches.told ∙ told) pages there))
+    (weaker mid new (λ image. MayLeave mid.now image ⊎ ReadsAs mid.sizes first pages image) P
+    (λ image is. ⊎_elim (λ left. inl (subst (λ (m : Moment). MayLeave m image) (reads.now told) left)) (λ reads_so. inr (subst (λ (l : List ℕ). ReadsAs l first pages image) reads.touches.sizes reads_so)) is)
+    (stays (reads.touches.told ∙ told) first pages there))
 
 -- nothing is written where the log had no group
 pub writes_none : (old mid new : Disk) (found : Redone) → OnlyReads old mid → (Tells old → IsRecovered old.sizes old.now.contents found) → (HasNoGroups found → Touches mid new NoPlace) → WritesNone old new

@@ -37,12 +37,14 @@ rested_anchor found =
 abbrev pub with_anchor : Anchor → DomainMemory → DomainMemory
 with_anchor anchor memory = record memory { frame = record memory.frame { anchor = anchor } }
 
--- what the contents of the start are read as, each image is that is left since, unless a stop at
--- the start might have left it
+-- what the contents of the start are read as, anchor and pages, each image is that is left since,
+-- unless a stop at the start might have left it
 abbrev pub StaysReadSince : Disk → Disk → Type 0
 StaysReadSince old new =
-    Tells old → (pages : Pages) → ReadsAs old.sizes pages old.now.contents
-    → LeavesOnly old new (λ image. MayLeave old.now image ⊎ ReadsAs old.sizes pages image)
+    Tells old → (first : Anchor) (pages : Pages)
+    → ReadsAs old.sizes first pages old.now.contents
+    → LeavesOnly old new
+    (λ image. MayLeave old.now image ⊎ ReadsAs old.sizes first pages image)
 
 -- on each image that a stop might leave these pages, those of anchors aside, stand at their homes
 abbrev pub StandHome : Disk → Pages → Type 0

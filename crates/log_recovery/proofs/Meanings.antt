@@ -1,5 +1,5 @@
 -- What images are read as while a log is settled.
-use Rattle.std.proofs.Common.{◌≡◌, ◌≢◌, ◌⊎◌, ◌-◌, ℕ, List, [], Some, inl, inr, sym, ◌∙◌, ap, subst}
+use Rattle.std.proofs.Common.{◌≡◌, ◌≢◌, ◌⊎◌, ◌-◌, ℕ, List, [], Some, inl, inr, refl, sym, ◌∙◌, ap, subst}
 use Rattle.log_ring.specs.domain_base.declared.place.Home.{Home}
 use Rattle.log_ring.specs.page_store.Pages.{Pages}
 use Rattle.log_ring.specs.volume_disk.Disk.{Disk, IsSettled, MayLeave, Tells}
@@ -14,7 +14,7 @@ use Rattle.log_ring.specs.Groups.{Group, HasLog, pages_in, redone}
 use Rattle.log_ring.specs.Settling.{BringsHome, HasBroughtHome, IsRedoneAs, MeansTheSame}
 use Rattle.log_recovery.specs.Laws.{IsAsRecovered, IsReadyToSettle}
 use Rattle.log_recovery.specs.Outcome.{HasGoodAnchor, HasRecovered}
-use Rattle.log_recovery.specs.Readable.{IsReadable, SettlesReadably}
+use Rattle.log_recovery.specs.Readable.{IsReadable, IsRestartOf, SettlesReadably, restarted}
 use Rattle.log_recovery.specs.Settled.{settled_anchor}
 use Rattle.log_recovery.specs.declared.redone.Redone.{Redone}
 use Rattle.log_recovery.proofs.OneOutcome.{has_one_log}
@@ -30,28 +30,33 @@ good_is sizes image anchor read is =
     subst (HasGoodAnchor sizes image) one read.good
 
 -- an image that means the same, and that recovery takes, is read as the one of before
-pub reads_from : (old : Disk) (anchor : Anchor) (groups : List Group) (next : Anchor) (image : Image) → MeansTheSame old anchor groups next image → IsReadable old.sizes image
-    → (before : Image) × MayLeave old.now before × ReadsAs old.sizes (redone groups before) image
-reads_from old anchor groups next image means read = (means.before, means.left, go means.same)
+pub reads_from : (old : Disk) (anchor : Anchor) (groups : List Group) (next : Anchor) (image : Image) → IsRestartOf anchor next → MeansTheSame old anchor groups next image → IsReadable old.sizes image
+    → (before : Image) × MayLeave old.now before × ReadsAs old.sizes anchor (redone groups before) image
+reads_from old anchor groups next image restarts means read = (means.before, means.left, go means.same)
   where
-    go : (HasLog old.sizes anchor groups image × IsRedoneAs groups means.before groups image) ⊎ (HasLog old.sizes next [] image × IsRedoneAs groups means.before [] image) → ReadsAs old.sizes (redone groups means.before) image
-    go (inl is) = record { anchor = anchor; groups = groups; good = good_is old.sizes image anchor read is.0.anchor_is; log = is.0; same = is.1 }
-    go (inr is) = record { anchor = next; groups = []; good = good_is old.sizes image next read is.0.anchor_is; log = is.0; same = is.1 }
+    go : (HasLog old.sizes anchor groups image × IsRedoneAs groups means.before groups image) ⊎ (HasLog old.sizes next [] image × IsRedoneAs groups means.before [] image) → ReadsAs old.sizes anchor (redone groups means.before) image
+    go (inl is) = record { anchor = anchor; groups = groups; good = good_is old.sizes image anchor read is.0.anchor_is; restarts = refl; log = is.0; same = is.1 }
+    go (inr is) = record { anchor = next; groups = []; good = good_is old.sizes image next read is.0.anchor_is; restarts = restarts; log = is.0; same = is.1 }
+
+-- an anchor that differs so from one that differs so from a third
+restarts_too : (first second third : Anchor) → IsRestartOf first second → IsRestartOf second third → IsRestartOf first third
+restarts_too first second third is more = more ∙ ap (λ (a : Anchor). restarted a third.number third.slot third.start third.group) is
 
 -- what is read as some pages is read as the same pages
-pub reads_same : (sizes others : List ℕ) (one other : Pages) (image : Image) → sizes ≡ others → ((home : Home) → home.page ≢ 1 → one home ≡ other home) → ReadsAs sizes one image → ReadsAs others other image
-reads_same sizes others one other image size same reads = record {
+pub reads_same : (sizes others : List ℕ) (first second : Anchor) (one other : Pages) (image : Image) → sizes ≡ others → IsRestartOf first second → ((home : Home) → home.page ≢ 1 → one home ≡ other home) → ReadsAs sizes second one image → ReadsAs others first other image
+reads_same sizes others first second one other image size restarts same reads = record {
   anchor = reads.anchor;
   groups = reads.groups;
   good = subst (λ (l : List ℕ). HasGoodAnchor l image reads.anchor) size reads.good;
+  restarts = restarts_too first second reads.anchor restarts reads.restarts;
   log = subst (λ (l : List ℕ). HasLog l reads.anchor reads.groups image) size reads.log;
   same = λ home beside. reads.same home beside ∙ same home beside;
 }
 
 -- A log that is settled where nothing was pending.
-module _ (d0 : Disk) (settled : IsSettled d0.now) (told : Tells d0) (pages : Pages) (was : ReadsAs d0.sizes pages d0.now.contents) where
+module _ (d0 : Disk) (settled : IsSettled d0.now) (told : Tells d0) (first : Anchor) (pages : Pages) (was : ReadsAs d0.sizes first pages d0.now.contents) where
   abbrev Still : Image → Type 0
-  Still = ReadsAs d0.sizes pages
+  Still = ReadsAs d0.sizes first pages
 
   at_start : (image : Image) → MayLeave d0.now image → Still image
   at_start image left = subst Still (λ i v k. sym (left.synced v k (settled v k)) i) was
@@ -61,13 +66,16 @@ module _ (d0 : Disk) (settled : IsSettled d0.now) (told : Tells d0) (pages : Pag
   only_read d1 reads = only_reads-leaves d0 d1 Still told reads at_start
 
   module _ (d1 : Disk) (reads : OnlyReads d0 d1) (found : Redone) (groups : List Group) (recovered : HasRecovered d0.sizes d0.now.contents groups found) where
+    found_restarts : IsRestartOf first found.anchor
+    found_restarts = subst (IsRestartOf first) (has_one_log d0.sizes d0.now.contents was.anchor was.groups groups found was.log recovered).0 was.restarts
+
     pages_found : (home : Home) → home.page ≢ 1 → redone groups d0.now.contents home ≡ pages home
     pages_found home beside =
         let same : was.groups ≡ groups = (has_one_log d0.sizes d0.now.contents was.anchor was.groups groups found was.log recovered).1 in
         ap (λ (g : List Group). redone g d0.now.contents home) (sym same) ∙ was.same home beside
 
     as_read : (image : Image) → IsAsRecovered d0 groups found image → Still image
-    as_read image is = record { anchor = found.anchor; groups = groups; good = is.good; log = is.log; same = λ home beside. is.same home beside ∙ pages_found home beside }
+    as_read image is = record { anchor = found.anchor; groups = groups; good = is.good; restarts = found_restarts; log = is.log; same = λ home beside. is.same home beside ∙ pages_found home beside }
 
     -- while the slot is made ready
     module _ (d2 : Disk) (readies : ReadiesSlot d1 d2 found.anchor.log_vol (1 - found.anchor.slot)) where
@@ -99,8 +107,8 @@ module _ (d0 : Disk) (settled : IsSettled d0.now) (told : Tells d0) (pages : Pag
 
         since : (image : Image) → Means image × IsReadable d2.sizes image → Still image
         since image is =
-            let from = reads_from d2 found.anchor groups (settled_anchor found) image is.0 is.1 in
-            reads_same d2.sizes d0.sizes (redone groups from.0) pages image sizes (pages_before from.0 from.1) from.2
+            let from = reads_from d2 found.anchor groups (settled_anchor found) image refl is.0 is.1 in
+            reads_same d2.sizes d0.sizes first found.anchor (redone groups from.0) pages image sizes found_restarts (pages_before from.0 from.1) from.2
 
         pub log_settled : LeavesOnly d0 d3 Still
         log_settled = then_on d0 d2 d3 Still slot_readied (weaker d2 d3 (λ image. Means image × IsReadable d2.sizes image) Still since (both d2 d3 Means (IsReadable d2.sizes) means read))

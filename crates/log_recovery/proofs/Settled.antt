@@ -43,7 +43,7 @@ anywhere_then old mid new places others one other = touches-then old mid new Any
 
 -- by reads alone nothing is changed
 pub read_still : (d0 d1 : Disk) → (Tells d0 → IsSettled d0.now) → OnlyReads d0 d1 → StaysRead d0 d1
-read_still d0 d1 settled reads told pages was = only_read d0 (settled told) told pages was d1 reads
+read_still d0 d1 settled reads told first pages was = only_read d0 (settled told) told first pages was d1 reads
 
 module _ (d0 d1 : Disk) (redone : Redone) (sound : IsSound d0.sizes redone) (reads : OnlyReads d0 d1) where
   sound-read : IsSound d1.sizes redone
@@ -59,8 +59,8 @@ module _ (d0 d1 : Disk) (redone : Redone) (sound : IsSound d0.sizes redone) (rea
 
   -- so it is while the slot is made ready, whatever that answers
   pub readied_still : (Tells d0 → IsSettled d0.now) → (Tells d0 → (groups : List Group) × HasRecovered d0.sizes d0.now.contents groups redone) → (d2 : Disk) (vol slot : ℕ) → vol ≡ redone.anchor.log_vol → slot ≡ 1 - redone.anchor.slot → ReadiesSlot d1 d2 vol slot → StaysRead d0 d2
-  readied_still settled recovered d2 vol slot is_vol is_slot readies told pages was =
-      slot_readied d0 (settled told) told pages was d1 reads redone (recovered told).0 (recovered told).1 d2
+  readied_still settled recovered d2 vol slot is_vol is_slot readies told first pages was =
+      slot_readied d0 (settled told) told first pages was d1 reads redone (recovered told).0 (recovered told).1 d2
       (subst (λ (v : ℕ). ReadiesSlot d1 d2 v (1 - redone.anchor.slot)) is_vol (subst (λ (s : ℕ). ReadiesSlot d1 d2 vol s) is_slot readies))
 
   module _ (settled : Tells d0 → IsSettled d0.now) (recovered : Tells d0 → (groups : List Group) × HasRecovered d0.sizes d0.now.contents groups redone) (d2 : Disk) (vol slot : ℕ) (is_vol : vol ≡ redone.anchor.log_vol) (is_slot : slot ≡ 1 - redone.anchor.slot)
@@ -82,10 +82,10 @@ module _ (d0 d1 : Disk) (redone : Redone) (sound : IsSound d0.sizes redone) (rea
     -- what the start is read as, each image is while the log is settled, and in the end it is home
     module _ (d3 : Disk) (brings : BringsHome d2 d3 redone.images (settled_anchor redone)) (readable : SettlesReadably d2 d3 redone) where
       pub settled_still : StaysRead d0 d3
-      settled_still told pages was = log_settled d0 (settled told) told pages was d1 reads redone (recovered told).0 (recovered told).1 d2 slot_readies (ready_then told) d3 brings readable
+      settled_still told first pages was = log_settled d0 (settled told) told first pages was d1 reads redone (recovered told).0 (recovered told).1 d2 slot_readies (ready_then told) d3 brings readable
 
       pub settled_home : HasBroughtHome d2 d3 redone.images (settled_anchor redone) → StandsAtHome d0 d3
-      settled_home done told pages was = pages_home d0 (settled told) told pages was d1 reads redone (recovered told).0 (recovered told).1 d2 slot_readies (ready_then told) d3 brings readable done
+      settled_home done told first pages was = pages_home d0 (settled told) told first pages was d1 reads redone (recovered told).0 (recovered told).1 d2 slot_readies (ready_then told) d3 brings readable done
 
     -- the anchor after it finds its slot ready
     pub next_slot_ready : (d3 : Disk) (next : Anchor) → HasBroughtHome d2 d3 redone.images (settled_anchor redone) → next ≡ settled_anchor redone → Tells d0 → IsNextReady d3 next

@@ -1,5 +1,5 @@
 -- Images of which recovery takes the log, and that calls leave no others.
-use Rattle.std.specs.Prelude.{ℕ, ◌+◌, ◌*◌, ◌^◌, ◌<◌, ◌≤◌, List, Some}
+use Rattle.std.specs.Prelude.{◌≡◌, ℕ, ◌+◌, ◌*◌, ◌^◌, ◌<◌, ◌≤◌, List, Some}
 use Rattle.log_ring.specs.domain_base.Limits.{block_bytes, log_pages, page_bytes}
 use Rattle.log_ring.specs.volume_disk.Disk.{Disk, MayLeave, Tells}
 use Rattle.log_ring.specs.volume_disk.Image.{Image, Places}
@@ -47,6 +47,11 @@ restarted anchor number slot start group = record anchor {
   start = start;
   group = group;
 }
+
+-- these alone differ from another anchor
+abbrev pub IsRestartOf : Anchor → Anchor → Type 0
+IsRestartOf first anchor =
+    anchor ≡ restarted first anchor.number anchor.slot anchor.start anchor.group
 
 -- it would be good too, where these are in their ranges
 abbrev pub RestartsGood : Disk → Anchor → ℕ → ℕ → ℕ → ℕ → Type 0

@@ -12,7 +12,7 @@ use Rattle.log_ring.specs.disk_label.Slot.{IsReadyFor}
 use Rattle.log_ring.specs.disk_label.declared.anchor.Anchor.{Anchor}
 use Rattle.log_ring.specs.Groups.{Group, HasLog, LogStands, pages_in, redone}
 use Rattle.log_recovery.specs.Outcome.{HasGoodAnchor}
-use Rattle.log_recovery.specs.Readable.{IsGoodNow}
+use Rattle.log_recovery.specs.Readable.{IsGoodNow, IsRestartOf}
 use Rattle.log_recovery.specs.Settled.{HasNumbersLeft}
 use Rattle.log_recovery.specs.declared.redone.Redone.{Redone}
 use Rattle.log_recovery.specs.declared.settling_fault.SettleFault.{SettleFault}
@@ -22,24 +22,29 @@ use Rattle.log_recovery.specs.declared.settling_fault.SettleFault.TheVariants.{N
 abbrev pub Anywhere : Places
 Anywhere v k = Unit {0}
 
--- recovery takes an image, and its pages once redone, those of anchors aside, are these
-pub record ReadsAs (sizes : List ℕ) (pages : Pages) (image : Image) : Type 0 where
-  pub anchor : Anchor
-  pub groups : List Group
-  pub good : HasGoodAnchor sizes image anchor
-  pub log : HasLog sizes anchor groups image
-  pub same : (home : Home) → home.page ≢ anchors_page → redone groups image home ≡ pages home
+-- recovery takes an image: its anchor is this one, but for what a checkpoint writes anew, and its
+-- pages once redone, those of anchors aside, are these
+pub record ReadsAs (sizes : List ℕ) (first : Anchor) (pages : Pages) (image : Image) : Type 0
+  where
+    pub anchor : Anchor
+    pub groups : List Group
+    pub good : HasGoodAnchor sizes image anchor
+    pub restarts : IsRestartOf first anchor
+    pub log : HasLog sizes anchor groups image
+    pub same : (home : Home) → home.page ≢ anchors_page → redone groups image home ≡ pages home
 
--- what the contents of the start are read as, each image is that is left since
+-- what the contents of the start are read as, anchor and pages, each image is that is left since
 abbrev pub StaysRead : Disk → Disk → Type 0
 StaysRead old new =
-    Tells old → (pages : Pages) → ReadsAs old.sizes pages old.now.contents
-    → LeavesOnly old new (ReadsAs old.sizes pages)
+    Tells old → (first : Anchor) (pages : Pages)
+    → ReadsAs old.sizes first pages old.now.contents
+    → LeavesOnly old new (ReadsAs old.sizes first pages)
 
 -- and in the end these pages stand at their homes on each
 abbrev pub StandsAtHome : Disk → Disk → Type 0
 StandsAtHome old new =
-    Tells old → (pages : Pages) → ReadsAs old.sizes pages old.now.contents
+    Tells old → (first : Anchor) (pages : Pages)
+    → ReadsAs old.sizes first pages old.now.contents
     → (image : Image) → MayLeave new.now image
     → (home : Home) → home.page ≢ anchors_page → pages_in image home ≡ pages home
 

@@ -15,8 +15,8 @@ use log_ring::{Anchor, Rack, VolIx, ready_slot};
 /// next anchor ready, brings the images home, and writes that anchor, which it returns. The log
 /// then has no group after it, all pages stand at their homes, nothing is pending, and the slot of
 /// the anchor after it is ready. Whatever it returns, recovery accepts each image that a stop may
-/// leave since then, and each page except those of anchors is then as it was once the log was
-/// redone.
+/// leave since then. Its anchor says what it said, but for where the log starts, and each page
+/// except those of anchors is then as it was once the log was redone.
 ///
 /// Fails with `NoNumbers` if the anchor or the next group has the last number that there is; then
 /// nothing was done. Fails with `Slot` or `Write` if a call failed on the volume that they name.

@@ -50,7 +50,7 @@ contents_left disk bytes = record { synced = λ v k is. refl; bytes = bytes }
 
 -- by reads alone nothing is changed
 pub read_still : (d0 d1 : Disk) → (Tells d0 → IsSettled d0.now) → OnlyReads d0 d1 → StaysRead d0 d1
-read_still d0 d1 settled reads told pages was = only_read d0 (settled told) told pages was d1 reads
+read_still d0 d1 settled reads told first pages was = only_read d0 (settled told) told first pages was d1 reads
 
 module _ (d0 d1 : Disk) (redone : Redone) (sound : IsSound d0.sizes redone) (reads : OnlyReads d0 d1) where
   sound-read : IsSound d1.sizes redone
@@ -77,8 +77,8 @@ module _ (d0 d1 : Disk) (redone : Redone) (sound : IsSound d0.sizes redone) (rea
 
   -- so it is while the slot is made ready, whatever that answers
   pub readied_still : (Tells d0 → IsSettled d0.now) → (Tells d0 → (groups : List Group) × HasRecovered d0.sizes d0.now.contents groups redone) → (d2 : Disk) (vol slot : ℕ) → vol ≡ redone.anchor.log_vol → slot ≡ 1 - redone.anchor.slot → ReadiesSlot d1 d2 vol slot → StaysRead d0 d2
-  readied_still settled recovered d2 vol slot is_vol is_slot readies told pages was =
-      slot_readied d0 (settled told) told pages was d1 reads redone (recovered told).0 (recovered told).1 d2
+  readied_still settled recovered d2 vol slot is_vol is_slot readies told first pages was =
+      slot_readied d0 (settled told) told first pages was d1 reads redone (recovered told).0 (recovered told).1 d2
       (subst (λ (v : ℕ). ReadiesSlot d1 d2 v (1 - redone.anchor.slot)) is_vol (subst (λ (s : ℕ). ReadiesSlot d1 d2 vol s) is_slot readies))
 
   module _ (settled : Tells d0 → IsSettled d0.now) (recovered : Tells d0 → (groups : List Group) × HasRecovered d0.sizes d0.now.contents groups redone) (d2 : Disk) (vol slot : ℕ) (is_vol : vol ≡ redone.anchor.log_vol) (is_slot : slot ≡ 1 - redone.anchor.slot)
@@ -100,10 +100,10 @@ module _ (d0 d1 : Disk) (redone : Redone) (sound : IsSound d0.sizes redone) (rea
     -- what the start is read as, each image is while the log is settled, and in the end it is home
     module _ (d3 : Disk) (brings : BringsHome d2 d3 redone.images (settled_anchor redone)) (readable : SettlesReadably d2 d3 redone) where
       pub settled_still : StaysRead d0 d3
-      settled_still told pages was = log_settled d0 (settled told) told pages was d1 reads redone (recovered told).0 (recovered told).1 d2 slot_readies (ready_then told) d3 brings readable
+      settled_still told first pages was = log_settled d0 (settled told) told first pages was d1 reads redone (recovered told).0 (recovered told).1 d2 slot_readies (ready_then told) d3 brings readable
 
       pub settled_home : HasBroughtHome d2 d3 redone.images (settled_anchor redone) → StandsAtHome d0 d3
-      settled_home done told pages was = pages_home d0 (settled told) told pages was d1 reads redone (recovered told).0 (recovered told).1 d2 slot_readies (ready_then told) d3 brings readable done
+      settled_home done told first pages was = pages_home d0 (settled told) told first pages was d1 reads redone (recovered told).0 (recovered told).1 d2 slot_readies (ready_then told) d3 brings readable done
 
     sizes-2 : d2.sizes ≡ d0.sizes
     sizes-2 = readies.touches.sizes ∙ reads.touches.sizes
@@ -309,8 +309,8 @@ module _ (d0 d1 : Disk) (log : Log) (is : IsLog log) (rests : IsAtRest d0 log) (
 
   pub reads_as_before : ReadsAsBefore d0 d1 log
   reads_as_before told groups stands =
-      weaker d0 d1 (λ image. Means groups image × IsReadable d0.sizes image) (λ image. (before : Image) × MayLeave d0.now before × ReadsAs d0.sizes (redone_pages groups before) image)
-      (λ image is. reads_from d0 log.anchor groups next image is.0 is.1) (both d0 d1 (Means groups) (IsReadable d0.sizes) (means told groups stands) (readable told groups stands))
+      weaker d0 d1 (λ image. Means groups image × IsReadable d0.sizes image) (λ image. (before : Image) × MayLeave d0.now before × ReadsAs d0.sizes log.anchor (redone_pages groups before) image)
+      (λ image is. reads_from d0 log.anchor groups next image refl is.0 is.1) (both d0 d1 (Means groups) (IsReadable d0.sizes) (means told groups stands) (readable told groups stands))
 
   module _ (done : HasCheckpointed d0 d1 log (next_anchor log log.anchor)) where
     pub comes_home : ComesHome d0 d1 log
@@ -354,5 +354,5 @@ module _ (d0 d1 : Disk) (log new : Log) (anchor : Anchor) (is : IsLog log) (rest
 -- nothing is done
 pub nothing_closed : (d0 : Disk) (log : Log) (is : IsLog log) → IsAtRest d0 log → ReadsAsBefore d0 d0 log
 nothing_closed d0 log is rests told groups stands =
-    started d0 (λ image. (before : Image) × MayLeave d0.now before × ReadsAs d0.sizes (redone_pages groups before) image)
-    (λ image left. (image, left, record { anchor = log.anchor; groups = groups; good = rests.good told image left; log = stands.stands image left; same = λ home beside. refl }))
+    started d0 (λ image. (before : Image) × MayLeave d0.now before × ReadsAs d0.sizes log.anchor (redone_pages groups before) image)
+    (λ image left. (image, left, record { anchor = log.anchor; groups = groups; good = rests.good told image left; restarts = refl; log = stands.stands image left; same = λ home beside. refl }))

@@ -80,7 +80,7 @@ ReadsAsBefore old new log =
     Tells old → (groups : List Group) → Stands old log groups
     → LeavesOnly old new
     (λ image. (before : Image) × MayLeave old.now before
-    × ReadsAs old.sizes (redone groups before) image)
+    × ReadsAs old.sizes log.anchor (redone groups before) image)
 
 -- and in the end its pages stand at their homes
 abbrev pub ComesHome : Disk → Disk → Log → Type 0
