@@ -12,7 +12,7 @@ use Rattle.run_parts.specs.script_text.declared.script.Section.{Section}
 use Rattle.domain_attaching.specs.Settling.{StaysReadSince}
 use Rattle.advfs_run.specs.Runs.{BeginsNot, HasFailed, LeadsFromNew, MakesNone, RunsFrom, WriteFailed, WritesPassed}
 use Rattle.run_parts.specs.Answering.{SameByNumber}
-use Rattle.run_parts.specs.Made.{MakeEnds}
+use Rattle.run_parts.specs.Made.{MakeEnds, TellsOfSmall}
 use Rattle.run_parts.specs.Reading.{HasRead, IsScript}
 use Rattle.run_parts.specs.Transfer.{AppendsFront}
 use Rattle.run_parts.specs.Verified.{VerifyEnds}
@@ -119,11 +119,11 @@ VerifyEndsFor (Ok Verify) old new status before after =
     OnlyReads old new × VerifyEnds old new status before after
 VerifyEndsFor other old new status before after = Unit {0}
 
--- making touches the first volume alone, and ends by its status as `MakeEnds` says; of other words
--- nothing is said
+-- making touches the first volume alone, and ends by its status as `MakeEnds` says, which tells of
+-- a volume that is too small; of other words nothing is said
 abbrev pub MakeEndsFor : Result Form ℕ → Disk → Disk → Status → Type 0
 MakeEndsFor (Ok (Make version)) old new status =
-    Touches old new IsOnFirst × MakeEnds version old new status
+    Touches old new IsOnFirst × MakeEnds version old new status × TellsOfSmall old status
 MakeEndsFor other old new status = Unit {0}
 
 -- a stop as a domain is made leaves no anchor that counts, or the empty domain, where none counted

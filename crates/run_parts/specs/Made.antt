@@ -29,3 +29,9 @@ MakeEnds version old new (status.VolumeFault vol) =
     HasSlotCause old new (Read vol) ⊎ HasSlotCause old new (Write vol)
 MakeEnds version old new status.OutOfMemory = new ≡ old
 MakeEnds version old new other = ⊥
+
+-- where the first volume is too small for a domain, the status says that and nothing else
+abbrev pub TellsOfSmall : Disk → Status → Type 0
+TellsOfSmall disk end =
+    let pages = volume_pages disk.sizes 1 in
+    pages < min_first_volume_pages → end ≡ status.VolumeSmall pages

@@ -3,7 +3,7 @@ ghost use Rattle.std.specs.Prelude.{◌≡◌, length};
 ghost use Rattle.domain_faults.specs.volume_disk.Disk.{Tells};
 ghost use Rattle.domain_faults.specs.volume_disk.Run.{LeavesOnly, Touches};
 ghost use Rattle.domain_making.specs.Making.{AreSlotsReady, IsNoneOrEmpty, IsOnFirst, pages_in_use};
-ghost use Rattle.run_parts.specs.Made.{MakeEnds, status_of_make_fault};
+ghost use Rattle.run_parts.specs.Made.{MakeEnds, TellsOfSmall, status_of_make_fault};
 
 use crate::status::Status;
 use domain_faults::{Rack, Version};
@@ -28,6 +28,7 @@ pub fn make<R: Rack>(alloc: Global, rack: &mut R, version: Version) -> Status
     requires { length (R.disk rack.old).sizes ≡ 1 }
     ensures touches { Touches (R.disk rack.old) (R.disk rack.new) IsOnFirst }
     ensures ends { MakeEnds version (R.disk rack.old) (R.disk rack.new) result }
+    ensures small { TellsOfSmall (R.disk rack.old) result }
     ensures any_moment { let old = R.disk rack.old in
         let pages = pages_in_use version old.sizes in Tells old → AreSlotsReady old
         → LeavesOnly old (R.disk rack.new) (IsNoneOrEmpty old.sizes version pages) }
