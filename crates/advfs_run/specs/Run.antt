@@ -6,7 +6,7 @@ use Rattle.domain_attaching.specs.volume_disk.Disk.{Disk, Tells, volume_pages}
 use Rattle.domain_attaching.specs.volume_disk.Run.{LeavesOnly, OnlyReads, Touches}
 use Rattle.domain_attaching.specs.fileset_values.declared.entry.Entry.{Entry}
 use Rattle.run_parts.specs.script_text.History.{history_text}
-use Rattle.domain_attaching.specs.domain_making.Making.{AreSlotsReady, IsNoneOrEmpty, IsOnFirst, pages_in_use}
+use Rattle.domain_attaching.specs.domain_making.Making.{AreSlotsReady, IsBeforeNoneOrEmpty, IsNoneOrEmpty, IsOnFirst, pages_in_use}
 use Rattle.run_parts.specs.script_text.declared.script.Script.{Script}
 use Rattle.run_parts.specs.script_text.declared.script.Section.{Section}
 use Rattle.domain_attaching.specs.Settling.{StaysReadSince}
@@ -126,10 +126,13 @@ MakeEndsFor (Ok (Make version)) old new status =
     Touches old new IsOnFirst × MakeEnds version old new status × TellsOfSmall old status
 MakeEndsFor other old new status = Unit {0}
 
--- a stop as a domain is made leaves no anchor that counts, or the empty domain, where none counted
+-- a stop as a domain is made leaves no anchor that counts, or the empty domain, where none counted;
+-- else also what was there, but for the gates of anchors
 abbrev pub StopsFor : Result Form ℕ → Disk → Disk → Type 0
-StopsFor (Ok (Make version)) old new = Tells old → AreSlotsReady old
-    → LeavesOnly old new (IsNoneOrEmpty old.sizes version (pages_in_use version old.sizes))
+StopsFor (Ok (Make version)) old new =
+    let pages = pages_in_use version old.sizes in
+    (Tells old → LeavesOnly old new (IsBeforeNoneOrEmpty old version pages))
+    × (Tells old → AreSlotsReady old → LeavesOnly old new (IsNoneOrEmpty old.sizes version pages))
 StopsFor other old new = Unit {0}
 
 -- ** The text

@@ -1,18 +1,19 @@
 -- The first volume while its slots are closed and its label is written.
 use Rattle.std.proofs.Common.{◌≡◌, ◌∙◌, ◌⊎◌, inl, inr, ℕ, ◌+◌, ◌-◌, ◌*◌, ◌%◌, ◌≤◌, List, None, sym, ap, subst, arith}
 use Rattle.std.proofs.lemmas.Bool.{cases_eq}
+use Rattle.domain_layout.specs.domain_base.declared.version.Version.{Version}
 use Rattle.domain_layout.specs.volume_disk.Disk.{Disk, MayLeave, Tells}
 use Rattle.domain_layout.specs.volume_disk.Image.{Image, IsIn, SameOutside}
 use Rattle.domain_layout.specs.volume_disk.Run.{LeavesOnly, MayLeaveTorn, OnlyWrites, Touches}
 use Rattle.domain_layout.proofs.OfVolumeDisk.Bytes.{bytes_from-same}
-use Rattle.domain_layout.proofs.OfVolumeDisk.Laws.{leaves-now, only_writes-then, only_writes-wider, then_on}
+use Rattle.domain_layout.proofs.OfVolumeDisk.Laws.{leaves-now, only_writes-then, only_writes-wider, started, then_on, untorn, weaker}
 use Rattle.domain_layout.specs.disk_label.Anchor.{Counts, IsAnchor, gate_of, volume_of}
 use Rattle.domain_layout.specs.disk_label.Body.{anchor_from}
 use Rattle.domain_layout.specs.disk_label.Slot.{HasAnchor, HasNoAnchorOn, IsGateOf, IsOnAnchors}
 use Rattle.domain_layout.proofs.OfDiskLabel.Elsewhere.{anchor_since}
 use Rattle.domain_layout.proofs.OfDiskLabel.Gates.{keeps_anchor_by_gates}
 use Rattle.domain_layout.proofs.OfDiskLabel.Slots.{Counts-same}
-use Rattle.domain_making.specs.Making.{AreSlotsReady, HasNoOtherAnchor}
+use Rattle.domain_making.specs.Making.{AreSlotsReady, HasNoOtherAnchor, IsBeforeNoneOrEmpty, IsNoneOrEmpty}
 use Rattle.domain_making.specs.Written.{IsInFront}
 
 gates_in_front : (v k : ℕ) → IsGateOf 1 v k → IsInFront v k
@@ -82,3 +83,29 @@ module _ (d0 d1 d2 : Disk) (first : OnlyWrites d0 d1 (IsGateOf 1)) (second : Onl
         let has : HasAnchor d1 None = λ image left. subst (λ sizes. IsAnchor sizes image None) (sym first.touches.sizes) (leaves-now d0 d1 (λ image. IsAnchor d0.sizes image None) so_far image left) in
         then_on d0 d1 d2 (λ image. IsAnchor d0.sizes image None) so_far
         (subst (λ sizes. LeavesOnly d1 d2 (λ image. IsAnchor sizes image None)) first.touches.sizes (label_since has))
+
+-- ---- over a domain of before
+
+pub gates_over : (version : Version) (pages : ℕ) (d0 d1 : Disk) → OnlyWrites d0 d1 (IsGateOf 1) → Tells d0 → LeavesOnly d0 d1 (IsBeforeNoneOrEmpty d0 version pages)
+gates_over version pages d0 d1 first told = weaker d0 d1 (MayLeaveTorn (IsGateOf 1) d0.now) (IsBeforeNoneOrEmpty d0 version pages) (λ image torn. inl torn) (first.touches.tears told)
+
+-- calls after that leave no anchor that counts, or the empty domain
+pub over_then : (version : Version) (pages : ℕ) (d0 d1 d2 : Disk) → d1.sizes ≡ d0.sizes → LeavesOnly d0 d1 (IsBeforeNoneOrEmpty d0 version pages) → LeavesOnly d1 d2 (IsNoneOrEmpty d1.sizes version pages)
+    → LeavesOnly d0 d2 (IsBeforeNoneOrEmpty d0 version pages)
+over_then version pages d0 d1 d2 same so_far more =
+    then_on d0 d1 d2 (IsBeforeNoneOrEmpty d0 version pages) so_far
+    (weaker d1 d2 (IsNoneOrEmpty d0.sizes version pages) (IsBeforeNoneOrEmpty d0 version pages) (λ image is. inr is) (subst (λ (s : List ℕ). LeavesOnly d1 d2 (IsNoneOrEmpty s version pages)) same more))
+
+pub over_none : (version : Version) (pages : ℕ) (d0 d1 d2 : Disk) → d1.sizes ≡ d0.sizes → LeavesOnly d0 d1 (IsBeforeNoneOrEmpty d0 version pages) → LeavesOnly d1 d2 (λ image. IsAnchor d1.sizes image None)
+    → LeavesOnly d0 d2 (IsBeforeNoneOrEmpty d0 version pages)
+over_none version pages d0 d1 d2 same so_far more =
+    over_then version pages d0 d1 d2 same so_far (weaker d1 d2 (λ image. IsAnchor d1.sizes image None) (IsNoneOrEmpty d1.sizes version pages) (λ image none. inl none) more)
+
+pub first_over : (version : Version) (pages : ℕ) (d0 d1 d2 : Disk) → OnlyWrites d0 d1 (IsGateOf 1) → OnlyWrites d1 d2 (IsIn 1 0 8192) → Tells d0 → HasNoOtherAnchor d0 → HasNoAnchorOn d1 1 → LeavesOnly d0 d2 (IsBeforeNoneOrEmpty d0 version pages)
+first_over version pages d0 d1 d2 first second told others none =
+    over_none version pages d0 d1 d2 first.touches.sizes (gates_over version pages d0 d1 first told)
+    (label_since d0 d1 d2 first second told (no_anchor_now d0 d1 told first.touches others none))
+
+-- nothing was written
+pub not_begun : (version : Version) (pages : ℕ) (disk : Disk) → LeavesOnly disk disk (IsBeforeNoneOrEmpty disk version pages)
+not_begun version pages disk = started disk (IsBeforeNoneOrEmpty disk version pages) (λ image may. inl (untorn (IsGateOf 1) disk.now image may))

@@ -6,10 +6,11 @@ use Rattle.domain_layout.specs.domain_base.Version.{most_pages, number_of}
 use Rattle.domain_layout.specs.domain_base.declared.version.Version.{Version}
 use Rattle.domain_layout.specs.volume_disk.Disk.{Disk, MayLeave, volume_pages}
 use Rattle.domain_layout.specs.volume_disk.Image.{Image, Places}
+use Rattle.domain_layout.specs.volume_disk.Run.{MayLeaveTorn}
 use Rattle.domain_layout.specs.disk_label.Anchor.{Counts, IsAnchor, IsNext, volume_of}
 use Rattle.domain_layout.specs.disk_label.Body.{no_member}
 use Rattle.domain_layout.specs.disk_label.FirstPages.{first_pages}
-use Rattle.domain_layout.specs.disk_label.Slot.{IsReady, IsReadyFor}
+use Rattle.domain_layout.specs.disk_label.Slot.{IsGateOf, IsReady, IsReadyFor}
 use Rattle.domain_layout.specs.disk_label.declared.anchor.Anchor.{Anchor}
 use Rattle.domain_layout.specs.log_ring.Groups.{HasLog, pages_in}
 use Rattle.domain_layout.specs.log_recovery.Members.{label_version}
@@ -89,3 +90,9 @@ AreSlotsReady disk = IsReady disk None 1 0 × IsReady disk None 1 1
 abbrev pub IsNoneOrEmpty : List ℕ → Version → ℕ → Image → Type 0
 IsNoneOrEmpty sizes version pages image =
     IsAnchor sizes image None ⊎ IsEmptyDomain sizes (new_anchor version pages) image
+
+-- or it is one that a stop might have left at the start, but for the gates of the first volume: no
+-- page is overwritten while an anchor of before counts
+abbrev pub IsBeforeNoneOrEmpty : Disk → Version → ℕ → Image → Type 0
+IsBeforeNoneOrEmpty old version pages image =
+    MayLeaveTorn (IsGateOf 1) old.now image ⊎ IsNoneOrEmpty old.sizes version pages image

@@ -8,6 +8,7 @@ ghost use Rattle.domain_making.specs.Fault.{HasCause, IsFaultOf};
 ghost use Rattle.domain_making.specs.Making.{
   AreSlotsReady,
   HasNoOtherAnchor,
+  IsBeforeNoneOrEmpty,
   IsLarge,
   IsMade,
   IsNoneOrEmpty,
@@ -83,6 +84,9 @@ impl NewPages {
         ensures any_moment { let old = R.disk rack.old in
             let pages = pages_in_use version old.sizes in Tells old → AreSlotsReady old
             → LeavesOnly old (R.disk rack.new) (IsNoneOrEmpty old.sizes version pages) }
+        ensures over { let old = R.disk rack.old in
+            let pages = pages_in_use version old.sizes in Tells old
+            → LeavesOnly old (R.disk rack.new) (IsBeforeNoneOrEmpty old version pages) }
         ensures passed { IfOk result (λ _. HasPassed (R.disk rack.old) (R.disk rack.new)) }
         ensures cause { IfErr result (HasCause (R.disk rack.old) (R.disk rack.new)) }
     {
@@ -100,8 +104,8 @@ impl NewPages {
 ///
 /// Both slots of anchors are closed before anything else. The pages are written after that, and
 /// synced, and the anchor comes last. So if no anchor could count before, each image that a stop
-/// leaves on the way has none, or is the empty domain. If the volume had a domain, that is gone as
-/// soon as the first gate is closed.
+/// leaves on the way has none, or is the empty domain. If the volume had a domain, that is gone
+/// once both gates are closed, and no page of it is overwritten before.
 ///
 /// No image that a stop may leave at the start may have an anchor that counts on another volume.
 /// Returns `VolumeSmall` if and only if volume 1 has fewer than 160 pages of 8,192 bytes, and
@@ -122,6 +126,9 @@ pub fn make_domain<R: Rack>(
     ensures any_moment { let old = R.disk rack.old in
         let pages = pages_in_use version old.sizes in Tells old → AreSlotsReady old
         → LeavesOnly old (R.disk rack.new) (IsNoneOrEmpty old.sizes version pages) }
+    ensures over { let old = R.disk rack.old in
+        let pages = pages_in_use version old.sizes in Tells old
+        → LeavesOnly old (R.disk rack.new) (IsBeforeNoneOrEmpty old version pages) }
     ensures small { let pages = volume_pages (R.disk rack.old).sizes 1 in
         pages < min_first_volume_pages → result ≡ Err (VolumeSmall pages) }
     ensures passed { IfOk result (λ _. HasPassed (R.disk rack.old) (R.disk rack.new)) }

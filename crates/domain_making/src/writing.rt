@@ -12,6 +12,7 @@ ghost use Rattle.domain_layout.specs.disk_label.Slot.{HasAnchor};
 ghost use Rattle.domain_making.specs.Making.{
   AreSlotsReady,
   HasNoOtherAnchor,
+  IsBeforeNoneOrEmpty,
   IsMade,
   IsNoneOrEmpty,
   IsOnFirst,
@@ -51,6 +52,8 @@ fn write_first<R: Rack>(rack: &mut R, version: Version, pages: u32) -> Result<()
         → IsFirstSynced (R.disk rack.new).now) }
     ensures any_moment { let old = R.disk rack.old in Tells old → AreSlotsReady old
         → LeavesOnly old (R.disk rack.new) (λ image. IsAnchor old.sizes image None) }
+    ensures over { let old = R.disk rack.old in Tells old → HasNoOtherAnchor old
+        → LeavesOnly old (R.disk rack.new) (IsBeforeNoneOrEmpty old version pages) }
     ensures fault { NamesWriteFault (R.disk rack.old) (R.disk rack.new) result }
 {
     close_gates(rack, first_volume())?;
@@ -90,6 +93,8 @@ fn prepare<R: Rack>(rack: &mut R, version: Version, pages: u32) -> Result<(), Sl
     ensures any_moment { let old = R.disk rack.old in Tells old → HasNoOtherAnchor old
         → AreSlotsReady old
         → LeavesOnly old (R.disk rack.new) (λ image. IsAnchor old.sizes image None) }
+    ensures over { let old = R.disk rack.old in Tells old → HasNoOtherAnchor old
+        → LeavesOnly old (R.disk rack.new) (IsBeforeNoneOrEmpty old version pages) }
     ensures passed { OnOk result (HasPassed (R.disk rack.old) (R.disk rack.new)) }
     ensures fault { IfErr result (HasSlotCause (R.disk rack.old) (R.disk rack.new)) }
 {
@@ -191,6 +196,8 @@ pub(crate) fn write_domain<R: Rack>(
         OnOk result (Tells old → IsMade (R.disk rack.new) (anchor_of version pages)) }
     ensures any_moment { let old = R.disk rack.old in Tells old → AreSlotsReady old
         → LeavesOnly old (R.disk rack.new) (IsNoneOrEmpty old.sizes version pages) }
+    ensures over { let old = R.disk rack.old in Tells old
+        → LeavesOnly old (R.disk rack.new) (IsBeforeNoneOrEmpty old version pages) }
     ensures passed { OnOk result (HasPassed (R.disk rack.old) (R.disk rack.new)) }
     ensures fault { IfErr result (HasSlotCause (R.disk rack.old) (R.disk rack.new)) }
 {

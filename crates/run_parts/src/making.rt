@@ -2,7 +2,7 @@
 ghost use Rattle.std.specs.Prelude.{◌≡◌, length};
 ghost use Rattle.domain_faults.specs.volume_disk.Disk.{Tells};
 ghost use Rattle.domain_faults.specs.volume_disk.Run.{LeavesOnly, Touches};
-ghost use Rattle.domain_making.specs.Making.{AreSlotsReady, IsNoneOrEmpty, IsOnFirst, pages_in_use};
+ghost use Rattle.domain_making.specs.Making.{AreSlotsReady, IsBeforeNoneOrEmpty, IsNoneOrEmpty, IsOnFirst, pages_in_use};
 ghost use Rattle.run_parts.specs.Made.{MakeEnds, TellsOfSmall, status_of_make_fault};
 
 use crate::status::Status;
@@ -23,7 +23,8 @@ fn status_of(fault: &MakeFault) -> Status
 
 /// Makes an empty domain of this version on a rack's only volume, whatever that held before. If no
 /// anchor could count before, each image that a stop leaves on the way has no anchor, or is the
-/// empty domain.
+/// empty domain. Else it may also be as before, but for the gates of anchors: no page is
+/// overwritten while an anchor of before counts.
 pub fn make<R: Rack>(alloc: Global, rack: &mut R, version: Version) -> Status
     requires { length (R.disk rack.old).sizes ≡ 1 }
     ensures touches { Touches (R.disk rack.old) (R.disk rack.new) IsOnFirst }
@@ -32,6 +33,9 @@ pub fn make<R: Rack>(alloc: Global, rack: &mut R, version: Version) -> Status
     ensures any_moment { let old = R.disk rack.old in
         let pages = pages_in_use version old.sizes in Tells old → AreSlotsReady old
         → LeavesOnly old (R.disk rack.new) (IsNoneOrEmpty old.sizes version pages) }
+    ensures over { let old = R.disk rack.old in
+        let pages = pages_in_use version old.sizes in Tells old
+        → LeavesOnly old (R.disk rack.new) (IsBeforeNoneOrEmpty old version pages) }
 {
     match make_domain(alloc, rack, version) {
         Ok(_) => Status::Ok,
