@@ -4,9 +4,9 @@ ghost use Rattle.file_world.specs.Worlds.{IsWorld};
 
 use file_world::calls::{count_in, cut, give, make, move_page, pages_left, world_with_root};
 use file_world::reading::{at, numbers_of, say_numbers, say_whether, small, word_of};
-use file_world::states::{describe, index_at, put_in, say_index, take_out};
+use file_world::states::{describe, index_at, put_in, say_index, set_stripe, take_out};
 use file_world::world::{World, new_world};
-use file_world::{Attributes, PagePlace, RunPlace};
+use file_world::{Attributes, PagePlace, RunPlace, Stripe};
 use release_steps::{Home, Kind, StoreFault, Tag};
 use std::alloc::Global;
 use std::test::Fail;
@@ -88,6 +88,7 @@ fn answer_of_words(
 {
     match word {
         "parent" => put_by(alloc, world, numbers),
+        "stripe" => stripe_by(alloc, world, numbers),
         "describe" => describe_by(alloc, world, tag_of(numbers)),
         "index" => index_by(alloc, world, numbers),
         "take-out" => take_out(alloc, world, tag_of(numbers)),
@@ -163,6 +164,28 @@ fn put_by(alloc: Global, world: &mut World, numbers: &[u64]) -> Result<(), Fail>
     put_in(alloc, world, tag_of(numbers), parent)
 }
 
+/// Stripes a file over so many volumes with a mark, and says the first three of them.
+fn stripe_by(alloc: Global, world: &mut World, numbers: &[u64]) -> Result<(), Fail>
+    requires { IsWorld world.old }
+    ensures { IfOk result (λ _. IsWorld world.new) }
+{
+    let mut vols = [0; 8];
+    vols[0] = byte(numbers, 3);
+    vols[1] = byte(numbers, 4);
+    vols[2] = byte(numbers, 5);
+    let stripe = Stripe {
+        width: byte(numbers, 1),
+        mark: byte(numbers, 2),
+        vols,
+    };
+    set_stripe(alloc, world, tag_of(numbers), stripe)
+}
+
+/// The number at a place, if it is a byte, and else the greatest byte.
+fn byte(numbers: &[u64], place: usize) -> u8 {
+    u8::try_from(at(numbers, place)).unwrap_or(u8::MAX)
+}
+
 /// Says of a file that it is another's, is logged, and has 9 bytes and 3 links.
 fn describe_by(alloc: Global, world: &mut World, tag: Tag) -> Result<(), Fail>
     requires { IsWorld world.old }
@@ -204,6 +227,7 @@ fn answer_of_looks(
         ),
         "kept" => say_kept(world, tag_of(numbers), out),
         "told-index" => say_told_index(world, tag_of(numbers), out),
+        "told-stripe" => say_stripe(world, tag_of(numbers), out),
         "runs" => say_runs(alloc, world, tag_of(numbers), out),
         "count-runs" => count_runs(alloc, world, tag_of(numbers), out),
         "count-there" => count_there(world, numbers, out),
@@ -211,6 +235,25 @@ fn answer_of_looks(
         "standing-in" => say_numbers(out, &[u64::from(count_in(world, small(numbers, 0)))]),
         "pages-of-tags-left" => say_numbers(out, &[pages_left(alloc)? as u64]),
         _ => Err(Fail::new("a line that is not known")),
+    }
+}
+
+/// Says the width and the mark of a file's stripe, and its first three volumes.
+fn say_stripe(world: &World, tag: Tag, out: &mut String) -> Result<(), Fail>
+    requires { IsWorld world.now }
+{
+    match world.files.stripe(&world.pages, tag) {
+        Some(Stripe { width, mark, vols }) => say_numbers(
+            out,
+            &[
+                u64::from(width),
+                u64::from(mark),
+                u64::from(vols[0]),
+                u64::from(vols[1]),
+                u64::from(vols[2]),
+            ],
+        ),
+        None => Ok(out.push_str(": none")?),
     }
 }
 

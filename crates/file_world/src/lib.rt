@@ -10,4 +10,4 @@ pub mod states;
 pub mod world;
 
 // What stands below and is named above.
-pub use index_pages::{Attributes, PagePlace, RunPlace, count_index, index_home};
+pub use index_pages::{Attributes, PagePlace, RunPlace, Stripe, count_index, index_home};

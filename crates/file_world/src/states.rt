@@ -10,9 +10,9 @@ ghost use Rattle.file_world.specs.Worlds.{AreStates, IsWorld, HasIndexAlone, new
 use crate::world::{World, home_at, new_world, volume};
 use index_pages::limits::FILE_PAGES;
 use index_pages::{
-    Attributes, Home, IndexPlace, Kind, PagePlace, Tag, Version, files_are_told, one_file_is_cut,
-    one_file_is_described, one_file_is_made, one_file_is_removed, one_index_is_set,
-    one_page_is_placed, one_parent_is_set,
+    Attributes, Home, IndexPlace, Kind, PagePlace, Stripe, Tag, Version, files_are_told,
+    one_file_is_cut, one_file_is_described, one_file_is_made, one_file_is_removed,
+    one_index_is_set, one_page_is_placed, one_parent_is_set, one_stripe_is_set,
 };
 use std::alloc::Global;
 use std::test::Fail;
@@ -130,6 +130,23 @@ pub fn put_in(alloc: Global, world: &mut World, tag: Tag, parent: Tag) -> Result
         .files
         .set_parent(alloc, &mut world.pages, tag, parent)?;
     one_parent_is_set();
+    Ok(())
+}
+
+/// Says of a live tag's file how it is striped.
+pub fn set_stripe(alloc: Global, world: &mut World, tag: Tag, stripe: Stripe) -> Result<(), Fail>
+    requires { IsWorld world.old }
+    ensures world { OnOk result (IsWorld world.new) }
+    ensures map { (states : States) → AreStates world.old states
+        → OnOk result (AreStates world.new states) }
+{
+    if world.files.attributes(&world.pages, tag).is_none() {
+        return Err(Fail::from("a live tag"));
+    }
+    world
+        .files
+        .set_stripe(alloc, &mut world.pages, tag, stripe)?;
+    one_stripe_is_set();
     Ok(())
 }
 

@@ -16,8 +16,8 @@ pub use walk::{count_index, index_home};
 // What stands below and is named above.
 pub use file_release::{
     Attributes, Bitfiles, Bitmap, CellAt, FilesetNo, FreeCells, FreeSpace, Home, IndexPlace, Kind,
-    MemoryPages, MetaPages, OutOfMemory, Page, PagePlace, Record, Run, RunPlace, StoreFault, Tag,
-    TagDir, Version, VolIx, empty_page, files_are_told, find_record, limits, one_file_is_cut,
-    one_file_is_described, one_file_is_made, one_file_is_removed, one_index_is_set,
-    one_page_is_placed, one_parent_is_set, u32_at,
+    MemoryPages, MetaPages, OutOfMemory, Page, PagePlace, Record, Run, RunPlace, StoreFault,
+    Stripe, Tag, TagDir, Version, VolIx, empty_page, files_are_told, find_record, limits,
+    one_file_is_cut, one_file_is_described, one_file_is_made, one_file_is_removed,
+    one_index_is_set, one_page_is_placed, one_parent_is_set, one_stripe_is_set, u32_at,
 };
