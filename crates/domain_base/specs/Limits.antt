@@ -1,6 +1,6 @@
 -- The limits of a domain and of the language, each number once. The constants of `limits` are these numbers.
 use Rattle.std.specs.Prelude.{◌≡◌, ℕ}
-use Rattle.domain_base.specs.declared.limits.TheConstants.{PAGE_BYTES, BLOCK_BYTES, BLOCKS_PER_PAGE, MAX_VOLUMES, MIN_VOLUME_PAGES, MIN_FIRST_VOLUME_PAGES, MAX_VOLUME_PAGES, MAX_VOLUME_PAGES_4, MAX_FILESETS, MAX_FILESET_NAME, FILESET_SLOTS, FILE_PAGES, FILE_BYTES, MAX_NAME, MAX_PATH_NAMES, MAX_TRANSFER, MAX_CLIENTS, MAX_COMMANDS, MAX_SCRIPT_BYTES, MAX_LINKS, TRANSACTION_PAGES, GROUP_IMAGES, LOG_PAGES, PAGE_CELLS, STEP_HOMES, STEP_CELLS, OPEN_GATE}
+use Rattle.domain_base.specs.declared.limits.TheConstants.{PAGE_BYTES, BLOCK_BYTES, BLOCKS_PER_PAGE, MAX_VOLUMES, MIN_VOLUME_PAGES, MIN_FIRST_VOLUME_PAGES, MAX_VOLUME_PAGES, MAX_VOLUME_PAGES_4, MAX_FILESETS, MAX_FILESET_NAME, FILESET_SLOTS, FILE_PAGES, FILE_BYTES, MAX_NAME, MAX_PATH_NAMES, MAX_TRANSFER, MAX_CLIENTS, MAX_COMMANDS, MAX_SCRIPT_BYTES, MAX_LINKS, TRANSACTION_PAGES, GROUP_IMAGES, LOG_PAGES, PAGE_CELLS, OPEN_GATE}
 
 abbrev pub page_bytes : ℕ
 page_bytes = 8192
@@ -76,12 +76,6 @@ log_pages = 128
 abbrev pub page_cells : ℕ
 page_cells = 28
 
-abbrev pub step_homes : ℕ
-step_homes = 8
-
-abbrev pub step_cells : ℕ
-step_cells = 16
-
 -- the first byte of an open gate
 abbrev pub open_gate : ℕ
 open_gate = 165
@@ -112,6 +106,4 @@ pub record LimitsStand : Type 0 where
   pub images_of_a_group : GROUP_IMAGES ≡ group_images
   pub pages_of_the_log : LOG_PAGES ≡ log_pages
   pub cells_of_a_page : PAGE_CELLS ≡ page_cells
-  pub homes_of_a_step : STEP_HOMES ≡ step_homes
-  pub cells_of_a_step : STEP_CELLS ≡ step_cells
   pub gate : OPEN_GATE ≡ open_gate

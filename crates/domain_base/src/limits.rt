@@ -76,13 +76,6 @@ pub const LOG_PAGES: u32 = 128;
 /// The mcells of a page of the bitfile metadata table.
 pub const PAGE_CELLS: u8 = 28;
 
-/// The most homes that one step of the mover changes, not counting those of log pages. The same
-/// limit holds for a step of a deferred release.
-pub const STEP_HOMES: usize = 8;
-
-/// The most mcells that one step of the mover, or of a deferred release, frees.
-pub const STEP_CELLS: usize = 16;
-
 /// The first byte of an open gate.
 pub const OPEN_GATE: u8 = 0xa5;
 

@@ -14,7 +14,7 @@ mod tail;
 pub use laws::other_pages_stay_held;
 pub use reader::{OwnPages, Reader};
 pub use released::Released;
-pub use releasing::{release_last, release_tail};
+pub use releasing::release_tail;
 
 // What stands below and is named above.
 pub use fileset_files::{

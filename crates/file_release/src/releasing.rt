@@ -1,17 +1,15 @@
 //! The steps in which a file lets go of its pages and cells.
-ghost use Rattle.std.specs.Prelude.{◌≡◌, ◌⊎◌, ◌∷◌, ◌+◌, ◌<◌, ◌≤◌, ◌↔◌, [], ℕ, IfErr, IfOk, IfSome, List, None, OnErr, OnOk, Contains};
+ghost use Rattle.std.specs.Prelude.{◌≡◌, ◌⊎◌, ◌+◌, ◌<◌, ◌≤◌, ◌↔◌, ℕ, IfErr, IfOk, IfSome, List, None, OnErr, OnOk};
 ghost use Rattle.fileset_files.specs.domain_base.declared.place.CellAt.{CellAt as CellAtOf};
 ghost use Rattle.fileset_files.specs.page_store.Pages.{Pages};
 ghost use Rattle.fileset_files.specs.page_store.declared.fault.StoreFault.TheVariants.{NoPage};
-ghost use Rattle.fileset_files.specs.metadata_cells.Chain.{LeavesOthers, PlacedCell, is_at};
-ghost use Rattle.fileset_files.specs.extent_maps.declared.run.PagePlace.TheVariants.{Absent, At};
+ghost use Rattle.fileset_files.specs.metadata_cells.Chain.{PlacedCell};
+ghost use Rattle.fileset_files.specs.extent_maps.declared.run.PagePlace.TheVariants.{At};
 ghost use Rattle.fileset_files.specs.extent_maps.Runs.{place_of};
-ghost use Rattle.fileset_files.specs.free_cells.Cells.{FreesCell, table_of};
-ghost use Rattle.fileset_files.specs.free_space.Spaces.{Spaces};
 ghost use Rattle.fileset_files.specs.file_chains.Allocated.{AreAllocated, FindsNone};
 ghost use Rattle.fileset_files.specs.file_chains.FileChanges.{LeavesOtherCells};
 ghost use Rattle.fileset_files.specs.file_chains.Files.{IsFile, places_of};
-ghost use Rattle.fileset_files.specs.file_chains.MapChanges.{ChangesAtMost, LeavesOffTables, NoneTakes};
+ghost use Rattle.fileset_files.specs.file_chains.MapChanges.{LeavesOffTables, NoneTakes};
 ghost use Rattle.file_release.specs.declared.released.Released.TheVariants as released;
 ghost use Rattle.file_release.specs.Releases.{LacksPlace, LeavesBoth, Releases};
 ghost use Rattle.file_release.specs.Sharing.{AreSharing, HasSharing, IsKnown, IsReader, IsReleased, IsWithin, frozen_of};
@@ -484,23 +482,4 @@ pub fn release_tail<M: MetaPages>(
         ),
         None => Ok(Released::Nothing),
     }
-}
-
-/// Frees the only cell of a file that has no page left. Then nothing is left of the file. Changes
-/// only the page of that cell, and takes no memory.
-pub fn release_last<M: MetaPages>(pages: &mut M, cells: &mut FreeCells, start: CellAt)
-    requires file { (first : PlacedCell) × IsFile (M.pages pages.old) start (first ∷ [])
-        × ((page : ℕ) → places_of (first ∷ []) page ≡ Absent) }
-    requires table { Contains (table_of cells.old start.vol) start.page }
-    requires allocated { (space : Spaces) × AreAllocated space cells.old (M.pages pages.old) }
-    ensures frees { FreesCell start cells.old cells.new }
-    ensures others { LeavesOthers (is_at start) (M.pages pages.old) (M.pages pages.new) }
-    ensures elsewhere { LeavesOffTables cells.new (M.pages pages.old) (M.pages pages.new) }
-    ensures few { ChangesAtMost 1 (M.pages pages.old) (M.pages pages.new) }
-    ensures allocated { (space : Spaces) → AreAllocated space cells.old (M.pages pages.old)
-        → AreAllocated space cells.new (M.pages pages.new) }
-    ensures room { M.room pages.new ≡ M.room pages.old }
-    ensures before { M.before pages.new ≡ M.before pages.old }
-{
-    cells.free_cell(pages, start);
 }
