@@ -1,6 +1,5 @@
 -- How a run ends, by its parts.
 use Rattle.std.proofs.Common.{inl, inr, ◌≡◌, ◌∙◌, ◌⊎◌, ℕ, List, [], ◌++◌, Option, Some, None, Result, Ok, Err, sym, ap, subst, ⊎_elim, map}
-use Rattle.std.proofs.Math.Logic.{∥∥₁_map}
 use Rattle.std.proofs.lemmas.List.{append-nil}
 use Rattle.std.proofs.lemmas.List.Elements.{All-nil}
 use Rattle.std.specs.Io.KnownBytes.{Appends}
@@ -291,15 +290,6 @@ module _ (end s : Status) (prints : PrintsAs end s) where
   by_end P of_end of_sink of_memory =
       ⊎_elim (λ same. subst P (sym same) of_end) (λ other. ⊎_elim (λ sink. subst P (sym sink) of_sink) (λ memory. subst P (sym memory) of_memory) other) prints
 
-  pub ended_well : s ≡ status.Ok → end ≡ status.Ok
-  ended_well ok = ⊎_elim (λ same. sym same ∙ ok) (λ other. ⊎_elim (λ sink. absurd (no_sink (sym sink ∙ ok))) (λ memory. absurd (no_memory (sym memory ∙ ok))) other) prints
-    where
-      no_sink : ¬ status.SinkFault ≡ status.Ok
-      no_sink same = cc
-
-      no_memory : ¬ status.OutOfMemory ≡ status.Ok
-      no_memory same = cc
-
   pub ended_read : (left : Option (List ℕ)) (read : List ℕ) (history : List Entry) (old new : Disk) → Follows left read history → ClosesAs old new end → HasRead left read s history
   ended_read left read history old new is closed =
       by_end (λ x. HasRead left read x history) (closed_read left read history old new end is closed) is (inr is)
@@ -330,30 +320,11 @@ module _ (end s : Status) (prints : PrintsAs end s) where
       no_memory : ¬ status.OutOfMemory ≡ status.VolumeFault vol
       no_memory same = cc
 
-  pub ended_run : (form : Form) (old new : Disk) (history : List Entry) → LeadsFor form old new history (end ≡ status.Ok) → RunsFor (Ok form) old new s history
-  ended_run (a_form.Try pages) old new history leads =
-      inr (∥∥₁_map leads (λ is. record {
-        all = is.all;
-        leads = is.leads;
-        kept = λ closed. is.kept (closed.0, ended_well closed.1);
-        volumes = λ closed. is.volumes (closed.0, ended_well closed.1);
-      }))
-  ended_run a_form.Run old new history leads =
-      inr (record {
-        pages = leads.pages;
-        frame = leads.frame;
-        opened = leads.opened;
-        meant = leads.meant;
-        some = leads.some;
-        leads = ∥∥₁_map leads.leads (λ is. record {
-          all = is.all;
-          leads = is.leads;
-          kept = λ closed. is.kept (closed.0, ended_well closed.1);
-          volumes = λ closed. is.volumes (closed.0, ended_well closed.1);
-        });
-      })
-  ended_run (a_form.Make version) old new history leads = absurd leads
-  ended_run a_form.Verify old new history leads = absurd leads
+  pub ended_run : (form : Form) (old new : Disk) (history : List Entry) → ClosesAs old new end → LeadsFor form old new history (end ≡ status.Ok) → RunsFor (Ok form) old new s history
+  ended_run (a_form.Try pages) old new history closes leads = inr (record { end = end; prints = prints; closes = closes; leads = leads })
+  ended_run a_form.Run old new history closes leads = inr (record { end = end; prints = prints; closes = closes; leads = leads })
+  ended_run (a_form.Make version) old new history closes leads = absurd leads
+  ended_run a_form.Verify old new history closes leads = absurd leads
 
 -- ---- stops, by the form of the words
 

@@ -10,7 +10,7 @@ use Rattle.domain_attaching.specs.domain_making.Making.{AreSlotsReady, IsBeforeN
 use Rattle.run_parts.specs.script_text.declared.script.Script.{Script}
 use Rattle.run_parts.specs.script_text.declared.script.Section.{Section}
 use Rattle.domain_attaching.specs.Settling.{StaysReadSince}
-use Rattle.advfs_run.specs.Runs.{BeginsNot, HasFailed, LeadsFromNew, MakesNone, RunsFrom, WriteFailed, WritesPassed}
+use Rattle.advfs_run.specs.Runs.{BeginsNot, ClosesAs, HasFailed, LeadsFromNew, MakesNone, RunsFrom, WriteFailed, WritesPassed}
 use Rattle.run_parts.specs.Answering.{SameByNumber}
 use Rattle.run_parts.specs.Made.{MakeEnds, TellsOfSmall}
 use Rattle.run_parts.specs.Reading.{HasRead, IsScript}
@@ -66,12 +66,25 @@ HasNotRun Run old new status history = (history ≡ []) × (¬ HasBegun status)
     × LeavesContents old new
 HasNotRun other old new status history = (history ≡ []) × ¬ HasBegun status
 
--- so does the history of a run; at Ok all of that is on the rack. Or none has begun
+-- the status of a run whose domain was closed so, once its history is printed or is not
+abbrev pub PrintsAs : Status → Status → Type 0
+PrintsAs end result = (result ≡ end) ⊎ (result ≡ ended.SinkFault) ⊎ (result ≡ ended.OutOfMemory)
+
+-- a run has begun, and its domain was closed with this end, whether its history was printed or not;
+-- the history leads from what the rack had, and where the end is Ok all of it is on the rack
+pub record HasRun (form : Form) (old new : Disk) (status : Status) (history : List Entry) : Type 0
+  where
+    pub end : Status
+    pub prints : PrintsAs end status
+    pub closes : ClosesAs old new end
+    pub leads : LeadsFor form old new history (end ≡ ended.Ok)
+
+-- so it is of a run, or none has begun
 abbrev pub RunsFor : Result Form ℕ → Disk → Disk → Status → List Entry → Type 0
-RunsFor (Ok (Try pages)) old new status history = HasNotRun (Try pages) old new status history
-    ⊎ LeadsFor (Try pages) old new history (status ≡ ended.Ok)
-RunsFor (Ok Run) old new status history = HasNotRun Run old new status history
-    ⊎ LeadsFor Run old new history (status ≡ ended.Ok)
+RunsFor (Ok (Try pages)) old new status history =
+    HasNotRun (Try pages) old new status history ⊎ HasRun (Try pages) old new status history
+RunsFor (Ok Run) old new status history =
+    HasNotRun Run old new status history ⊎ HasRun Run old new status history
 RunsFor other old new status history = history ≡ []
 
 -- the first volume is large enough for a domain, where one is to be made
@@ -148,10 +161,6 @@ abbrev pub IsTold : Result Form ℕ → Status → Type 0
 IsTold (Ok (Try pages)) status = IsPrinted status
 IsTold (Ok Run) status = IsPrinted status
 IsTold other status = status ≡ ended.Ok
-
--- the status of a run whose domain was closed so, once its history is printed or is not
-abbrev pub PrintsAs : Status → Status → Type 0
-PrintsAs end result = (result ≡ end) ⊎ (result ≡ ended.SinkFault) ⊎ (result ≡ ended.OutOfMemory)
 
 -- it is that of the history, from its front; of an image that is verified see above
 abbrev pub PrintsFor : Result Form ℕ → Option (List ℕ) → Option (List ℕ) → List Entry → Type 0

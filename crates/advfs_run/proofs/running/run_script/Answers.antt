@@ -12,7 +12,7 @@ returns-in-Ok-answer-clause-read g c =
 
 pub returns-in-Ok-answer-clause-runs : goal.returns-in-Ok-answer-clause-runs
 returns-in-Ok-answer-clause-runs g c =
-    rw (c.print_ran.ensures.rack, c.print_ran.ensures.history) (ended_run _ _ c.print_ran.ensures.status c.args.form _ _ _ c.in-Ok-answer.ensures.leads)
+    rw (c.print_ran.ensures.rack, c.print_ran.ensures.history) (ended_run _ _ c.print_ran.ensures.status c.args.form _ _ _ c.in-Ok-answer.ensures.ends c.in-Ok-answer.ensures.leads)
 
 pub returns-in-Err-answer-clause-read : goal.returns-in-Err-answer-clause-read
 returns-in-Err-answer-clause-read g c =
