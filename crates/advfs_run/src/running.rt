@@ -3,6 +3,8 @@
 ghost use Rattle.std.specs.Prelude.{◌≡◌, ◌≢◌, ◌≤◌, ℕ, [], List, All, Err, IfErr, IfOk, MatchResult, Ok, flat_map, map, string_bytes};
 ghost use Rattle.std.specs.Io.KnownBytes.{Appends, Consumes};
 ghost use Rattle.domain_attaching.specs.domain_base.Counts.{HasRisen};
+ghost use Rattle.domain_attaching.specs.log_recovery.Settling.{Anywhere};
+ghost use Rattle.domain_attaching.specs.volume_disk.Run.{Touches};
 ghost use Rattle.run_parts.specs.script_text.History.{history_text};
 ghost use Rattle.run_parts.specs.script_text.Turns.{turn_of, turns_of};
 ghost use Rattle.client_commands.specs.name_commands.Ending.{IsServed};
@@ -98,6 +100,9 @@ fn answer<R: Rack, G: Gate>(
         ran.history.items) }
     ensures leads { IfOk result (λ ran. LeadsFor form (R.disk rack) (R.disk ran.rack)
         ran.history.items (ran.end ≡ Status.Ok)) }
+    ensures touches { IfOk result (λ ran. Touches (R.disk rack) (R.disk ran.rack) Anywhere) }
+    ensures touches_at_fault { IfErr result (λ back.
+        Touches (R.disk rack) (R.disk back.0) Anywhere) }
     ensures large { IfOk result (λ _. IsLargeFor form (R.disk rack)) }
     ensures ends { IfOk result (λ ran. ClosesAs (R.disk rack) (R.disk ran.rack) ran.end) }
     ensures none { IfErr result (λ back. NotBegun form (R.disk rack) (R.disk back.0) back.1) }
@@ -150,6 +155,7 @@ fn run_script<S: Source, R: Rack, K: Sink, G: Gate>(
         × HasRead (S.left script.new) read result.status result.history.items }
     ensures runs { RunsFor (Ok form) (R.disk rack) (R.disk result.rack) result.status
         result.history.items }
+    ensures touches { Touches (R.disk rack) (R.disk result.rack) Anywhere }
     ensures quiet { TellNoFault result.history.items }
     ensures stamps { AreStampedWithin (R.disk rack) (R.disk result.rack) result.history.items }
     ensures ends { EndsFor (Ok form) (R.disk rack) (R.disk result.rack) result.status }
@@ -203,6 +209,7 @@ pub fn run<S: Source, R: Rack + Send, K: Sink, G: Gate + Sync>(
     ensures legal { RunsFor (form_of (map string_bytes words.now)) (R.disk rack)
         (R.disk result.rack) result.status result.history.items }
     ensures stamps { AreStampedWithin (R.disk rack) (R.disk result.rack) result.history.items }
+    ensures touches { Touches (R.disk rack) (R.disk result.rack) Anywhere }
 
     // No reply tells of a volume: no command is answered as if a call of a device had failed.
     ensures quiet { TellNoFault result.history.items }

@@ -192,6 +192,8 @@ pub fn run_on<R: Rack, G: Gate>(
     ensures legal { IfOk result (λ ran. RunsFrom (R.disk rack) (R.disk ran.rack) ran.history.items
         (ran.end ≡ status.Ok)) }
     ensures touches { IfOk result (λ ran. Touches (R.disk rack) (R.disk ran.rack) Anywhere) }
+    ensures touches_at_fault { IfErr result (λ back.
+        Touches (R.disk rack) (R.disk back.0) Anywhere) }
     ensures ends { IfOk result (λ ran. ClosesAs (R.disk rack) (R.disk ran.rack) ran.end) }
     ensures none { IfErr result (λ back. BeginsNot (R.disk rack) (R.disk back.0) back.1) }
 {
@@ -228,6 +230,8 @@ pub fn run_new<R: Rack, G: Gate>(
     ensures legal { IfOk result (λ ran. ∥ LeadsFromNew version (R.disk rack).sizes
         ran.history.items (R.disk ran.rack) (Tells (R.disk rack) × (ran.end ≡ status.Ok)) ∥₁) }
     ensures touches { IfOk result (λ ran. Touches (R.disk rack) (R.disk ran.rack) Anywhere) }
+    ensures touches_at_fault { IfErr result (λ back.
+        Touches (R.disk rack) (R.disk back.0) Anywhere) }
     ensures ends { IfOk result (λ ran. ClosesAs (R.disk rack) (R.disk ran.rack) ran.end) }
     ensures small { let pages = volume_pages (R.disk rack).sizes 1 in
         pages < min_first_volume_pages → result ≡ Err (rack, status.VolumeSmall pages) }

@@ -77,6 +77,8 @@ pub fn make<R: Rack>(
         IfOk result (λ attached. frame_in attached.memory.frame ≡ new_frame version pages) }
     ensures touches { IfOk result (λ attached. Touches (R.disk rack) (R.disk attached.rack)
         IsOnFirst) }
+    ensures touches_at_fault { IfErr result (λ back. Touches (R.disk rack) (R.disk back.0)
+        IsOnFirst) }
     ensures passed { IfOk result (λ attached.
         HasPassed (R.disk rack) (R.disk attached.rack)) }
     ensures any_moment { let old = R.disk rack in

@@ -1,5 +1,7 @@
 use Rattle.std.proofs.Common.{List, inl, ap, subst, sym}
 use Rattle.domain_attaching.specs.fileset_values.declared.entry.Entry.{Entry}
+use Rattle.domain_attaching.specs.log_recovery.Settling.{Anywhere}
+use Rattle.domain_attaching.proofs.OfVolumeDisk.Laws.{touches-none}
 use Rattle.advfs_run.specs.Quiet.{TellNoFault}
 use Rattle.advfs_run.proofs.Endings.{ended_lost, ended_read, ended_run, follows, refused_run, unbegun_ends, unbegun_read, unbegun_run, unread_begun}
 use Rattle.advfs_run.proofs.running.run_script.Goals as goal
@@ -45,3 +47,12 @@ returns-in-Err-answer-clause-lost g c = λ vol is some. absurd (some c.unanswere
 
 pub returns-in-Err-clause-lost : goal.returns-in-Err-clause-lost
 returns-in-Err-clause-lost g c = λ vol is some. absurd (some c.unanswered.ensures.history)
+
+pub returns-in-Err-clause-touches : goal.returns-in-Err-clause-touches
+returns-in-Err-clause-touches g c = rw (c.unanswered.ensures.rack) (touches-none (g.R.Rack.disk c.args.rack) Anywhere)
+
+pub returns-in-Ok-answer-clause-touches : goal.returns-in-Ok-answer-clause-touches
+returns-in-Ok-answer-clause-touches g c = rw (c.print_ran.ensures.rack) c.in-Ok-answer.ensures.touches
+
+pub returns-in-Err-answer-clause-touches : goal.returns-in-Err-answer-clause-touches
+returns-in-Err-answer-clause-touches g c = rw (c.unanswered-in-Err-answer.ensures.rack) c.in-Err-answer.ensures.touches_at_fault

@@ -1,4 +1,6 @@
-use Rattle.std.proofs.Common.{◌≡◌}
+use Rattle.std.proofs.Common.{◌≡◌, ap, subst, sym}
+use Rattle.domain_attaching.specs.volume_disk.Disk.{Disk}
+use Rattle.domain_attaching.specs.volume_disk.Run.{Touches}
 use Rattle.domain_attaching.specs.log_recovery.Settling.{Anywhere}
 use Rattle.domain_attaching.proofs.OfLogRecovery.Settled.{anywhere, anywhere_then}
 use Rattle.domain_attaching.specs.domain_making.Making.{IsOnFirst}
@@ -25,3 +27,11 @@ returns-in-Ok-run_attached-clause-ends g c =
     let old = disk c.args.rack in
     let made = disk c.in-Ok.made.rack in
     closes_since old made (disk c.in-Ok-run_attached.ran.rack) c.in-Ok-run_attached.ran.end (anywhere old made IsOnFirst c.in-Ok.ensures.touches) c.in-Ok.ensures.passed.1 c.in-Ok-run_attached.ensures.ends
+
+pub returns-in-Err-clause-touches_at_fault : goal.returns-in-Err-clause-touches_at_fault
+returns-in-Err-clause-touches_at_fault g c = anywhere (g.R.Rack.disk c.args.rack) _ IsOnFirst c.in-Err.ensures.touches_at_fault
+
+pub returns-in-Err-run_attached-clause-touches_at_fault : goal.returns-in-Err-run_attached-clause-touches_at_fault
+returns-in-Err-run_attached-clause-touches_at_fault g c =
+    let disk = g.R.Rack.disk in
+    subst (λ (d : Disk). Touches (disk c.args.rack) d Anywhere) (sym (ap disk c.in-Err-run_attached.ensures.back)) (anywhere (disk c.args.rack) (disk c.in-Ok.made.rack) IsOnFirst c.in-Ok.ensures.touches)

@@ -1,5 +1,6 @@
 use Rattle.std.proofs.Common.{◌≡◌, ap, refl, subst, sym}
 use Rattle.domain_attaching.specs.volume_disk.Disk.{Disk}
+use Rattle.domain_attaching.specs.volume_disk.Run.{Touches}
 use Rattle.domain_attaching.specs.log_recovery.Settling.{Anywhere}
 use Rattle.domain_attaching.proofs.OfLogRecovery.Settled.{anywhere_then}
 use Rattle.domain_attaching.specs.Settling.{StaysReadSince}
@@ -35,3 +36,8 @@ pub returns-in-Ok-run_attached-clause-ends : goal.returns-in-Ok-run_attached-cla
 returns-in-Ok-run_attached-clause-ends g c =
     let disk = g.R.Rack.disk in
     closes_since (disk c.args.rack) (disk c.in-Ok.attached.rack) (disk c.in-Ok-run_attached.ran.rack) c.in-Ok-run_attached.ran.end c.in-Ok.ensures.touches c.in-Ok.ensures.passed.1 c.in-Ok-run_attached.ensures.ends
+
+pub returns-in-Err-run_attached-clause-touches_at_fault : goal.returns-in-Err-run_attached-clause-touches_at_fault
+returns-in-Err-run_attached-clause-touches_at_fault g c =
+    let disk = g.R.Rack.disk in
+    subst (λ (d : Disk). Touches (disk c.args.rack) d Anywhere) (sym (ap disk c.in-Err-run_attached.ensures.back)) c.in-Ok.ensures.touches
