@@ -2,7 +2,7 @@ use Rattle.std.proofs.Common.{sym, subst}
 use Rattle.free_space.specs.VolumePages.{VolumePages}
 use Rattle.free_space.specs.Bits.{ShowsMap}
 use Rattle.free_space.proofs.Used.{viewed_map}
-use Rattle.free_space.proofs.Runs.{shows_map}
+use Rattle.free_space.proofs.FirstRuns.{shows_map}
 use Rattle.free_space.proofs.bitmap.Bitmap.bytes.Goals as goal
 
 pub returns : goal.returns

@@ -2,7 +2,7 @@ use Rattle.std.proofs.Common.{◌≡◌, Some, None, sym, ap, ◌∙◌, subst, 
 use Rattle.free_space.specs.VolumePages.{VolumePages, IsFirstRun}
 use Rattle.free_space.specs.Bits.{IsKept}
 use Rattle.free_space.proofs.Used.{viewed_map}
-use Rattle.free_space.proofs.Runs.{first_found, none_found}
+use Rattle.free_space.proofs.FirstRuns.{first_found, none_found}
 use Rattle.free_space.proofs.bitmap.Bitmap.first_run_from.Goals as goal
 
 pub returns-in_err-start : goal.returns-in_err-start
