@@ -1,6 +1,6 @@
 pub mod Blank
 pub mod Longest
-pub mod Runs
+pub mod FirstRuns
 pub mod RunsFound
 pub mod Used
 pub mod Walks

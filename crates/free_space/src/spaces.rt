@@ -346,10 +346,8 @@ impl FreeSpace {
         ensures { IfOk result (λ runs. AreRuns (IsRunOf self.now) runs.items) }
     {
         let mut runs = Vec::new(alloc);
-        for index in 0..MAX_VOLUMES {
-            let Some(vol) = VolIx::new(index + 1) else {
-                unreachable!()
-            };
+        for index in 0..self.volumes.len() {
+            let vol = VolIx::new(index as u32 + 1).unwrap();
             self.push_runs(&mut runs, vol)?;
         }
         Ok(runs)

@@ -1,4 +1,5 @@
-use Rattle.std.proofs.Common.{◌≡◌, ℕ, ◌+◌, ◌≤◌, List, length, arith, subst, sym}
+use Rattle.std.proofs.Common.{◌≡◌, ℕ, ◌+◌, ◌≤◌, List, length, arith, subst, sym, Option}
+use Rattle.std.specs.Prelude.{IfSome}
 use Rattle.free_space.specs.Runs.{AddsRuns, AreRuns, IsRunOn}
 use Rattle.free_space.specs.Spaces.{Spaces, volume_of}
 use Rattle.free_space.specs.declared.runs.FreeRun.{FreeRun}
@@ -13,11 +14,11 @@ loop-index-preserved c =
     let s = c.args.self.now in
     let now = c.loop-index.runs.items in
     let new = c.push_runs.new.runs.items in
-    let vol : c.in-Some.vol ≡ c.loop-index.index + 1 = c.in-Some.ensures.value in
+    let vol = subst (λ (r : Option ℕ). IfSome r (λ v. v ≡ c.loop-index.index + 1)) c.unwrap-vol.ensures c.new.ensures.value in
     runs_more s c.loop-index.index now new c.loop-index.invariant (subst (λ (v : ℕ). AddsRuns (IsRunOn v (volume_of s v)) now new) vol c.in_ok-push_runs.ensures)
 
 pub returns : goal.returns
 returns c =
-    let end : c.loop-index.index ≡ 8 = omega (arith, c.loop-index-test.false, c.loop-index.auto.index-end) in
-    runs_all c.args.self.now c.loop-index.index c.loop-index.runs.items (subst (λ (s : Spaces). length s.volumes ≤ c.loop-index.index) c.self.view_is (omega (arith, c.self.invariant.0, end)))
+    let all : length c.self.inside.volumes.items ≤ c.loop-index.index = omega (arith, c.loop-index-test.false, c.len-index-end.ensures) in
+    runs_all c.args.self.now c.loop-index.index c.loop-index.runs.items (subst (λ (s : Spaces). length s.volumes ≤ c.loop-index.index) c.self.view_is all)
     c.loop-index.invariant

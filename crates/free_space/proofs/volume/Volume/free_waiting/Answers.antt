@@ -1,4 +1,4 @@
-use Rattle.std.proofs.Common.{◌≡◌, true, List, ap, subst, sym}
+use Rattle.std.proofs.Common.{◌≡◌, true, List, ap, subst}
 use Rattle.free_space.specs.declared.waiting.Waiting.{Waiting}
 use Rattle.free_space.specs.VolumeSpace.{is_among, with_none_waiting}
 use Rattle.free_space.proofs.Changing.{before_none}
