@@ -113,13 +113,13 @@ module _ (d0 d1 : Disk) (redone : Redone) (sound : IsSound d0.sizes redone) (rea
         was : (v k : ℕ) → d2.now.unsynced v k ≡ false
         was v k = synced (reads.touches.told ∙ told) v k (ap (λ (m : Moment). m.unsynced v k) (reads.now told) ∙ settled told v k)
 
+        few : (home : Home) → HasHome redone.images home → home.vol < 9
+        few home has = let is : IsLoggable redone.anchor home = each_home (IsLoggable redone.anchor) redone.images home sound.loggable has in let last = is.last_volume in omega arith
+
         at_home : list_any (λ (image : PageImage). image.home.vol == v) redone.images ≡ true → d3.now.unsynced v k ≡ false
         at_home some =
             let home = home_on redone.images v some in
             ap (λ (w : ℕ). d3.now.unsynced w k) (sym home.2) ∙ done.synced told-2 home.0 home.1 (few home.0 home.1) k
-
-        few : (home : Home) → HasHome redone.images home → home.vol < 9
-        few home has = let is : IsLoggable redone.anchor home = each_home (IsLoggable redone.anchor) redone.images home sound.loggable has in let last = is.last_volume in omega arith
 
     sizes-2 : d2.sizes ≡ d0.sizes
     sizes-2 = readies.touches.sizes ∙ reads.touches.sizes
