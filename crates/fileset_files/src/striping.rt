@@ -30,8 +30,11 @@ pub struct Stripe {
 
 /// The record for a stripe.
 fn stripe_record(width: u8, mark: u8, vols: &[u8; 8]) -> Record
-    ensures value { result ≡ record_of_stripe (record { width = width; mark = mark;
-        vols = vols.now }) }
+    ensures value { result ≡ record_of_stripe (record {
+      width = width;
+      mark = mark;
+      vols = vols.now;
+    }) }
     ensures kind { kind_of result ≡ 11 }
     ensures allowed { Allowed result }
 {
