@@ -7,7 +7,6 @@ use Rattle.file_chains.specs.domain_base.declared.place.Home.{Home}
 use Rattle.file_chains.specs.domain_base.declared.place.Tag.{Tag}
 use Rattle.file_chains.specs.page_store.Pages.{Pages}
 use Rattle.tag_dirs.specs.declared.dir.TagPlace.{TagPlace}
-use Rattle.tag_dirs.specs.declared.page.TagEntry.{TagEntry}
 use Rattle.tag_dirs.specs.TagPage.{IsNewPage, entry_of}
 use Rattle.tag_dirs.specs.Directory.{AddsPage, CanTake as CanTakeTag, IsDirectory, IsPageOf, RisesTo, cell_for, cell_of, entry_at, home_behind}
 use Rattle.tag_dirs.proofs.Slots.{same_some}

@@ -1,4 +1,4 @@
-use Rattle.std.proofs.Common.{◌≡◌, ◌<◌, ◌^◌, ℕ, suc, List, [], ◌∷◌, length, get_or, arith, rules}
+use Rattle.std.proofs.Common.{◌≡◌, ◌<◌, ◌^◌, ℕ, suc, List, [], ◌∷◌, length, get_or, rules}
 use Rattle.std.specs.List.{AllByRecursion}
 use Rattle.file_chains.specs.cell_records.declared.record.Record.TheVariants.{Stripe}
 use Rattle.file_chains.specs.cell_records.Records.{Allowed}
@@ -13,4 +13,4 @@ unfolding Allowed
 allowed width mark vols width_fits mark_fits eight each = (width_fits, mark_fits, eight, are_small vols each)
 
 pub returns-clause-allowed : goal.returns-clause-allowed
-returns-clause-allowed c = allowed _ _ _ (search rules) (search rules) (search rules) (λ i. omega (arith, c.type_inv.vols i))
+returns-clause-allowed c = allowed _ _ _ (search rules) (search rules) c.told-vols (λ i. c.fits-vols i)
