@@ -1,7 +1,8 @@
 -- Copies stand at the new homes as at the old ones, whatever is done.
-use Rattle.std.proofs.Common.{◌≡◌, ◌||◌, not, true, false, Bool, cond, ℕ, List, [], ◌∷◌, Option, Some, refl, sym, ◌∙◌, ap, subst, ⊎_elim}
+use Rattle.std.proofs.Common.{◌≡◌, ◌||◌, true, false, Bool, cond, ℕ, List, [], ◌∷◌, Option, Some, refl, sym, ◌∙◌, ap, subst, ⊎_elim}
 use Rattle.std.proofs.lemmas.Bool.{cases_Bool, or_left, or_parts, or_right}
 use Rattle.std.specs.List.{find, list_any}
+use Rattle.std.specs.Prelude.{filter}
 use Rattle.std.specs.Option.{option_map}
 use Rattle.log_ring.specs.domain_base.declared.place.Home.{Home}
 use Rattle.log_ring.specs.page_store.Pages.{Pages, same_home, with_page}
@@ -9,7 +10,7 @@ use Rattle.member_moves.specs.declared.page_move.Move.{Move}
 use Rattle.member_moves.specs.declared.page_move.Phase.{Phase}
 use Rattle.member_moves.specs.declared.page_move.Phase.TheVariants.{Copied, Reserved, Switched}
 use Rattle.member_moves.specs.Copies.{AreAlike, IsAlike, with_copy, written}
-use Rattle.member_moves.specs.Moves.{AreApart, IsInNone, has_home, is_from, move_of, other_home, phase_of, started, with_phase, without, writes_of}
+use Rattle.member_moves.specs.Moves.{AreApart, IsInNone, has_home, is_from, move_of, other_home, phase_of, started, with_phase, writes_of}
 use Rattle.member_moves.proofs.HomeTests.{beside, has_from, has_to, homes_same, not_the_home, other_swapped, same_itself}
 
 pub alike_found : (pages : Pages) (moves : List Move) (from : Home) (move : Move) → AreAlike pages moves → move_of moves from ≡ Some move → IsAlike pages move
@@ -34,11 +35,11 @@ pub alike_started : (pages : Pages) (moves : List Move) (from to : Home) → Are
 alike_started pages [] from to alike = ((λ copied. absurd (copied refl)), tt)
 alike_started pages (move ∷ moves) from to alike = (alike.0, alike_started pages moves from to alike.1)
 
-pub alike_without : (pages : Pages) (moves : List Move) (from : Home) → AreAlike pages moves → AreAlike pages (without from moves)
-alike_without pages [] from alike = tt
-alike_without pages (move ∷ moves) from alike =
-    let rest = alike_without pages moves from alike.1 in
-    elim (not (is_from from move)) as (λ b. AreAlike pages (cond b (move ∷ without from moves) (without from moves))) [
+pub alike_left : (keep : Move → Bool) (pages : Pages) (moves : List Move) → AreAlike pages moves → AreAlike pages (filter keep moves)
+alike_left keep pages [] alike = tt
+alike_left keep pages (move ∷ moves) alike =
+    let rest = alike_left keep pages moves alike.1 in
+    elim (keep move) as (λ b. AreAlike pages (cond b (move ∷ filter keep moves) (filter keep moves))) [
       | true ↦ (alike.0, rest)
       | false ↦ rest
     ]

@@ -1,18 +1,18 @@
 -- What holds of moves and pages, over any number of steps.
-use Rattle.std.proofs.Common.{◌≡◌, [], sym, subst, Some}
+use Rattle.std.proofs.Common.{◌≡◌, [], not, sym, subst, Some}
 use Rattle.log_ring.specs.domain_base.declared.place.Home.{Home}
 use Rattle.member_moves.specs.declared.page_move.Move.{Move}
 use Rattle.member_moves.specs.declared.page_move.Phase.TheVariants.{Copied, Reserved, Switched}
-use Rattle.member_moves.specs.Copies.{AreAlike, Holds, Now, Step, Steps, abandon, copy, finish, none, one_more, start, switch, write}
-use Rattle.member_moves.specs.Moves.{AreApart, move_of}
-use Rattle.member_moves.proofs.Alike.{alike_copied, alike_found, alike_started, alike_switched, alike_without, alike_written}
-use Rattle.member_moves.proofs.StayApart.{apart_rephased, apart_started, apart_without}
+use Rattle.member_moves.specs.Copies.{AreAlike, Holds, Now, Step, Steps, abandon, copy, finish, finish_switched, none, one_more, start, switch, write}
+use Rattle.member_moves.specs.Moves.{AreApart, is_from, is_unswitched, move_of}
+use Rattle.member_moves.proofs.Alike.{alike_copied, alike_found, alike_left, alike_started, alike_switched, alike_written}
+use Rattle.member_moves.proofs.StayApart.{apart_left, apart_rephased, apart_started}
 
 pub holds_on : (old new : Now) → Holds old → Step old new → Holds new
 holds_on old new was step =
     elim step as (λ new step. Holds new) [
-      | start from to free_from free_to ↦ record {
-        apart = apart_started old.moves from to was.apart free_from free_to;
+      | start from to free_from free_to other ↦ record {
+        apart = apart_started old.moves from to was.apart free_from free_to other;
         alike = alike_started old.pages old.moves from to was.alike;
       }
       | copy from move found not_switched ↦ record {
@@ -28,12 +28,16 @@ holds_on old new was step =
         alike = alike_switched old.pages old.moves from was.apart copied was.alike;
       }
       | finish from switched ↦ record {
-        apart = apart_without old.moves from was.apart;
-        alike = alike_without old.pages old.moves from was.alike;
+        apart = apart_left (λ move. not (is_from from move)) old.moves was.apart;
+        alike = alike_left (λ move. not (is_from from move)) old.pages old.moves was.alike;
       }
-      | abandon from unswitched ↦ record {
-        apart = apart_without old.moves from was.apart;
-        alike = alike_without old.pages old.moves from was.alike;
+      | finish_switched ↦ record {
+        apart = apart_left is_unswitched old.moves was.apart;
+        alike = alike_left is_unswitched old.pages old.moves was.alike;
+      }
+      | abandon from not_switched ↦ record {
+        apart = apart_left (λ move. not (is_from from move)) old.moves was.apart;
+        alike = alike_left (λ move. not (is_from from move)) old.pages old.moves was.alike;
       }
     ]
 

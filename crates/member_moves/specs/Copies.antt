@@ -1,11 +1,11 @@
 -- What stands at homes while pages move: each write of a page goes to all its homes.
-use Rattle.std.specs.Prelude.{◌≡◌, ◌∷◌, [], List, Option, Some, if◌then◌else◌, ℕ}
+use Rattle.std.specs.Prelude.{◌≡◌, ◌∷◌, [], false, List, Option, Some, if◌then◌else◌, ℕ}
 use Rattle.std.specs.Option.{option_map_or}
 use Rattle.log_ring.specs.domain_base.declared.place.Home.{Home}
 use Rattle.log_ring.specs.page_store.Pages.{Pages, same_home, with_page}
 use Rattle.member_moves.specs.declared.page_move.Move.{Move}
 use Rattle.member_moves.specs.declared.page_move.Phase.TheVariants.{Copied, Reserved, Switched}
-use Rattle.member_moves.specs.Moves.{AreApart, IsInNone, IsNotSwitched, move_of, phase_of, started, with_phase, without, writes_of}
+use Rattle.member_moves.specs.Moves.{AreApart, IsInNone, IsNotSwitched, move_of, phase_of, started, unswitched, with_phase, without, writes_of}
 
 -- the pages on the volumes, and the moves in flight
 pub record Now : Type 0 where
@@ -25,7 +25,7 @@ with_copy from to pages = λ home. if same_home home to then pages from else pag
 -- what may be done, one thing at a time
 pub data Step (old : Now) : Now → Type 0 where
   start : (from to : Home) → IsInNone old.moves from → IsInNone old.moves to
-      → Step old (record old { moves = started from to old.moves })
+      → same_home from to ≡ false → Step old (record old { moves = started from to old.moves })
   copy : (from : Home) (move : Move) → move_of old.moves from ≡ Some move
       → ¬ move.phase ≡ Switched → Step old (record {
         pages = with_copy from move.to old.pages;
@@ -37,6 +37,7 @@ pub data Step (old : Now) : Now → Type 0 where
       → Step old (record old { moves = with_phase Switched from old.moves })
   finish : (from : Home) → phase_of old.moves from ≡ Some Switched
       → Step old (record old { moves = without from old.moves })
+  finish_switched : Step old (record old { moves = unswitched old.moves })
   abandon : (from : Home) → IsNotSwitched old.moves from
       → Step old (record old { moves = without from old.moves })
 
@@ -54,7 +55,7 @@ abbrev pub AreAlike : Pages → List Move → Type 0
 AreAlike pages [] = Unit {0}
 AreAlike pages (move ∷ moves) = IsAlike pages move × AreAlike pages moves
 
--- what each step keeps: no home is in two moves, and pages that were copied stand at both homes
+-- what each step keeps: no home is in two moves or is a move's old and new home at once, and pages that were copied stand at both homes
 pub record Holds (now : Now) : Type 0 where
   pub apart : AreApart now.moves
   pub alike : AreAlike now.pages now.moves

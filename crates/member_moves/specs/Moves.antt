@@ -1,12 +1,12 @@
 -- Moves of pages, each known by its old home.
-use Rattle.std.specs.Prelude.{◌≡◌, ◌||◌, ◌++◌, ◌∷◌, [], Bool, false, not, List, Option, IsSomeAnd, map, filter, if◌then◌else◌}
+use Rattle.std.specs.Prelude.{◌≡◌, ◌||◌, ◌++◌, ◌∷◌, [], Bool, false, true, not, List, Option, IsSomeAnd, map, filter, if◌then◌else◌}
 use Rattle.std.specs.List.{find, list_any}
 use Rattle.std.specs.Option.{option_map}
 use Rattle.log_ring.specs.domain_base.declared.place.Home.{Home}
 use Rattle.log_ring.specs.page_store.Pages.{same_home}
 use Rattle.member_moves.specs.declared.page_move.Move.{Move}
 use Rattle.member_moves.specs.declared.page_move.Phase.{Phase}
-use Rattle.member_moves.specs.declared.page_move.Phase.TheVariants.{Reserved, Switched}
+use Rattle.member_moves.specs.declared.page_move.Phase.TheVariants.{Copied, Reserved, Switched}
 
 -- a move is from that home
 abbrev pub is_from : Home → Move → Bool
@@ -36,10 +36,11 @@ IsNotSwitched moves from = IsSomeAnd (phase_of moves from) (λ phase. ¬ phase �
 abbrev pub IsInNone : List Move → Home → Type 0
 IsInNone moves home = list_any (has_home home) moves ≡ false
 
--- no home is in two of them
+-- no home is in two of them, and none of them is from a home to itself
 abbrev pub AreApart : List Move → Type 0
 AreApart [] = Unit {0}
 AreApart (move ∷ moves) = IsInNone moves move.from × IsInNone moves move.to × AreApart moves
+    × (same_home move.from move.to ≡ false)
 
 -- where a page that stands at a home is written: there, and at the other home of its move
 abbrev pub writes_of : List Move → Home → Home × Option Home
@@ -64,3 +65,11 @@ with_phase phase from moves = map (rephased phase from) moves
 -- the moves but for the one from that home
 abbrev pub without : Home → List Move → List Move
 without from moves = filter (λ move. not (is_from from move)) moves
+
+-- the page's place was not changed yet
+abbrev pub is_unswitched : Move → Bool
+is_unswitched move = elim move.phase [ Reserved ↦ true | Copied ↦ true | Switched ↦ false ]
+
+-- the moves of pages whose place was not changed yet
+abbrev pub unswitched : List Move → List Move
+unswitched moves = filter is_unswitched moves

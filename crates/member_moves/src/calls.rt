@@ -2,6 +2,7 @@
 //! call says this.
 ghost use Rattle.std.specs.Prelude.{◌≡◌, ◌≤◌};
 
+use crate::page_move::is_same;
 use crate::{Moves, Phase};
 use log_ring::{Home, VolIx};
 
@@ -21,9 +22,10 @@ pub fn place(home: &Home) -> Place {
     (home.vol.number(), home.page)
 }
 
-/// Starts a move, unless 8 are in flight or one of them has one of these homes.
+/// Starts a move, unless the two homes are the same, 64 moves are in flight or one of them has one
+/// of these homes.
 pub fn start(moves: &mut Moves, from: &Home, to: &Home) -> bool {
-    if moves.is_full() || moves.is_moving(*from) || moves.is_moving(*to) {
+    if moves.is_full() || moves.is_moving(*from) || moves.is_moving(*to) || is_same(from, to) {
         return false;
     }
     moves.start(*from, *to);

@@ -1,8 +1,9 @@
 //! The moves that are in flight.
 ghost use Rattle.std.specs.Prelude.{◌≡◌, ◌<◌, ◌≤◌, ◌↔◌, [], false, IfOk, IsSomeAnd, IsTrue, length, option_copied};
 ghost use Rattle.std.specs.List.{list_any};
+ghost use Rattle.log_ring.specs.page_store.Pages.{same_home};
 ghost use Rattle.member_moves.specs.declared.page_move.Phase.TheVariants.{Copied, Switched};
-ghost use Rattle.member_moves.specs.Moves.{AreApart, IsInNone, IsNotSwitched, has_home, move_of, phase_of, started, with_phase, without, writes_of};
+ghost use Rattle.member_moves.specs.Moves.{AreApart, IsInNone, IsNotSwitched, has_home, move_of, phase_of, started, unswitched, with_phase, without, writes_of};
 
 use crate::{Move, Phase};
 use log_ring::{Home, OutOfMemory};
@@ -10,10 +11,10 @@ use std::alloc::Global;
 use std::marker::Model;
 
 /// The most pages that move at one time.
-pub const MOST_MOVES: usize = 8;
+pub const MOST_MOVES: usize = 64;
 
-/// The moves in flight, at most 8, each known by its old home. No home is in two of them. No call
-/// but `new` takes memory.
+/// The moves in flight, at most 64, each known by its old home. No home is in two of them, and none
+/// is from a home to itself. No call but `new` takes memory.
 #[derive(Debug, Drop)]
 pub struct Moves {
     moves: Vec<Move>,
@@ -36,7 +37,7 @@ impl Model for Moves {
 }
 
 impl Moves {
-    /// No moves, with room for 8.
+    /// No moves, with room for 64.
     pub fn new(alloc: Global) -> Result<Self, OutOfMemory>
         ensures { IfOk result (λ moves. moves ≡ []) }
     {
@@ -44,7 +45,14 @@ impl Moves {
         Ok(Moves { moves })
     }
 
-    /// Whether 8 moves are in flight, so that no other may be started. The contract also says what
+    /// The moves that are in flight, in the order in which they were started.
+    pub fn moves(&self) -> &[Move]
+        ensures { result.now ≡ self.now }
+    {
+        &self.moves
+    }
+
+    /// Whether 64 moves are in flight, so that no other may be started. The contract also says what
     /// always holds of moves, for callers who need it.
     pub fn is_full(&self) -> bool
         ensures answer { IsTrue result ↔ (length self.now ≡ MOST_MOVES) }
@@ -75,6 +83,7 @@ impl Moves {
         requires room { length self.old < MOST_MOVES }
         requires from { IsInNone self.old from }
         requires to { IsInNone self.old to }
+        requires other { same_home from to ≡ false }
         ensures { self.new ≡ started from to self.old }
     {
         let phase = Phase::Reserved;
@@ -124,6 +133,14 @@ impl Moves {
         ensures { self.new ≡ without from self.old }
     {
         self.remove(&from);
+    }
+
+    /// Ends the moves of all pages whose places were changed: each group that changed one is
+    /// durable.
+    pub fn finish_switched(&mut self)
+        ensures { self.new ≡ unswitched self.old }
+    {
+        self.moves.retain(Move::is_unswitched);
     }
 
     /// Ends a move of a page whose place was not changed, and gives the home that was reserved for

@@ -36,7 +36,7 @@ pub fn moving_pages_are_written_twice()
         → writes_of moves home ≡ (home, None) }
 {}
 
-/// Whatever is done, no home is in two moves.
+/// Whatever is done, no home is in two moves, and no move is from a home to itself.
 pub fn homes_are_of_one_move()
     ensures { (first last : Now) → first.moves ≡ [] → Steps first last → AreApart last.moves }
 {}

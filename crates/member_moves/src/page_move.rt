@@ -1,7 +1,7 @@
 //! One move of a page.
 ghost use Rattle.std.specs.Prelude.{◌≡◌};
 ghost use Rattle.log_ring.specs.page_store.Pages.{same_home};
-ghost use Rattle.member_moves.specs.Moves.{has_home, is_from, other_home, rephased};
+ghost use Rattle.member_moves.specs.Moves.{has_home, is_from, is_unswitched, other_home, rephased};
 
 use log_ring::Home;
 
@@ -24,7 +24,7 @@ pub struct Move {
     pub phase: Phase,
 }
 
-fn is_same(one: &Home, other: &Home) -> bool
+pub(crate) fn is_same(one: &Home, other: &Home) -> bool
     ensures { result ≡ same_home one.now other.now }
 {
     one.vol.number() == other.vol.number() && one.page == other.page
@@ -54,6 +54,13 @@ impl Move {
         } else {
             self.from
         }
+    }
+
+    /// Whether the page's place was not changed yet.
+    pub(crate) fn is_unswitched(&self) -> bool
+        ensures { result ≡ is_unswitched self.now }
+    {
+        self.phase != Phase::Switched
     }
 
     /// Sets the phase, if it is from that home.

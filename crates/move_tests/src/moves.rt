@@ -1,6 +1,6 @@
 //! Moves from pages of volume 1 to pages of volume 2.
 
-use member_moves::calls::{Place, abandon, copy, finish, home, start, switch, writes};
+use member_moves::calls::{Place, abandon, copy, finish, home, place, start, switch, writes};
 use member_moves::{Home, Moves, Phase};
 use std::test::Fail;
 
@@ -129,19 +129,37 @@ fn start_many(moves: &mut Moves, count: u32) -> usize {
 }
 
 #[test]
-fn eight_pages_move_at_one_time(rt: HostRuntime) -> Result<(), Fail> {
+fn sixty_four_pages_move_at_one_time(rt: HostRuntime) -> Result<(), Fail> {
     let mut moves = Moves::new(rt.alloc())?;
     let before = moves.is_full();
-    let started = start_many(&mut moves, 9);
+    let started = start_many(&mut moves, 65);
     let full = moves.is_full();
     abandon(&mut moves, &home(1, 3));
     let after = moves.is_full();
-    let again = start_many(&mut moves, 9);
+    let again = start_many(&mut moves, 65);
     let last = writes(&moves, &home(2, 7));
     assert_eq!(rt;
         ((before, started, full), (after, again, last)),
-        ((false, 8, true), (false, 1, ((2, 7), Some((1, 7)))))
+        ((false, 64, true), (false, 1, ((2, 7), Some((1, 7)))))
     );
+    Ok(())
+}
+
+#[test]
+fn moves_of_changed_places_end_at_once(rt: HostRuntime) -> Result<(), Fail> {
+    let mut moves = Moves::new(rt.alloc())?;
+    start_many(&mut moves, 4);
+    for page in 0..3 {
+        copy(&mut moves, &home(1, page));
+    }
+    switch(&mut moves, &home(1, 0));
+    switch(&mut moves, &home(1, 2));
+    moves.finish_switched();
+    let mut left = Vec::new(rt.alloc());
+    for page_move in moves.moves() {
+        left.push(place(&page_move.from))?;
+    }
+    assert_eq!(rt; left.as_slice(), [(1, 1), (1, 3)].as_slice());
     Ok(())
 }
 
@@ -156,7 +174,8 @@ fn a_home_is_in_one_move(rt: HostRuntime) -> Result<(), Fail> {
         start(&mut moves, &home(1, 6), &to),
         start(&mut moves, &home(1, 6), &from),
         start(&mut moves, &home(2, 5), &home(1, 9)),
+        start(&mut moves, &home(3, 7), &home(3, 7)),
     ];
-    assert_eq!(rt; started, [true, false, false, false, false, true]);
+    assert_eq!(rt; started, [true, false, false, false, false, true, false]);
     Ok(())
 }

@@ -1,7 +1,7 @@
-use Rattle.std.proofs.Common.{◌≡◌, rules, arith, sym, subst, ◌∙◌, ap}
+use Rattle.std.proofs.Common.{◌≡◌, not, rules, arith, sym, subst, ◌∙◌, ap}
 use Rattle.std.proofs.lemmas.Fn.{filter_same}
-use Rattle.member_moves.specs.Moves.{AreApart, without}
-use Rattle.member_moves.proofs.StayApart.{apart_without}
+use Rattle.member_moves.specs.Moves.{AreApart, is_from, without}
+use Rattle.member_moves.proofs.StayApart.{apart_left}
 use Rattle.member_moves.proofs.in_flight.Moves.remove.Goals as goal
 
 pub invariant_of-self : goal.invariant_of-self
@@ -9,7 +9,7 @@ invariant_of-self c =
     let kept : c.retain.new.self.items ≡ without c.args.from.now c.self.inside.moves.items = filter_same _ _ _ (λ x b f k. search rules) _ _ c.retain.ensures.filtered in (
       omega (arith, c.retain.ensures.bound, c.self.invariant.0),
       omega (arith, c.retain.ensures.capacity, c.self.invariant.1),
-      subst AreApart (sym kept) (apart_without c.self.inside.moves.items c.args.from.now c.self.invariant.2),
+      subst AreApart (sym kept) (apart_left (λ move. not (is_from c.args.from.now move)) c.self.inside.moves.items c.self.invariant.2),
     )
 
 pub returns : goal.returns

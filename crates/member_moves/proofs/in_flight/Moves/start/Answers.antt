@@ -11,5 +11,5 @@ invariant_of-self c =
     let none_to = subst (λ (moves : List Move). IsInNone moves c.args.to) (sym c.self.view_is) c.requires.to in (
       omega (arith, c.push_reserved.ensures.len, c.self.invariant.0, c.requires.room, ap length c.self.view_is),
       omega (arith, c.push_reserved.ensures.capacity, c.self.invariant.1),
-      subst AreApart (sym c.push_reserved.ensures.items) (apart_started items c.args.from c.args.to c.self.invariant.2 none_from none_to),
+      subst AreApart (sym c.push_reserved.ensures.items) (apart_started items c.args.from c.args.to c.self.invariant.2 none_from none_to c.requires.other),
     )
