@@ -1,5 +1,5 @@
 -- The pages of a new domain that were put to a store.
-use Rattle.std.proofs.Common.{◌≡◌, ◌∙◌, ◌⊎◌, ℕ, ◌+◌, ◌*◌, ◌<◌, ◌≤◌, cond, nat_eq, true, List, length, Some, IsSomeAnd, slice_index, sym, ap, subst, arith, ⊎_elim}
+use Rattle.std.proofs.Common.{◌≡◌, ◌∙◌, ℕ, ◌+◌, ◌*◌, ◌<◌, ◌≤◌, cond, nat_eq, true, List, length, Some, IsSomeAnd, slice_index, sym, ap, subst, arith, ⊎_elim}
 use Rattle.std.proofs.lemmas.Bool.{and_right, cases_lt, ne_eqb}
 use Rattle.domain_layout.specs.domain_base.Version.{bitmap_pages, most_pages}
 use Rattle.domain_layout.specs.domain_base.declared.version.Version.{Version}

@@ -30,3 +30,8 @@ returns-in-Ok-clause-over g c = λ told others.
     let d2 = g.R.Rack.disk c.ready_slots.new.rack in
     over_none c.args.version c.args.pages d0 d1 d2 c.write_first.ensures.writes.touches.sizes (c.write_first.ensures.over told others)
     (c.ready_slots.ensures.any_moment (c.write_first.ensures.writes.touches.told ∙ told) (c.in-Ok.ensures.none told others) (c.in-Ok.ensures.synced told))
+
+pub returns-in-Ok-clause-ready : goal.returns-in-Ok-clause-ready
+returns-in-Ok-clause-ready g c =
+    on_ok_weaker c.ready_slots.result
+    (λ ready told others. ready (c.write_first.ensures.writes.touches.told ∙ told) (c.in-Ok.ensures.none told others) (c.in-Ok.ensures.synced told)) c.ready_slots.ensures.ready
