@@ -1,9 +1,7 @@
 -- Entries of the pages of an index, page after page.
-use Rattle.std.proofs.Common.{◌≡◌, ◌∙◌, ◌⊎◌, inl, inr, ⊎_elim, ℕ, zero, suc, ◌+◌, ◌<◌, ◌≤◌, ◌-◌, Bool, true, false, cond, List, [], ◌∷◌, ◌++◌, length, map, take, drop, count_by, Option, Some, None, slice_get, nat_le, refl, sym, ap, subst, arith, length-append, length-drop, append_assoc, leb-false}
-use Rattle.std.proofs.lemmas.Bool.{cases_Bool, cases_lt}
+use Rattle.std.proofs.Common.{◌≡◌, ◌∙◌, ◌⊎◌, inl, inr, ⊎_elim, ℕ, suc, ◌+◌, ◌<◌, Bool, true, false, cond, List, [], ◌∷◌, ◌++◌, map, count_by, Some, None, slice_get, nat_le, refl, sym, ap, arith, leb-false}
 use Rattle.std.proofs.lemmas.List.Sums.{sum_by-cons}
 use Rattle.std.specs.List.{AllByRecursion, flat_map}
-use Rattle.fileset_shapes.specs.domain_base.Page.{zero_bytes}
 use Rattle.fileset_shapes.specs.page_store.Bitfiles.{shown_index}
 use Rattle.fileset_shapes.specs.cell_records.Fields.{number_at}
 use Rattle.fileset_shapes.specs.directory_pages.Entries.{Rise, is_below}
@@ -11,7 +9,6 @@ use Rattle.fileset_shapes.specs.directory_pages.Index.{IsIndexPage, all_entries,
 use Rattle.fileset_shapes.specs.directory_pages.declared.entry.IndexEntry.{IndexEntry}
 use Rattle.fileset_shapes.proofs.OfDirectoryPages.Shown.{entries_same}
 use Rattle.fileset_shapes.specs.domain_layout.DirectoryRules.{IsGoodIndexPage, entries_in}
-use Rattle.fileset_shapes.proofs.OfLegalHistories.ValidLemmas.{some_inj}
 use Rattle.fileset_shapes.proofs.OfDirectoryRows.AllLed.{get_parted}
 
 none_is_some : {P X : Type 0} (x : X) → None ≡ Some x → P

@@ -1,6 +1,5 @@
 -- A list of all rows of directories that lead to a tag.
-use Rattle.std.proofs.Common.{◌≡◌, ◌∙◌, ◌⊎◌, inl, inr, ⊎_elim, ℕ, zero, suc, ◌+◌, ◌<◌, ◌≤◌, Bool, true, false, cond, List, [], ◌∷◌, ◌++◌, length, map, Option, Some, None, Contains, slice_get, refl, sym, ap, subst, arith, true≢false}
-use Rattle.std.proofs.lemmas.Bool.{cases_Bool}
+use Rattle.std.proofs.Common.{◌≡◌, ◌∙◌, ◌⊎◌, inl, inr, ⊎_elim, ℕ, zero, suc, ◌+◌, Bool, true, false, cond, List, [], ◌∷◌, ◌++◌, map, Some, None, slice_get, refl, sym, ap, subst, arith}
 use Rattle.fileset_shapes.specs.domain_base.declared.place.Tag.{Tag}
 use Rattle.fileset_shapes.specs.page_store.Bitfiles.{Bitfiles, same_tag}
 use Rattle.fileset_shapes.specs.directory_pages.RowPage.{rows_of}

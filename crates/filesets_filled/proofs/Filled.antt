@@ -1,5 +1,5 @@
 -- The fileset of a shape, with its limits.
-use Rattle.std.proofs.Common.{◌≡◌, ◌∙◌, ℕ, false, List, [], length, map, Option, Some, None, IsSome, IsSomeAnd, Contains, slice_get, refl, sym, ap, subst}
+use Rattle.std.proofs.Common.{◌≡◌, ◌∙◌, false, List, [], Option, Some, None, IsSomeAnd, refl, sym, ap, subst}
 use Rattle.std.specs.FinMap.{get}
 use Rattle.std.specs.Option.{option_map, option_map_or}
 use Rattle.fileset_shapes.specs.domain_base.declared.place.Kind.{Kind}
@@ -11,35 +11,34 @@ use Rattle.fileset_shapes.specs.directory_rows.Directory.{NamesOnce, rows_in}
 use Rattle.fileset_shapes.specs.domain_layout.Filled.{Fills, IsFilled, IsRole}
 use Rattle.fileset_shapes.specs.domain_layout.Read.{contents_of}
 use Rattle.fileset_shapes.specs.domain_layout.Seen.{SeenFile}
-use Rattle.fileset_shapes.specs.domain_layout.Shape.{FilesetShape, limits_in}
-use Rattle.fileset_shapes.specs.filesets_reading.Seen.{IsSeenAs, IsSeenThere}
-use Rattle.fileset_shapes.proofs.OfLegalHistories.ValidLemmas.{from_some_and, some_inj, to_some_and}
-use Rattle.fileset_shapes.specs.legal_histories.Valid.{IsValidFileset, IsValidSlot}
+use Rattle.fileset_shapes.specs.domain_layout.Shape.{FilesetShape}
+use Rattle.fileset_shapes.specs.filesets_reading.Seen.{IsSeenThere}
+use Rattle.fileset_shapes.proofs.OfLegalHistories.ValidLemmas.{from_some_and, to_some_and}
+use Rattle.fileset_shapes.specs.legal_histories.Valid.{IsValidFileset}
 use Rattle.fileset_shapes.specs.fileset_model.Fileset.{Fileset}
-use Rattle.fileset_shapes.specs.fileset_model.LooksLike.{IsShown}
-use Rattle.fileset_shapes.specs.fileset_values.Orders.{Name, Path}
-use Rattle.fileset_shapes.specs.fileset_model.Usage.{is_unlimited, limits_of}
+use Rattle.fileset_shapes.specs.fileset_values.Orders.{Name}
+use Rattle.fileset_shapes.specs.fileset_model.Usage.{is_unlimited}
 use Rattle.fileset_shapes.specs.fileset_values.declared.command.Owner.{Owner}
 use Rattle.fileset_shapes.specs.fileset_model.declared.fileset.FilesetSlot.{FilesetSlot}
 use Rattle.fileset_shapes.specs.fileset_model.declared.fileset.Limits.{Limits}
 use Rattle.fileset_shapes.specs.fileset_model.declared.fileset.Role.{Role}
 use Rattle.fileset_shapes.specs.fileset_model.declared.fileset.Role.TheVariants.{CloneOf, Original}
 use Rattle.fileset_shapes.specs.fileset_table.declared.slot.FilesetEntry.{FilesetEntry}
-use Rattle.fileset_shapes.specs.name_space.Names.{IsShownAs, Names, led_to, number_of}
+use Rattle.fileset_shapes.specs.name_space.Names.{Names, number_of}
 use Rattle.fileset_shapes.specs.name_space.Changes.{new_node}
 use Rattle.fileset_shapes.proofs.OfDirectoryRows.AllLed.{at_contains}
 use Rattle.fileset_shapes.specs.directory_rows.Ways.{HaveNamesOnce, rows_by}
-use Rattle.fileset_shapes.specs.name_space.Parts.{ArePartsOf, node_for, node_in}
+use Rattle.fileset_shapes.specs.name_space.Parts.{ArePartsOf, node_in}
 use Rattle.fileset_shapes.specs.name_space.Trees.{HasRoleOf, IsReached, MakesFileset}
 use Rattle.fileset_shapes.specs.name_space.declared.parts.FilesetParts.{FilesetParts}
 use Rattle.fileset_shapes.specs.name_space.declared.parts.TaggedNode.{TaggedNode}
 use Rattle.fileset_shapes.proofs.OfNameSpace.Made.{valid_as}
 use Rattle.fileset_shapes.specs.Limits.{HasLimitsOf, KeepsFiles}
-use Rattle.fileset_shapes.specs.Found.{SeesShape, file_at, shown_by}
+use Rattle.fileset_shapes.specs.Found.{file_at, shown_by}
 use Rattle.fileset_shapes.specs.declared.found.FilesetSeen.{FilesetSeen}
 use Rattle.fileset_shapes.specs.declared.found.TaggedFile.{TaggedFile}
 use Rattle.filesets_filled.specs.Filling.{SaysFileset}
-use Rattle.filesets_filled.specs.Parts.{ArePartsSeen, IsNodeSeen, MayBeRead, directory_seen, rows_if, rows_seen}
+use Rattle.filesets_filled.specs.Parts.{ArePartsSeen, IsNodeSeen, MayBeRead, rows_if, rows_seen}
 use Rattle.filesets_filled.proofs.PartsRead.{IsNodeAt, are_nodes, file_once, node_of_file, row_pages_good, rows_by_file, rows_shown}
 
 -- ---- limits

@@ -1,14 +1,14 @@
 -- Filesets that are filled slot by slot.
-use Rattle.std.proofs.Common.{◌≡◌, ◌≢◌, ◌∙◌, ◌⊎◌, inl, inr, ⊎_elim, ℕ, zero, suc, ◌+◌, ◌<◌, ◌≤◌, Bool, true, false, ◌&&◌, List, [], ◌∷◌, length, Option, Some, None, IfSome, IsSome, IsSomeAnd, is_some, slice_get, refl, sym, ap, subst, arith, true≢false}
+use Rattle.std.proofs.Common.{◌≡◌, ◌∙◌, ◌⊎◌, inl, inr, ⊎_elim, ℕ, zero, suc, ◌+◌, ◌<◌, true, false, ◌&&◌, List, [], ◌∷◌, Option, Some, None, IfSome, IsSomeAnd, is_some, slice_get, refl, sym, ap, subst, arith, true≢false}
 use Rattle.std.proofs.lemmas.Bool.{cases_lt, eq-eqb}
 use Rattle.std.specs.FinMap as map
 use Rattle.std.specs.List.{AllByRecursion, IsDistinct}
-use Rattle.std.specs.Option.{option_and_then, option_map_or}
+use Rattle.std.specs.Option.{option_map_or}
 use Rattle.fileset_shapes.specs.page_store.Pages.{Pages}
-use Rattle.fileset_shapes.specs.domain_layout.Filled.{AreFilled, Contents, Fills, FillsThere}
+use Rattle.fileset_shapes.specs.domain_layout.Filled.{Fills, FillsThere}
 use Rattle.fileset_shapes.specs.domain_layout.Read.{ReadsFrom, contents_of}
 use Rattle.fileset_shapes.specs.domain_layout.Shape.{FilesetShape, IsShapeOf, Shapes}
-use Rattle.fileset_shapes.proofs.OfLegalHistories.ValidLemmas.{from_some_and, some_inj, to_some_and}
+use Rattle.fileset_shapes.proofs.OfLegalHistories.ValidLemmas.{some_inj, to_some_and}
 use Rattle.fileset_shapes.proofs.OfFilesetValues.MapLemmas.{get-insert_other, get-insert_same}
 use Rattle.fileset_shapes.specs.fileset_model.Filesets.{FilesetMap}
 use Rattle.fileset_shapes.specs.fileset_values.Orders.{Name, name_cmp, name_cmp-total, name_cmp-IsAntisymmetric}

@@ -1,24 +1,23 @@
 -- That an index is that of the rows of its directory.
-use Rattle.std.proofs.Common.{◌≡◌, ◌∙◌, ◌⊎◌, inl, inr, ⊎_elim, ℕ, zero, suc, ◌+◌, ◌<◌, ◌≤◌, ◌==◌, ◌&&◌, Bool, true, false, cond, List, [], ◌∷◌, ◌++◌, length, map, count_by, Option, Some, None, IsSome, is_some, slice_get, refl, sym, ap, subst, arith, eqb-true}
+use Rattle.std.proofs.Common.{◌≡◌, ◌∙◌, ◌⊎◌, inl, inr, ⊎_elim, ℕ, zero, suc, ◌<◌, ◌≤◌, ◌==◌, ◌&&◌, true, List, [], length, Option, Some, None, IsSome, is_some, slice_get, refl, sym, ap, subst, arith, eqb-true}
 use Rattle.std.proofs.lemmas.Bool.{and_parts, cases_Bool, cases_lt}
 use Rattle.std.proofs.lemmas.List.{length-map}
 use Rattle.std.proofs.lemmas.Option.{slice_get_within}
 use Rattle.std.specs.List.{AllByRecursion, flat_map}
-use Rattle.std.specs.Option.{option_and_then, option_map_or}
+use Rattle.std.specs.Option.{option_map_or}
 use Rattle.fileset_shapes.specs.domain_base.declared.place.Home.{Home}
-use Rattle.fileset_shapes.specs.domain_base.declared.place.Kind.TheVariants.{Directory}
 use Rattle.fileset_shapes.specs.domain_base.declared.place.Tag.{Tag}
 use Rattle.fileset_shapes.specs.page_store.Bitfiles.{Bitfiles, shown_index}
 use Rattle.fileset_shapes.specs.page_store.Pages.{Pages}
 use Rattle.fileset_shapes.specs.cell_records.Fields.{number_at}
 use Rattle.fileset_shapes.specs.directory_pages.Entries.{Rise, is_below}
-use Rattle.fileset_shapes.specs.directory_pages.Index.{IsIndex, IsIndexPage, all_entries, entries_of, index_pages}
+use Rattle.fileset_shapes.specs.directory_pages.Index.{IsIndexPage, all_entries, index_pages}
 use Rattle.fileset_shapes.specs.directory_pages.declared.entry.IndexEntry.{IndexEntry}
 use Rattle.fileset_shapes.specs.directory_pages.RowPage.{rows_of}
 use Rattle.fileset_shapes.specs.directory_rows.Directory.{AreEntriesOf, IndexesRows, count_entries, count_hash, row_pages, rows_at}
-use Rattle.fileset_shapes.proofs.OfLegalHistories.ValidLemmas.{from_some_and, some_inj}
+use Rattle.fileset_shapes.proofs.OfLegalHistories.ValidLemmas.{from_some_and}
 use Rattle.fileset_shapes.specs.fileset_table.Table.{Table}
-use Rattle.fileset_shapes.specs.domain_layout.DirectoryRules.{AreAllPages, AreReadPages, CountsRows, IsDirectoryFault, IsDirectoryPage, IsGoodIndexPage, IsIndexFault, IsWrongIndex, entries_in, total_in}
+use Rattle.fileset_shapes.specs.domain_layout.DirectoryRules.{AreAllPages, CountsRows, IsDirectoryFault, IsGoodIndexPage, IsIndexFault, IsWrongIndex, entries_in, total_in}
 use Rattle.fileset_shapes.specs.domain_layout.Reached.{Frame, IsRead, IsUnread, IsWithin, index_way}
 use Rattle.fileset_shapes.specs.domain_layout.Seen.{SeenFile}
 use Rattle.fileset_shapes.specs.domain_layout.Reached.Reaches.{begins}
@@ -78,7 +77,7 @@ module _ (pages : Pages) (frame : Frame) (table : Table) (number : ℕ) (files :
     seen = index.seen;
     first = first;
     total = total_in index.value;
-    has = record { cells = index.cells; has = index.has; original = index.original; value = index.value; there = index.there; begins = index.begins; entries = refl };
+    has = record { cells = index.cells; has = index.has; value = index.value; there = index.there; begins = index.begins; entries = refl };
     wrong = wrong;
   }))
 

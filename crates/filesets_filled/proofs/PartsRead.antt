@@ -1,9 +1,7 @@
 -- Rows and nodes, file after file, and what they are of a set that shows the files.
-use Rattle.std.proofs.Common.{◌≡◌, ◌∙◌, ◌⊎◌, inl, inr, ⊎_elim, ℕ, zero, suc, ◌+◌, ◌<◌, ◌≤◌, Bool, true, false, cond, List, [], ◌∷◌, ◌++◌, length, map, Option, Some, None, IsSome, IfSome, IsSomeAnd, is_some, Contains, slice_get, unwrap_or, filter_map, refl, sym, ap, subst, arith, length-append}
-use Rattle.std.proofs.lemmas.List.{length-map}
+use Rattle.std.proofs.Common.{◌≡◌, ◌∙◌, ◌⊎◌, inl, inr, ⊎_elim, ℕ, zero, suc, ◌+◌, ◌<◌, Bool, true, false, cond, List, [], ◌∷◌, ◌++◌, length, map, Option, Some, None, IfSome, IsSomeAnd, is_some, slice_get, unwrap_or, refl, sym, ap, subst, arith, length-append}
 use Rattle.std.proofs.lemmas.Option.{slice_get_within}
-use Rattle.std.specs.List.{AllByRecursion, cons_option, flat_map}
-use Rattle.std.specs.FinMap.{get}
+use Rattle.std.specs.List.{AllByRecursion, cons_option}
 use Rattle.std.specs.Option.{option_and_then, option_map, option_map_or}
 use Rattle.fileset_shapes.specs.domain_base.declared.place.Home.{Home}
 use Rattle.fileset_shapes.specs.domain_base.declared.place.Kind.{Kind}
@@ -20,13 +18,12 @@ use Rattle.fileset_shapes.specs.fileset_model.declared.node.Node.{Node}
 use Rattle.fileset_shapes.specs.fileset_model.declared.node.Node.TheVariants as node
 use Rattle.fileset_shapes.specs.domain_layout.Filled.{IsFilled}
 use Rattle.fileset_shapes.specs.domain_layout.Read.{contents_of}
-use Rattle.fileset_shapes.specs.domain_layout.Seen.{SeenFile}
-use Rattle.fileset_shapes.specs.filesets_reading.Seen.{IsSeenAs, home_in}
+use Rattle.fileset_shapes.specs.filesets_reading.Seen.{home_in}
 use Rattle.fileset_shapes.specs.name_space.Names.{IsNodeOf}
 use Rattle.fileset_shapes.proofs.OfNameSpace.Originals.{tag_itself, tags_same}
-use Rattle.fileset_shapes.specs.directory_rows.Stored.{AreRowPages, IsRowsAt, rows_at, rows_of_homes}
+use Rattle.fileset_shapes.specs.directory_rows.Stored.{rows_of_homes}
 use Rattle.fileset_shapes.specs.directory_rows.Ways.{rows_by}
-use Rattle.fileset_shapes.proofs.OfDirectoryRows.AllLed.{at_contains, contains_at}
+use Rattle.fileset_shapes.proofs.OfDirectoryRows.AllLed.{at_contains}
 use Rattle.fileset_shapes.specs.name_space.Parts.{AreNodesOf, IsNodeFor, IsNodeThere, node_in}
 use Rattle.fileset_shapes.specs.name_space.declared.parts.TaggedNode.{TaggedNode}
 use Rattle.fileset_shapes.specs.Found.{HaveOwnTags, IsStored, file_at, pages_at, shown_by, shown_pages}

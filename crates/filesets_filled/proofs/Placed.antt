@@ -1,8 +1,8 @@
 -- Where the rows of a directory stand, page after page.
-use Rattle.std.proofs.Common.{◌≡◌, ◌∙◌, ◌⊎◌, inl, inr, ⊎_elim, ℕ, zero, suc, ◌+◌, ◌<◌, ◌≤◌, Bool, true, false, List, [], ◌∷◌, ◌++◌, length, Option, Some, None, slice_get, is_some, refl, sym, ap, subst, arith, true≢false}
+use Rattle.std.proofs.Common.{◌≡◌, ◌∙◌, ◌⊎◌, inl, inr, ⊎_elim, ℕ, zero, suc, ◌<◌, true, List, [], ◌∷◌, ◌++◌, Option, Some, None, slice_get, is_some, refl, sym, ap, subst, arith, true≢false}
 use Rattle.std.proofs.lemmas.Bool.{cases_Bool}
 use Rattle.fileset_shapes.specs.directory_pages.RowPage.{rows_of}
-use Rattle.fileset_shapes.specs.directory_pages.Rows.{found, has_name, is_named}
+use Rattle.fileset_shapes.specs.directory_pages.Rows.{found, is_named}
 use Rattle.fileset_shapes.specs.directory_pages.declared.row.Row.{Row}
 use Rattle.fileset_shapes.specs.directory_rows.Directory.{NamesOnce, all_rows}
 use Rattle.fileset_shapes.proofs.OfDirectoryRows.Entered.{named_found}

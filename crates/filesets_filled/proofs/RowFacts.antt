@@ -1,11 +1,9 @@
 -- What the rows of a fileset are where no rule of directories is broken.
-use Rattle.std.proofs.Common.{◌≡◌, ◌∙◌, ◌⊎◌, inl, inr, ⊎_elim, ℕ, zero, suc, ◌+◌, ◌^◌, ◌<◌, ◌≤◌, ◌↔◌, true, false, List, [], ◌∷◌, ◌++◌, length, map, Option, Some, None, IfSome, IsSome, IsSomeAnd, is_some, Contains, slice_get, refl, sym, ap, subst, arith, true≢false}
-use Rattle.std.proofs.lemmas.Bool.{cases_Bool, cases_lt}
+use Rattle.std.proofs.Common.{◌≡◌, ◌∙◌, ◌⊎◌, inl, inr, ⊎_elim, ℕ, suc, ◌<◌, List, [], ◌∷◌, length, map, Option, Some, None, IsSome, is_some, slice_get, refl, sym, ap, subst, arith}
+use Rattle.std.proofs.lemmas.Bool.{cases_lt}
 use Rattle.std.proofs.lemmas.List.{length-map}
-use Rattle.std.proofs.lemmas.Option.{slice_get_within}
 use Rattle.std.specs.List.{AllByRecursion}
 use Rattle.std.specs.Option.{option_and_then, option_map_or}
-use Rattle.fileset_shapes.specs.domain_base.Limits.{max_links}
 use Rattle.fileset_shapes.specs.domain_base.declared.place.Home.{Home}
 use Rattle.fileset_shapes.specs.domain_base.declared.place.Kind.{Kind}
 use Rattle.fileset_shapes.specs.domain_base.declared.place.Kind.TheVariants.{Directory, File}
@@ -14,26 +12,20 @@ use Rattle.fileset_shapes.specs.page_store.Bitfiles.{Bitfile, Bitfiles, IsDirect
 use Rattle.fileset_shapes.specs.page_store.Pages.{Pages}
 use Rattle.fileset_shapes.specs.metadata_cells.Chain.{PlacedCell}
 use Rattle.fileset_shapes.specs.directory_pages.RowPage.{IsDirPage, rows_of}
-use Rattle.fileset_shapes.specs.directory_pages.Rows.{found}
 use Rattle.fileset_shapes.specs.directory_pages.declared.row.Row.{Row}
-use Rattle.fileset_shapes.specs.directory_rows.Directory.{IsWellFormed, NamesOnce, all_rows, row_pages, rows_in}
+use Rattle.fileset_shapes.specs.directory_rows.Directory.{NamesOnce, row_pages, rows_in}
 use Rattle.fileset_shapes.proofs.OfLegalHistories.ValidLemmas.{from_some_and, some_inj, to_some_and}
-use Rattle.fileset_shapes.specs.fileset_values.Orders.{Name, Path}
 use Rattle.fileset_shapes.specs.fileset_table.Table.{Table}
-use Rattle.fileset_shapes.specs.name_space.Names.{led_to, root_tag}
-use Rattle.fileset_shapes.proofs.OfNameSpace.Leads.{led-name}
+use Rattle.fileset_shapes.specs.name_space.Names.{root_tag}
 use Rattle.fileset_shapes.proofs.OfDirectoryRows.AllLed.{at_contains, contains_at, found_row, row_found}
-use Rattle.fileset_shapes.specs.domain_layout.CellRules.{of_clone}
-use Rattle.fileset_shapes.specs.domain_layout.DirectoryRules.{AreAllRead, AreRowsTo, Has, HasOfKind, IsDirectoryFault, IsDirectoryPage, IsFirstHome, IsHere, IsRow, IsWrongFile, RowPlace, RowsLead}
-use Rattle.fileset_shapes.specs.domain_layout.DirectoryRules.RowsLead.{one as leads_one, more as leads_more}
+use Rattle.fileset_shapes.specs.domain_layout.DirectoryRules.{AreRowsTo, Has, IsDirectoryFault, IsDirectoryPage, IsFirstHome, IsHere, IsRow, RowPlace}
 use Rattle.fileset_shapes.specs.domain_layout.Reached.{Frame}
 use Rattle.fileset_shapes.specs.domain_layout.Seen.{SeenFile}
 use Rattle.fileset_shapes.specs.domain_layout.Shape.{shown_at}
-use Rattle.fileset_shapes.proofs.OfDomainLayout.Reached.{same_number}
-use Rattle.fileset_shapes.specs.name_space.Rows.{AreAllThere, AreFilesetRows, AreNamesOf, IsBeside, IsCounted, NameIn, row_of}
-use Rattle.filesets_filled.specs.Showing.{HaveTheirIndexes, IsShownOf, ListsDirectories, ShowsFileset}
-use Rattle.filesets_filled.proofs.Decided.{dir_page_decided, kind_decided, place_decided}
-use Rattle.filesets_filled.proofs.Entries.{AreDistinct, Entry, IsEntry, IsIn, distinct_map, distinct_once, distinct_to, entries_to, in_map, in_mapped, in_to, once_distinct, to_entries}
+use Rattle.fileset_shapes.specs.name_space.Rows.{AreNamesOf, NameIn, row_of}
+use Rattle.filesets_filled.specs.Showing.{IsShownOf, ListsDirectories, ShowsFileset}
+use Rattle.filesets_filled.proofs.Decided.{dir_page_decided, kind_decided}
+use Rattle.filesets_filled.proofs.Entries.{AreDistinct, Entry, IsIn, distinct_map, distinct_once, distinct_to, entries_to, in_map, in_mapped, in_to, once_distinct, to_entries}
 use Rattle.filesets_filled.proofs.Placed.{flat_place, names_once, placed}
 
 pub none_is_some : {P X : Type 0} (x : X) → None ≡ Some x → P

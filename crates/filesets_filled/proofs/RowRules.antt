@@ -1,10 +1,9 @@
 -- That the rows of what is in a slot are those of a fileset.
-use Rattle.std.proofs.Common.{◌≡◌, ◌∙◌, ◌⊎◌, inl, inr, ⊎_elim, ℕ, zero, suc, ◌+◌, ◌^◌, ◌<◌, ◌≤◌, ◌↔◌, true, false, List, [], ◌∷◌, ◌++◌, length, map, Option, Some, None, IfSome, IsSome, IsSomeAnd, is_some, Contains, slice_get, refl, sym, ap, subst, arith, true≢false}
+use Rattle.std.proofs.Common.{◌≡◌, ◌∙◌, ◌⊎◌, inl, inr, ⊎_elim, ℕ, zero, suc, ◌<◌, ◌≤◌, true, false, List, [], ◌∷◌, ◌++◌, length, Option, Some, None, IfSome, IsSome, is_some, slice_get, refl, sym, ap, subst, arith, true≢false}
 use Rattle.std.proofs.lemmas.Bool.{cases_Bool, cases_lt}
 use Rattle.std.proofs.lemmas.List.{length-map}
 use Rattle.std.proofs.lemmas.Option.{slice_get_within}
-use Rattle.std.specs.List.{AllByRecursion}
-use Rattle.std.specs.Option.{option_and_then, option_map_or}
+use Rattle.std.specs.Option.{option_and_then}
 use Rattle.fileset_shapes.specs.domain_base.Limits.{max_links}
 use Rattle.fileset_shapes.specs.domain_base.declared.place.Home.{Home}
 use Rattle.fileset_shapes.specs.domain_base.declared.place.Kind.{Kind}
@@ -12,23 +11,21 @@ use Rattle.fileset_shapes.specs.domain_base.declared.place.Kind.TheVariants.{Dir
 use Rattle.fileset_shapes.specs.domain_base.declared.place.Tag.{Tag}
 use Rattle.fileset_shapes.specs.page_store.Bitfiles.{Bitfile, Bitfiles, IsDirectory}
 use Rattle.fileset_shapes.specs.page_store.Pages.{Pages}
-use Rattle.fileset_shapes.specs.metadata_cells.Chain.{PlacedCell}
 use Rattle.fileset_shapes.specs.directory_pages.Rows.{found}
 use Rattle.fileset_shapes.specs.directory_pages.declared.row.Row.{Row}
-use Rattle.fileset_shapes.specs.directory_rows.Directory.{IsWellFormed, row_pages, rows_in}
-use Rattle.fileset_shapes.proofs.OfLegalHistories.ValidLemmas.{from_some_and, some_inj, to_some_and}
-use Rattle.fileset_shapes.specs.fileset_values.Orders.{Name, Path}
+use Rattle.fileset_shapes.specs.directory_rows.Directory.{row_pages, rows_in}
+use Rattle.fileset_shapes.proofs.OfLegalHistories.ValidLemmas.{from_some_and, some_inj}
+use Rattle.fileset_shapes.specs.fileset_values.Orders.{Path}
 use Rattle.fileset_shapes.specs.fileset_table.Table.{Table}
 use Rattle.fileset_shapes.specs.name_space.Names.{led_to, root_tag}
 use Rattle.fileset_shapes.proofs.OfNameSpace.Leads.{led-name}
-use Rattle.fileset_shapes.proofs.OfDirectoryRows.AllLed.{at_contains, contains_at}
 use Rattle.fileset_shapes.specs.domain_layout.CellRules.{of_clone}
-use Rattle.fileset_shapes.specs.domain_layout.DirectoryRules.{AreAllRead, AreRowsTo, Has, IsDirectoryFault, IsFirstHome, IsHere, IsRow, IsSecond, IsWrongFile, RowPlace, RowsLead}
+use Rattle.fileset_shapes.specs.domain_layout.DirectoryRules.{AreAllRead, AreRowsTo, IsDirectoryFault, IsHere, IsRow, IsSecond, IsWrongFile, RowPlace, RowsLead}
 use Rattle.fileset_shapes.specs.domain_layout.DirectoryRules.RowsLead.{one as leads_one, more as leads_more}
 use Rattle.fileset_shapes.specs.domain_layout.Reached.{Frame}
 use Rattle.fileset_shapes.specs.domain_layout.Seen.{SeenFile}
 use Rattle.fileset_shapes.proofs.OfDomainLayout.Reached.{same_number}
-use Rattle.fileset_shapes.specs.name_space.Rows.{AreAllThere, AreFilesetRows, AreNamesOf, AreWhole, IsBeside, IsCounted, NameIn, row_of}
+use Rattle.fileset_shapes.specs.name_space.Rows.{AreAllThere, AreFilesetRows, AreNamesOf, IsBeside, IsCounted, NameIn, row_of}
 use Rattle.filesets_filled.specs.Showing.{HaveTheirIndexes, ListsDirectories, ShowsFileset}
 use Rattle.filesets_filled.proofs.Decided.{place_decided}
 use Rattle.filesets_filled.proofs.Entries.{Entry, IsIn, distinct_once, in_map}

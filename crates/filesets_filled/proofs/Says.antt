@@ -1,5 +1,5 @@
 -- Where no rule is broken, what is read of a fileset says one.
-use Rattle.std.proofs.Common.{◌≡◌, ◌∙◌, ◌⊎◌, inl, inr, ⊎_elim, ℕ, zero, suc, ◌^◌, ◌≤◌, false, List, [], ◌∷◌, length, map, Option, Some, None, IsSome, IsSomeAnd, is_some, Contains, slice_get, refl, sym, ap, subst}
+use Rattle.std.proofs.Common.{◌≡◌, ◌∙◌, inl, inr, ⊎_elim, ℕ, ◌^◌, ◌≤◌, List, [], length, map, Option, Some, None, IsSomeAnd, Contains, slice_get, refl, sym, ap, subst}
 use Rattle.std.specs.Option.{option_and_then, option_map, option_map_or}
 use Rattle.fileset_shapes.specs.domain_base.declared.place.Home.{Home}
 use Rattle.fileset_shapes.specs.domain_base.declared.place.Kind.TheVariants.{Directory}
@@ -8,16 +8,15 @@ use Rattle.fileset_shapes.specs.page_store.Bitfiles.{Bitfile, Bitfiles, IsDirect
 use Rattle.fileset_shapes.specs.page_store.Pages.{Pages}
 use Rattle.fileset_shapes.specs.log_ring.Homes.{IsMember, member_of}
 use Rattle.fileset_shapes.specs.directory_pages.Index.{index_pages}
-use Rattle.fileset_shapes.proofs.OfLegalHistories.ValidLemmas.{from_some_and, some_inj, to_some_and}
+use Rattle.fileset_shapes.proofs.OfLegalHistories.ValidLemmas.{from_some_and, some_inj}
 use Rattle.fileset_shapes.specs.fileset_values.Orders.{Name}
 use Rattle.fileset_shapes.specs.fileset_table.Page.{IsTablePage}
 use Rattle.fileset_shapes.specs.fileset_table.Table.{HaveOwnNames, Table, entry_of}
 use Rattle.fileset_shapes.specs.fileset_table.declared.slot.FilesetEntry.{FilesetEntry}
 use Rattle.fileset_shapes.specs.fileset_table.declared.slot.SlotItem.{SlotItem}
 use Rattle.fileset_shapes.specs.fileset_table.declared.slot.SlotItem.TheVariants as slot
-use Rattle.fileset_shapes.specs.name_space.Names.{root_tag}
 use Rattle.fileset_shapes.specs.domain_layout.CellRules.{of_clone}
-use Rattle.fileset_shapes.specs.domain_layout.DirectoryRules.{IsDirectoryFault, IsIndexFault}
+use Rattle.fileset_shapes.specs.domain_layout.DirectoryRules.{IsDirectoryFault}
 use Rattle.fileset_shapes.specs.domain_layout.Faults.{HasNoFault}
 use Rattle.fileset_shapes.specs.domain_layout.Layout.{Layout}
 use Rattle.fileset_shapes.specs.domain_layout.Owners.{frame_of}
@@ -25,10 +24,8 @@ use Rattle.fileset_shapes.specs.domain_layout.Reached.{Frame}
 use Rattle.fileset_shapes.specs.domain_layout.Seen.{SeenFile}
 use Rattle.fileset_shapes.specs.domain_layout.Shape.{FilesetShape, IsClone, IsShapeOf, ShowsSeen, ShowsSeenAt}
 use Rattle.fileset_shapes.proofs.OfDomainLayout.OwnedOnce.{no_files, no_index}
-use Rattle.fileset_shapes.proofs.OfDirectoryRows.AllLed.{at_contains, contains_at}
-use Rattle.fileset_shapes.specs.filesets_reading.Tables.{AreTablesOf}
+use Rattle.fileset_shapes.proofs.OfDirectoryRows.AllLed.{contains_at}
 use Rattle.fileset_shapes.specs.filesets_reading.declared.tables.DomainTables.{DomainTables}
-use Rattle.fileset_shapes.specs.name_space.Rows.{AreWhole}
 use Rattle.fileset_shapes.specs.name_space.Trees.{MayBeOf}
 use Rattle.filesets_filled.specs.Showing.{HaveTheirIndexes, ListsDirectories, ShowsFileset}
 use Rattle.filesets_filled.proofs.Entries.{distinct_map, distinct_once, in_map, once_distinct}
@@ -42,7 +39,7 @@ use Rattle.fileset_shapes.specs.declared.found.FilesetSeen.{FilesetSeen}
 use Rattle.fileset_shapes.specs.declared.found.TaggedFile.{TaggedFile}
 use Rattle.fileset_shapes.specs.domain_layout.Filled.{Fills}
 use Rattle.fileset_shapes.specs.domain_layout.Read.{contents_of}
-use Rattle.filesets_filled.specs.Slots.{FillsEntry, FillsItem, FillsSlot}
+use Rattle.filesets_filled.specs.Slots.{FillsEntry, FillsSlot}
 use Rattle.filesets_filled.specs.declared.slots.NamedFileset.{NamedFileset}
 use Rattle.filesets_filled.specs.Filling.{SaysFileset}
 use Rattle.filesets_filled.proofs.PartsRead.{file_is}

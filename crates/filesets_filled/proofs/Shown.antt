@@ -101,7 +101,6 @@ shows_indexes pages layout number entry shape dir whole there is directory =
           cells = index.has.cells;
           seen = seen;
           has = index.has.has;
-          original = index.has.original;
           kind = sym c.what.kind ∙ ap (λ (f : Bitfile). f.kind) same ∙ kind;
           value = index.has.value;
           there = index.has.there;

@@ -1,8 +1,7 @@
 -- Index pages as a set shows them are well formed where the stored ones are.
-use Rattle.std.proofs.Common.{◌≡◌, ◌∙◌, ℕ, ◌+◌, ◌<◌, ◌≤◌, List, [], ◌∷◌, ◌++◌, length, map, take, drop, refl, sym, ap, subst, arith, append_assoc, length-append, length-drop, length-take}
+use Rattle.std.proofs.Common.{◌≡◌, ◌∙◌, ℕ, ◌+◌, ◌≤◌, List, [], ◌∷◌, ◌++◌, length, map, take, drop, sym, ap, subst, arith, append_assoc, length-append, length-drop, length-take}
 use Rattle.std.proofs.lemmas.List.{drop-append-le, take-append-drop, take-append-le}
 use Rattle.std.specs.List.{AllByRecursion}
-use Rattle.byteorder.specs.Endian.{little_number}
 use Rattle.fileset_shapes.specs.domain_base.Page.{zero_bytes, length-zero_bytes}
 use Rattle.fileset_shapes.specs.page_store.Bitfiles.{shown_index}
 use Rattle.fileset_shapes.specs.cell_records.Fields.{number_at}

@@ -1,16 +1,13 @@
 -- Rows and nodes of the files that were read of a fileset.
-use Rattle.std.specs.Prelude.{◌≡◌, ℕ, List, [], Option, Some, None, Contains, length, map, slice_get}
-use Rattle.std.specs.Option.{option_map_or}
+use Rattle.std.specs.Prelude.{◌≡◌, ℕ, List, [], Option, Some, Contains, length, map, slice_get}
 use Rattle.fileset_shapes.specs.domain_base.declared.place.Home.{Home}
 use Rattle.fileset_shapes.specs.domain_base.declared.place.Kind.{Kind}
 use Rattle.fileset_shapes.specs.domain_base.declared.place.Kind.TheVariants.{Directory, File}
-use Rattle.fileset_shapes.specs.domain_base.declared.place.Tag.{Tag}
 use Rattle.fileset_shapes.specs.page_store.Pages.{Pages}
 use Rattle.fileset_shapes.specs.directory_pages.declared.row.Row.{Row}
 use Rattle.fileset_shapes.specs.domain_layout.Filled.{IsFilled}
 use Rattle.fileset_shapes.specs.domain_layout.Read.{contents_of}
 use Rattle.fileset_shapes.specs.domain_layout.Seen.{SeenFile}
-use Rattle.fileset_shapes.specs.legal_histories.Valid.{HasWholePages}
 use Rattle.fileset_shapes.specs.filesets_reading.Seen.{IsSeenAs}
 use Rattle.fileset_shapes.specs.directory_rows.Stored.{AreRowPages, rows_of_homes}
 use Rattle.fileset_shapes.specs.directory_rows.declared.led.DirectoryRows.{DirectoryRows}

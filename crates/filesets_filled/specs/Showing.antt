@@ -1,5 +1,5 @@
 -- What a fileset has at each tag, and the set of files that shows it.
-use Rattle.std.specs.Prelude.{◌≡◌, ◌⊎◌, ◌^◌, ◌<◌, ◌≤◌, ◌↔◌, ℕ, List, [], Option, Some, None, IsSome, IsSomeAnd, false, map, Contains, slice_get}
+use Rattle.std.specs.Prelude.{◌≡◌, ◌⊎◌, ◌^◌, ◌<◌, ◌≤◌, ℕ, List, [], Option, Some, None, IsSome, IsSomeAnd, map, Contains, slice_get}
 use Rattle.fileset_shapes.specs.domain_base.Limits.{max_links}
 use Rattle.fileset_shapes.specs.domain_base.declared.place.CellAt.{CellAt}
 use Rattle.fileset_shapes.specs.domain_base.declared.place.Home.{Home}
@@ -14,7 +14,6 @@ use Rattle.fileset_shapes.specs.fileset_files.Shown.{IsWhat, index_in}
 use Rattle.fileset_shapes.specs.directory_pages.Index.{index_pages}
 use Rattle.fileset_shapes.specs.directory_rows.Directory.{IndexesRows, row_pages}
 use Rattle.fileset_shapes.specs.fileset_table.Table.{Table}
-use Rattle.fileset_shapes.specs.domain_layout.CellRules.{of_clone}
 use Rattle.fileset_shapes.specs.domain_layout.DirectoryRules.{AreReadPages, Has, HasIndexAt, IsFirstHome}
 use Rattle.fileset_shapes.specs.domain_layout.Reached.{Frame, IsWithin}
 use Rattle.fileset_shapes.specs.domain_layout.Seen.{SeenFile}
@@ -56,14 +55,13 @@ HasEachPage pages frame table = (number : ℕ) (tag : Tag) (cells : List PlacedC
     (seen : SeenFile) → Has pages table number tag cells seen → (page : ℕ) (home : Home)
     → seen.homes page ≡ Some home → IsWithin frame home → IsSome (pages home)
 
--- the index of a directory of an original, as a set shows it: the pages that are read from where a
+-- the index of a directory, as a set shows it: the pages that are read from where a
 -- cell in use says
 pub record ShowsIndex (pages : Pages) (frame : Frame) (table : Table) (number : ℕ) (dir : Tag)
     (index : List (List ℕ)) : Type 0 where
   pub cells : List PlacedCell
   pub seen : SeenFile
   pub has : Has pages table number dir cells seen
-  pub original : of_clone (slice_get table.slots number) ≡ false
   pub kind : seen.is.kind ≡ Directory
   pub value : Record
   pub there : first_record 9 cells ≡ Some value

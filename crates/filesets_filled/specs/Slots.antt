@@ -13,7 +13,6 @@ use Rattle.fileset_shapes.specs.domain_layout.Read.{contents_of}
 use Rattle.fileset_shapes.specs.domain_layout.Shape.{FilesetShape, IsShapeOf, Shapes}
 use Rattle.fileset_shapes.specs.fileset_model.Filesets.{FilesetMap}
 use Rattle.fileset_shapes.specs.fileset_values.Orders.{Name}
-use Rattle.fileset_shapes.specs.fileset_model.declared.fileset.FilesetSlot.{FilesetSlot}
 use Rattle.fileset_shapes.specs.fileset_table.Table.{Table, entry_of}
 use Rattle.fileset_shapes.specs.fileset_table.declared.slot.FilesetEntry.{FilesetEntry}
 use Rattle.fileset_shapes.specs.fileset_table.declared.slot.SlotItem.{SlotItem}

@@ -1,7 +1,6 @@
-use Rattle.std.proofs.Common.{◌≡◌, ◌∙◌, ◌<◌, ◌+◌, Some, length, slice_get, slice_index_or, sym, ap, subst, arith}
+use Rattle.std.proofs.Common.{◌≡◌, ◌<◌, ◌+◌, Some, length, slice_get, slice_index_or, sym, subst, arith}
 use Rattle.std.proofs.lemmas.Option.{slice_get-get_or}
 use Rattle.fileset_shapes.specs.page_ways.Frame.{frame_in}
-use Rattle.fileset_shapes.specs.fileset_table.declared.slot.SlotItem.{SlotItem}
 use Rattle.fileset_shapes.specs.fileset_table.declared.slot.SlotItem.TheVariants.{Free}
 use Rattle.filesets_filled.specs.Slots.{AreFilledUpTo, FillsSlot}
 use Rattle.filesets_filled.proofs.FilledSlots.{filled_first, filled_more}

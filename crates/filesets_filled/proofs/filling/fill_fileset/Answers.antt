@@ -1,4 +1,4 @@
-use Rattle.std.proofs.Common.{◌≡◌, ◌∙◌, List, sym, subst}
+use Rattle.std.proofs.Common.{List, sym, subst}
 use Rattle.fileset_shapes.specs.cell_records.declared.record.Record.{Record}
 use Rattle.fileset_shapes.specs.Limits.{HasLimitsOf}
 use Rattle.fileset_shapes.specs.declared.found.TaggedFile.{TaggedFile}

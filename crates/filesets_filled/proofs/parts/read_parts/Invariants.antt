@@ -1,4 +1,4 @@
-use Rattle.std.proofs.Common.{◌≡◌, length, map, take}
+use Rattle.std.proofs.Common.{◌≡◌, map, take}
 use Rattle.filesets_filled.specs.Parts.{directory_seen}
 use Rattle.filesets_filled.proofs.PartsRead.{AreNodesUpTo}
 use Rattle.filesets_filled.proofs.parts.read_parts.Given as goal

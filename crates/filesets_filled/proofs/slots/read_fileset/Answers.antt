@@ -1,12 +1,7 @@
-use Rattle.std.proofs.Common.{◌≡◌, ◌∙◌, Option, Some, None, IsSomeAnd, option_copied, refl, sym, ap, subst}
+use Rattle.std.proofs.Common.{◌≡◌, ◌∙◌, Some, IsSomeAnd, option_copied, sym, ap, subst}
 use Rattle.fileset_shapes.specs.page_ways.Frame.{frame_in}
 use Rattle.fileset_shapes.specs.fileset_table.Table.{entry_of}
-use Rattle.fileset_shapes.specs.fileset_table.declared.slot.FilesetEntry.{FilesetEntry}
-use Rattle.fileset_shapes.specs.fileset_table.declared.slot.SlotItem.{SlotItem}
 use Rattle.fileset_shapes.specs.Found.{SeesFileset}
-use Rattle.fileset_shapes.specs.declared.found.FilesetSeen.{FilesetSeen}
-use Rattle.filesets_filled.specs.Slots.{FillsEntry}
-use Rattle.filesets_filled.specs.declared.slots.NamedFileset.{NamedFileset}
 use Rattle.filesets_filled.proofs.Says.{fills_one, says_one, sees_entry}
 use Rattle.filesets_filled.proofs.slots.read_fileset.Goals as goal
 
