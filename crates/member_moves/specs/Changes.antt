@@ -1,5 +1,5 @@
 -- What a change of members makes of an anchor.
-use Rattle.std.specs.Prelude.{◌≡◌, ◌≢◌, ◌-◌, ◌≤◌, ℕ, length, slice_set}
+use Rattle.std.specs.Prelude.{◌≡◌, ◌≢◌, ◌-◌, ◌≤◌, ℕ, IsSomeAnd, length, slice_set}
 use Rattle.log_ring.specs.disk_label.declared.anchor.Anchor.{Anchor}
 use Rattle.log_ring.specs.disk_label.declared.anchor.Member.{Member}
 use Rattle.log_ring.specs.Homes.{member_of}
@@ -8,6 +8,10 @@ use Rattle.log_ring.specs.Homes.{member_of}
 abbrev pub with_entry : ℕ → Member → Anchor → Anchor
 with_entry vol member anchor =
     record anchor { members = slice_set anchor.members (vol - 1) member }
+
+-- the fileset table stands on that volume
+abbrev pub IsTableOn : Anchor → ℕ → Type 0
+IsTableOn anchor vol = IsSomeAnd anchor.table (λ home. home.vol ≡ vol)
 
 -- the new anchor has this entry for the volume, and for each other volume the old one
 pub record ChangesEntry (old new : Anchor) (vol : ℕ) (member : Member) : Type 0 where

@@ -1,7 +1,7 @@
 //! The current anchor, and the anchors that may follow it.
 ghost use Rattle.std.specs.Prelude.{◌≡◌, ◌≢◌, ◌≤◌, ◌↔◌, IsTrue, Some};
 ghost use Rattle.log_ring.specs.Homes.{IsMember, member_of as member_there};
-ghost use Rattle.member_moves.specs.Changes.{with_entry};
+ghost use Rattle.member_moves.specs.Changes.{IsTableOn, with_entry};
 ghost use Rattle.log_ring.specs.disk_label.declared.anchor.Anchor.{Anchor};
 
 use log_ring::{Anchor, Home, Member, VolIx, member_of};
@@ -53,12 +53,13 @@ impl VolumeTable {
     }
 
     /// The anchor by which a member is open at state 1, closed at state 2, and no longer a member
-    /// at state 0. The volume must be a member, and one that is taken off must not have the log.
-    /// Its number of pages stays as it is, also at state 0, where nothing reads it.
+    /// at state 0. The volume must be a member, and one that is taken off must have neither the log
+    /// nor the fileset table. Its number of pages stays as it is, also at state 0, where nothing reads it.
     pub fn with_state(&self, vol: VolIx, state: u32) -> Anchor
         requires member { IsMember self.now vol }
         requires state { state ≤ 2 }
         requires log { state ≡ 0 → self.now.log_vol ≢ vol }
+        requires table { state ≡ 0 → ¬ IsTableOn self.now vol }
         ensures { result ≡ with_entry vol (record (member_there self.now vol) { state = state }) self.now }
     {
         let pages = member_of(&self.anchor, vol).pages;
@@ -70,6 +71,16 @@ impl VolumeTable {
         ensures { IsTrue result ↔ (self.now.log_vol ≡ vol) }
     {
         self.anchor.log_vol == vol.number()
+    }
+
+    /// Whether the fileset table stands on this volume.
+    pub fn has_table(&self, vol: VolIx) -> bool
+        ensures { IsTrue result ↔ IsTableOn self.now vol }
+    {
+        match self.anchor.table {
+            Some(home) => home.vol.number() == vol.number(),
+            None => false,
+        }
     }
 
     /// The anchor by which the log begins at this page of a volume, which must be a member.

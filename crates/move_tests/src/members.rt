@@ -127,6 +127,19 @@ fn a_member_is_opened_closed_and_taken_off(rt: HostRuntime) -> Result<(), Fail> 
 }
 
 #[test]
+fn the_member_with_the_table_is_not_taken_off(rt: HostRuntime) -> Result<(), Fail> {
+    let two = VolIx::new(2).ok_or("a volume")?;
+    let table = VolumeTable::new(&Anchor {
+        table: Some(Home { vol: two, page: 33 }),
+        ..anchor()
+    });
+    let off = in_state(&table, two, 0);
+    let opened = in_state(&table, two, 1).is_some();
+    assert_eq!(rt; (off, opened), (None, true));
+    Ok(())
+}
+
+#[test]
 fn log_and_table_go_to_a_member(rt: HostRuntime) -> Result<(), Fail> {
     let table = VolumeTable::new(&anchor());
     let two = VolIx::new(2).ok_or("a volume")?;
