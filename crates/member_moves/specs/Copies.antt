@@ -55,7 +55,8 @@ abbrev pub AreAlike : Pages → List Move → Type 0
 AreAlike pages [] = Unit {0}
 AreAlike pages (move ∷ moves) = IsAlike pages move × AreAlike pages moves
 
--- what each step keeps: no home is in two moves or is a move's old and new home at once, and pages that were copied stand at both homes
+-- what each step keeps: no home is in two moves or is a move's old and new home at once, and pages
+-- that were copied stand at both homes
 pub record Holds (now : Now) : Type 0 where
   pub apart : AreApart now.moves
   pub alike : AreAlike now.pages now.moves

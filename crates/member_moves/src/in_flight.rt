@@ -135,8 +135,8 @@ impl Moves {
         self.remove(&from);
     }
 
-    /// Ends the moves of all pages whose places were changed. Whoever calls it knows that the groups
-    /// which changed them are durable.
+    /// Ends the moves of all pages whose places were changed. Whoever calls it knows that the
+    /// groups which changed them are durable.
     pub fn finish_switched(&mut self)
         ensures { self.new ≡ unswitched self.old }
     {

@@ -1,5 +1,5 @@
-//! What movers and members do to pages: pages on their way from one home to another, which page a
-//! mover takes next, and the anchors by which members change.
+//! Moves of pages between volumes: which are in flight and which page goes next, and the anchors
+//! that change members.
 #![tactic(auto)]
 
 mod anchor_laws;

@@ -54,13 +54,15 @@ impl VolumeTable {
 
     /// The anchor by which a member is open at state 1, closed at state 2, and no longer a member
     /// at state 0. The volume must be a member, and one that is taken off must have neither the log
-    /// nor the fileset table. Its number of pages stays as it is, also at state 0, where nothing reads it.
+    /// nor the fileset table. Its number of pages stays as it is, also at state 0, where nothing
+    /// reads it.
     pub fn with_state(&self, vol: VolIx, state: u32) -> Anchor
         requires member { IsMember self.now vol }
         requires state { state ≤ 2 }
         requires log { state ≡ 0 → self.now.log_vol ≢ vol }
         requires table { state ≡ 0 → ¬ IsTableOn self.now vol }
-        ensures { result ≡ with_entry vol (record (member_there self.now vol) { state = state }) self.now }
+        ensures { result
+            ≡ with_entry vol (record (member_there self.now vol) { state = state }) self.now }
     {
         let pages = member_of(&self.anchor, vol).pages;
         self.with_entry(vol, &Member { pages, state })
