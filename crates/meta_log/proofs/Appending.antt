@@ -1,5 +1,5 @@
 -- A change appended to a log.
-use Rattle.std.proofs.Common.{◌≡◌, ℕ, ◌+◌, ◌^◌, ◌<◌, Bool, true, false, cond, List, [], ◌∷◌, length, ap, arith}
+use Rattle.std.proofs.Common.{◌≡◌, ℕ, ◌+◌, ◌^◌, ◌<◌, Bool, true, false, cond, List, [], ◌∷◌, length, ap, arith, inl, inr}
 use Rattle.std.proofs.lemmas.List.Elements.{All-cons, All-head, All-nil, All-tail}
 use Rattle.std.specs.List.{All}
 use Rattle.log_ring.specs.domain_base.declared.place.Home.{Home}
@@ -9,7 +9,7 @@ use Rattle.log_ring.specs.declared.image.PageImage.{PageImage}
 use Rattle.log_ring.proofs.Overlays.{AreDistinctHomes-joined, JoinsWell-joined}
 use Rattle.log_ring.specs.Groups.{Group, span}
 use Rattle.log_ring.specs.Homes.{AreLoggable, IsLoggable}
-use Rattle.meta_log.specs.Log.{HasPlaceFor, IsLog, Log, appended, groups_of, next_number}
+use Rattle.meta_log.specs.Log.{HasPlaceFor, IsFullFor, IsLog, Log, appended, groups_of, next_number}
 use Rattle.meta_log.proofs.Pending.{one_group}
 
 -- what holds of the homes of all images holds of them with one put among them
@@ -61,3 +61,8 @@ appended_is log change is some loggable number has =
       pending = All-joined (IsLoggable log.anchor) change log.pending loggable is.pending;
       logged = is.logged;
     }
+
+-- what has a place leaves no log full
+pub not_full : (log : Log) (n : ℕ) → HasPlaceFor log n → ¬ IsFullFor log n
+not_full log n place (inl many) = let few = place.group in omega arith
+not_full log n place (inr long) = let few = place.ring in omega arith

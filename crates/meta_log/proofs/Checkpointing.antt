@@ -60,6 +60,8 @@ module _ (log : Log) (is : IsLog log) (given : Anchor) where
           stands = λ told groups may. record { stands = here.stands told log.anchor groups (may_move old groups may); images = refl; count = refl };
           same = λ told groups may. here.same told log.anchor groups (may_move old groups may);
           next_ready = λ told later ready same follows stays. here.next_ready told log.anchor later ready same follows stays;
+          synced = here.synced;
+          anchor_synced = here.anchor_synced;
           others = λ told vol slot ready other_ready other. here.others told (Some log.anchor) vol slot ready other_ready other;
         }
 

@@ -17,7 +17,7 @@ use Rattle.log_ring.specs.Groups.{AreGroups, Group, HasLog, IsBehindGate, header
 use Rattle.log_ring.specs.Ring.{IsGateOpen, IsOnPlaces, place_at, ring_byte}
 use Rattle.log_ring.proofs.OnImages.{groups_kept, images-same, next_closed}
 use Rattle.log_ring.proofs.RingPlaces.{apart, log_beside_anchors, on_log, place-same}
-use Rattle.meta_log.specs.Force.{HasEither, HasWrittenGroup, IsGateAt, IsGroupBody, IsReadyToOpen, MayFollow, WritesGroup}
+use Rattle.meta_log.specs.Force.{HasEither, HasMoreOnceSynced, HasWrittenGroup, IsGateAt, IsGroupBody, IsReadyToOpen, IsSyncedBeside, IsSyncedOn, MayFollow, WritesGroup}
 use Rattle.meta_log.proofs.Bodies.{behind_gate, body_on_place, gate_on_place}
 
 -- What is written lies on the places of the group and on the next one.
@@ -176,10 +176,14 @@ module _ (anchor : Anchor) (behind : 1 < anchor.log_page) (group : Group) (place
   before : Tells d0 → (groups : List Group) → MayFollow d0 anchor groups place group → LeavesOnly d0 d1 (HasLog d0.sizes anchor groups)
   before told groups follow = touches-leaves d0 d1 Body (HasLog d0.sizes anchor groups) told first.touches (torn_body anchor behind groups group place d0 follow)
 
+  abbrev More : List Group → Image → Type 0
+  More groups = HasMoreOnceSynced d0 anchor place (length group.images + 2) groups (group ∷ [])
+
   pub body_written : WritesGroup d0 d1 anchor place group
   body_written = record {
     writes = wide;
     any_moment = λ told groups follow. weaker d0 d1 (HasLog d0.sizes anchor groups) (Either groups) (λ image has. inl has) (before told groups follow);
+    synced = λ told groups follow. weaker d0 d1 (HasLog d0.sizes anchor groups) (More groups) (λ image has. inl has) (before told groups follow);
   }
 
   module _ (header : List ℕ) (is_header : IsHeader header (header_of group)) (ready : Tells d0 → IsReadyToOpen d1.now anchor place header group.images) (d2 : Disk) (second : OnlyWrites d1 d2 (IsGateAt anchor place)) where
@@ -189,14 +193,37 @@ module _ (anchor : Anchor) (behind : 1 < anchor.log_page) (group : Group) (place
     left-1 : Tells d0 → (groups : List Group) → MayFollow d0 anchor groups place group → (image : Image) → MayLeave d1.now image → HasLog d0.sizes anchor groups image
     left-1 told groups follow = leaves-now d0 d1 (HasLog d0.sizes anchor groups) (before told groups follow)
 
+    -- the gate is torn once the volume is synced, so all of it but the group's places is as at the
+    -- start
+    synced_beside : Tells d0 → (image : Image) → MayLeaveTorn (IsGateAt anchor place) d1.now image → IsSyncedBeside d0.now anchor place (length group.images + 2) image
+    synced_beside told image torn k out =
+        torn.2 anchor.log_vol k (λ at. out (gate_on_places anchor place (length group.images) anchor.log_vol k at))
+        ∙ torn.1.synced anchor.log_vol k ((ready told).synced k)
+        ∙ first.touches.contents told anchor.log_vol k (λ at. out (body_on_places anchor place (length group.images) anchor.log_vol k at))
+
+    torn_gate : Tells d0 → (groups : List Group) → MayFollow d0 anchor groups place group → (image : Image) → MayLeaveTorn (IsGateAt anchor place) d1.now image → Either groups image
+    torn_gate told groups follow image torn = has_either anchor behind groups group place d0 follow d1 header is_header (ready told) (left-1 told groups follow) torn.0 torn.1 image torn.2
+
+    more_once_synced : Tells d0 → (groups : List Group) → MayFollow d0 anchor groups place group → (image : Image) → MayLeaveTorn (IsGateAt anchor place) d1.now image → More groups image
+    more_once_synced told groups follow image torn = elim (torn_gate told groups follow image torn) [
+      | inl has ↦ inl has
+      | inr has ↦ inr (has, synced_beside told image torn)
+    ]
+
     pub group_written : WritesGroup d0 d2 anchor place group
     group_written = record {
       writes = only_writes-then d0 d1 d2 Places wide (only_writes-wider d1 d2 (IsGateAt anchor place) Places (gate_on_places anchor place (length group.images)) second);
       any_moment = λ told groups follow.
           then_on d0 d1 d2 (Either groups) (body_written.any_moment told groups follow)
-          (touches-leaves d1 d2 (IsGateAt anchor place) (Either groups) (told-1 told) second.touches
-          (λ image torn. has_either anchor behind groups group place d0 follow d1 header is_header (ready told) (left-1 told groups follow) torn.0 torn.1 image torn.2));
+          (touches-leaves d1 d2 (IsGateAt anchor place) (Either groups) (told-1 told) second.touches (torn_gate told groups follow));
+      synced = λ told groups follow.
+          then_on d0 d1 d2 (More groups) (body_written.synced told groups follow)
+          (touches-leaves d1 d2 (IsGateAt anchor place) (More groups) (told-1 told) second.touches (more_once_synced told groups follow));
     }
+
+    -- and then nothing is pending on the volume
+    pub group_synced : (Tells d1 → Settles anchor.log_vol (ring_byte anchor place) opened d1.now d2.now) → Tells d0 → IsSyncedOn anchor.log_vol d2.now
+    group_synced opens told = (opens (told-1 told)).here
 
     pub group_done : (Tells d1 → Settles anchor.log_vol (ring_byte anchor place) opened d1.now d2.now) → HasWrittenGroup d0 d2 anchor place group
     unfolding opened

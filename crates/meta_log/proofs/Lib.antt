@@ -2,7 +2,10 @@ pub mod Appending
 pub mod Bodies
 pub mod Checkpointing
 pub mod Forcing
+pub mod FromStore
 pub mod Joining
 pub mod Numbering
 pub mod Pending
 pub mod SlotLists
+pub mod OfLogRing
+pub mod OfVolumeDisk

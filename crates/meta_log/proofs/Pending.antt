@@ -13,13 +13,17 @@ use Rattle.log_ring.specs.declared.image.PageImage.{PageImage}
 use Rattle.log_ring.specs.Groups.{Group, LogStands, images_of, span}
 use Rattle.log_ring.specs.Homes.{IsLoggable}
 use Rattle.log_ring.specs.Ring.{IsOnPlaces}
-use Rattle.meta_log.specs.Force.{Forces, HasEither, HasForced, HasWrittenGroup, MayFollow, WritesGroup, forced}
+use Rattle.meta_log.specs.Force.{Forces, HasEither, HasForced, HasMoreOnceSynced, HasWrittenGroup, MayFollow, WritesGroup, forced}
 use Rattle.meta_log.proofs.SlotLists.{none_left, parts_joined}
 use Rattle.meta_log.specs.Log.{IsLog, Log, Stands, group_of, groups_of, next_number, pending_groups, used}
 
 -- the images of the slots from one on
 pub images_between : (slots items : List PageImage) (first end : ℕ) → items ≡ slots → take (end - first) (drop first items) ≡ drop first (take end slots)
 images_between slots items first end is = ap (λ (l : List PageImage). take (end - first) (drop first l)) is ∙ between_is slots first end
+
+-- the images of the slots up to one are those of two parts
+pub front_is : (slots items : List PageImage) (first end : ℕ) → first ≤ end → items ≡ slots → take end items ≡ take first slots ++ drop first (take end slots)
+front_is slots items first end order is = ap (λ (l : List PageImage). take end l) is ∙ sym (parts_joined slots first end order)
 
 abbrev log_with : Anchor → ℕ → List PageImage → List PageImage → Log
 log_with anchor groups logged pending = record { anchor = anchor; groups = groups; logged = logged; pending = pending }
@@ -117,6 +121,10 @@ module _ (log : Log) (is : IsLog log) where
           subst (λ n. OnlyWrites d0 d1 (IsOnPlaces log.anchor place n)) (omega (arith, last)) writes.writes;
       any_moment = λ told groups stands.
           subst (λ (gs : List Group). LeavesOnly d0 d1 (HasEither d0.sizes log.anchor groups (groups ++ gs))) (sym pending_is) (writes.any_moment told groups (may_follow d0 groups stands));
+      synced = λ told groups stands.
+          let last = ap span pending_is in
+          subst (λ n. LeavesOnly d0 d1 (HasMoreOnceSynced d0 log.anchor place n groups (pending_groups log))) (omega (arith, last))
+          (subst (λ (gs : List Group). LeavesOnly d0 d1 (HasMoreOnceSynced d0 log.anchor place (length log.pending + 2) groups gs)) (sym pending_is) (writes.synced told groups (may_follow d0 groups stands)));
     }
 
     pub has_forced : (d0 d1 : Disk) → HasWrittenGroup d0 d1 log.anchor place group → HasForced d0 d1 log

@@ -1,6 +1,6 @@
 -- How the images of durable groups come home, and the log's start goes behind them.
 use Rattle.std.specs.Prelude.{◌≡◌, ◌==◌, ◌&&◌, ◌+◌, ◌-◌, ◌%◌, ℕ, Bool, IsTrue, List, [], Some, if◌then◌else◌}
-use Rattle.log_ring.specs.domain_base.Limits.{log_pages}
+use Rattle.log_ring.specs.domain_base.Limits.{log_pages, max_volumes}
 use Rattle.log_ring.specs.volume_disk.Disk.{Disk, MayLeave, Tells}
 use Rattle.log_ring.specs.volume_disk.Image.{Image}
 use Rattle.log_ring.specs.volume_disk.Run.{LeavesOnly, OnlyWrites}
@@ -9,7 +9,8 @@ use Rattle.log_ring.specs.disk_label.Slot.{IsReady, IsReadyFor, StandsIn}
 use Rattle.log_ring.specs.disk_label.declared.anchor.Anchor.{Anchor}
 use Rattle.log_ring.specs.Groups.{Group}
 use Rattle.log_ring.specs.Ring.{IsGateOpen}
-use Rattle.log_ring.specs.Settling.{IsAtHomesOrSlot, IsRedoneAs, MeansTheSame}
+use Rattle.log_ring.specs.Settling.{AreSyncedBelow, IsAtHomesOrSlot, IsRedoneAs, MeansTheSame}
+use Rattle.meta_log.specs.Force.{IsSyncedOn}
 use Rattle.meta_log.specs.Log.{Log, Stands, new_log, next_number, used}
 
 -- two anchors have the log on one ring
@@ -54,6 +55,9 @@ pub record HasCheckpointed (old new : Disk) (log : Log) (next : Anchor) : Type 0
   pub next_ready : Tells old → (later : Anchor) → IsReadyFor old (Some log.anchor) next
       → log.anchor.log_vol ≡ next.log_vol → IsNext (Some next) later
       → later.log_vol ≡ next.log_vol → IsReadyFor new (Some next) later
+  -- nothing is pending on the volumes of the homes, nor on that of the log
+  pub synced : Tells old → AreSyncedBelow (max_volumes + 1) log.logged new.now
+  pub anchor_synced : Tells old → IsSyncedOn next.log_vol new.now
   -- and each other slot that was ready stays so
   pub others : Tells old → (vol slot : ℕ) → IsReadyFor old (Some log.anchor) next
       → IsReady old (Some log.anchor) vol slot → ¬ StandsIn (Some next) vol slot

@@ -59,13 +59,36 @@ abbrev pub HasEither : List ℕ → Anchor → List Group → List Group → Ima
 HasEither sizes anchor groups others image =
     HasLog sizes anchor groups image ⊎ HasLog sizes anchor others image
 
+-- nothing is pending on a volume
+abbrev pub IsSyncedOn : ℕ → Moment → Type 0
+IsSyncedOn vol moment = (k : ℕ) → moment.unsynced vol k ≡ false
+
+-- an image has on the log's volume what a read gave at a moment, but for the n places from this one
+-- on
+abbrev pub IsSyncedBeside : Moment → Anchor → ℕ → ℕ → Image → Type 0
+IsSyncedBeside moment anchor place n image =
+    (k : ℕ) → ¬ IsOnPlaces anchor place n anchor.log_vol k
+    → image anchor.log_vol k ≡ moment.contents anchor.log_vol k
+
+-- an image has these groups; or more of them in the n places from this one on, and then the rest of
+-- the log's volume was synced before
+abbrev pub HasMoreOnceSynced : Disk → Anchor → ℕ → ℕ → List Group → List Group → Image → Type 0
+HasMoreOnceSynced old anchor place n groups more image =
+    HasLog old.sizes anchor groups image
+    ⊎ (HasLog old.sizes anchor (groups ++ more) image
+    × IsSyncedBeside old.now anchor place n image)
+
 -- a group was written at a place, or that was cut short: nothing is touched but its places and the
--- next one, and each image since has it whole or not at all
+-- next one, and each image since has it whole or not at all. Its gate opens only once the log's
+-- volume is synced.
 pub record WritesGroup (old new : Disk) (anchor : Anchor) (place : ℕ) (group : Group)
     : Type 0 where
   pub writes : OnlyWrites old new (IsOnPlaces anchor place (length group.images + 2))
   pub any_moment : Tells old → (groups : List Group) → MayFollow old anchor groups place group
       → LeavesOnly old new (HasEither old.sizes anchor groups (groups ++ group ∷ []))
+  pub synced : Tells old → (groups : List Group) → MayFollow old anchor groups place group
+      → LeavesOnly old new
+      (HasMoreOnceSynced old anchor place (length group.images + 2) groups (group ∷ []))
 
 -- it is done
 abbrev pub HasWrittenGroup : Disk → Disk → Anchor → ℕ → Group → Type 0
@@ -76,13 +99,18 @@ HasWrittenGroup old new anchor place group =
 -- What is pending.
 
 -- it was made durable, or that was cut short: nothing is touched but the ring behind the durable
--- groups, and each image since has it whole or not at all
+-- groups, and each image since has it whole or not at all. The gate opens only once the log's
+-- volume is synced.
 pub record Forces (old new : Disk) (log : Log) : Type 0 where
   pub writes : let place = log.anchor.start + used log in
       OnlyWrites old new (IsOnPlaces log.anchor place (span (pending_groups log) + 1))
   pub any_moment : Tells old → (groups : List Group) → Stands old log groups
       → LeavesOnly old new
       (HasEither old.sizes log.anchor groups (groups ++ pending_groups log))
+  pub synced : Tells old → (groups : List Group) → Stands old log groups
+      → let place = log.anchor.start + used log in
+      let n = span (pending_groups log) + 1 in
+      LeavesOnly old new (HasMoreOnceSynced old log.anchor place n groups (pending_groups log))
 
 -- the log once that is durable
 abbrev pub forced : Log → Log

@@ -1,7 +1,10 @@
 -- The log as it is held in memory: what has been made durable since its start, and what was
 -- appended after that.
-use Rattle.std.specs.Prelude.{◌≡◌, ◌⊎◌, ◌+◌, ◌-◌, ◌^◌, ◌<◌, ◌≤◌, ℕ, List, [], ◌∷◌, length, min}
+use Rattle.std.specs.Option.{unwrap_or}
+use Rattle.std.specs.Prelude.{◌≡◌, ◌⊎◌, ◌+◌, ◌-◌, ◌^◌, ◌<◌, ◌≤◌, ℕ, List, [], ◌∷◌, length, map, min}
 use Rattle.log_ring.specs.domain_base.Limits.{group_images, log_pages}
+use Rattle.log_ring.specs.domain_base.declared.place.Home.{Home}
+use Rattle.log_ring.specs.page_store.Pages.{Pages}
 use Rattle.log_ring.specs.volume_disk.Disk.{Disk}
 use Rattle.log_ring.specs.disk_label.FirstPages.{anchors_page}
 use Rattle.log_ring.specs.disk_label.declared.anchor.Anchor.{Anchor}
@@ -63,6 +66,14 @@ pub record Stands (disk : Disk) (log : Log) (groups : List Group) : Type 0 where
   pub count : length groups ≡ log.groups
 
 -- What may be appended.
+
+-- the image of a home with the page that stands there in a store
+abbrev pub image_in : Pages → Home → PageImage
+image_in pages home = record { home = home; page = unwrap_or (pages home) [] }
+
+-- those of homes, in their order
+abbrev pub images_at : Pages → List Home → List PageImage
+images_at pages homes = map (image_in pages) homes
 
 -- the log with a change joined to what is pending
 abbrev pub appended : Log → List PageImage → Log

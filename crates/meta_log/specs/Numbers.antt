@@ -1,5 +1,5 @@
 -- The numbers of anchors and groups, and the calls of a rack that it takes to raise them.
-use Rattle.std.specs.Prelude.{ℕ, ◌+◌, ◌-◌, ◌*◌, ◌^◌, ◌<◌, ◌≤◌, length}
+use Rattle.std.specs.Prelude.{ℕ, ◌+◌, ◌*◌, ◌^◌, ◌<◌, ◌≤◌, length}
 use Rattle.log_ring.specs.volume_disk.Disk.{Disk}
 use Rattle.log_ring.specs.volume_disk.Run.{IsLaterBy}
 use Rattle.log_ring.specs.disk_label.declared.anchor.Anchor.{Anchor}

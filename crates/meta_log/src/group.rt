@@ -4,7 +4,13 @@ ghost use Rattle.log_ring.specs.domain_base.Limits.{log_pages, page_bytes};
 ghost use Rattle.log_ring.specs.domain_base.Gate.{opened};
 ghost use Rattle.log_ring.specs.volume_disk.Disk.{Tells};
 ghost use Rattle.log_ring.specs.volume_disk.Image.{IsIn};
-ghost use Rattle.log_ring.specs.volume_disk.Run.{IsLaterBy, NamesWriteFault, OnlyWrites, Settles};
+ghost use Rattle.log_ring.specs.volume_disk.Run.{
+  IsAtMost,
+  IsLaterBy,
+  NamesWriteFault,
+  OnlyWrites,
+  Settles,
+};
 ghost use Rattle.log_ring.specs.Groups.{AreImagesAt};
 ghost use Rattle.log_ring.specs.Ring.{IsGateOpen, IsOnPlaces, IsRing, place_at, ring_byte};
 ghost use Rattle.log_ring.specs.Header.{IsSayable, header_for};
@@ -14,6 +20,7 @@ ghost use Rattle.meta_log.specs.Force.{
   IsGroupBody,
   IsHeaderBody,
   IsReadyToOpen,
+  IsSyncedOn,
   IsWrittenBody,
   WritesGroup,
 };
@@ -50,6 +57,7 @@ fn write_header_body<R: Rack>(
     ensures written { let new = R.disk rack.new in OnOk result (Tells (R.disk rack.old)
         → IsWrittenBody new.now.contents anchor.now place header.now) }
     ensures later { OnOk result (IsLaterBy 1 (R.disk rack.old) (R.disk rack.new)) }
+    ensures few { IsAtMost 1 (R.disk rack.old) (R.disk rack.new) }
     ensures fault { NamesWriteFault (R.disk rack.old) (R.disk rack.new) result }
 {
     write_blocks(
@@ -74,6 +82,7 @@ fn write_image<R: Rack>(
         OnlyWrites (R.disk rack.old) (R.disk rack.new) places }
     ensures written { let new = R.disk rack.new in OnOk result (Tells (R.disk rack.old)
         → place_at new.now.contents anchor.now place ≡ image.now.page) }
+    ensures few { IsAtMost 1 (R.disk rack.old) (R.disk rack.new) }
     ensures fault { NamesWriteFault (R.disk rack.old) (R.disk rack.new) result }
 {
     write_blocks(rack, vol, ring_block(anchor, place), image.page.bytes())
@@ -95,6 +104,7 @@ fn write_images<R: Rack>(
         OnlyWrites (R.disk rack.old) (R.disk rack.new) places }
     ensures written { let new = R.disk rack.new in OnOk result (Tells (R.disk rack.old)
         → AreImagesAt new.now.contents anchor.now place images.now) }
+    ensures few { IsAtMost (length images.now) (R.disk rack.old) (R.disk rack.new) }
     ensures fault { NamesWriteFault (R.disk rack.old) (R.disk rack.new) result }
 {
     for (i, image) in images.iter().enumerate() {
@@ -111,6 +121,7 @@ fn close_gate<R: Rack>(rack: &mut R, vol: VolIx, anchor: &Anchor, place: u32) ->
     ensures closed { let new = R.disk rack.new in OnOk result (Tells (R.disk rack.old)
         → ¬ IsGateOpen new.now.contents anchor.now place) }
     ensures later { OnOk result (IsLaterBy 1 (R.disk rack.old) (R.disk rack.new)) }
+    ensures few { IsAtMost 1 (R.disk rack.old) (R.disk rack.new) }
     ensures fault { NamesWriteFault (R.disk rack.old) (R.disk rack.new) result }
 {
     write_blocks(rack, vol, ring_block(anchor, place), &closed_block())
@@ -134,6 +145,7 @@ fn write_body<R: Rack>(
     ensures ready { let new = R.disk rack.new in OnOk result (Tells (R.disk rack.old)
         → IsReadyToOpen new.now anchor.now place header.now images.now) }
     ensures later { OnOk result (IsLaterBy 3 (R.disk rack.old) (R.disk rack.new)) }
+    ensures few { IsAtMost (length images.now + 3) (R.disk rack.old) (R.disk rack.new) }
     ensures fault { NamesWriteFault (R.disk rack.old) (R.disk rack.new) result }
 {
     write_header_body(rack, vol, anchor, place, header)?;
@@ -151,6 +163,7 @@ fn open_group<R: Rack>(rack: &mut R, vol: VolIx, anchor: &Anchor, place: u32) ->
         OnOk result (Tells old
         → Settles anchor.now.log_vol (ring_byte anchor.now place) opened old.now new.now) }
     ensures later { OnOk result (IsLaterBy 2 (R.disk rack.old) (R.disk rack.new)) }
+    ensures few { IsAtMost 2 (R.disk rack.old) (R.disk rack.new) }
     ensures fault { NamesWriteFault (R.disk rack.old) (R.disk rack.new) result }
 {
     open_gate(rack, vol, ring_block(anchor, place))
@@ -158,8 +171,8 @@ fn open_group<R: Rack>(rack: &mut R, vol: VolIx, anchor: &Anchor, place: u32) ->
 
 /// Writes a group of that number and these images at a place of the ring: first all but its gate,
 /// with the next gate closed, and its gate once that is synced. Its own gate must have been closed
-/// and synced before (`MayFollow`). The header is made in a page that is given for it. The error is
-/// the volume, if its write or sync failed.
+/// and synced before (`MayFollow`). The header is made in a page that is given for it. At Ok
+/// nothing is pending on the log's volume. The error is the volume, if its write or sync failed.
 pub fn write_group<R: Rack>(
     rack: &mut R,
     anchor: &Anchor,
@@ -175,7 +188,10 @@ pub fn write_group<R: Rack>(
         WritesGroup (R.disk rack.old) (R.disk rack.new) anchor.now place group }
     ensures done { let group = group_of number images.now in OnOk result
         (HasWrittenGroup (R.disk rack.old) (R.disk rack.new) anchor.now place group) }
+    ensures synced { let new = R.disk rack.new in OnOk result (Tells (R.disk rack.old)
+        → IsSyncedOn anchor.now.log_vol new.now) }
     ensures later { OnOk result (IsLaterBy 5 (R.disk rack.old) (R.disk rack.new)) }
+    ensures few { IsAtMost (length images.now + 5) (R.disk rack.old) (R.disk rack.new) }
     ensures fault { NamesWriteFault (R.disk rack.old) (R.disk rack.new) result }
 {
     let Some(vol) = VolIx::new(anchor.log_vol) else {

@@ -10,3 +10,9 @@ mod slots;
 pub use fault::LogFull;
 pub use laws::number_laws;
 pub use log::MetaLog;
+
+// What stands below and is named above.
+pub use log_ring::{
+    Anchor, Home, MetaPages, OutOfMemory, Page, Rack, VolIx, limits, read_blocks, redo_laws,
+    sync_volume, write_blocks,
+};

@@ -9,7 +9,10 @@ ghost use Rattle.std.specs.Prelude.{
   ◌↔◌,
   ◌⊎◌,
   ℕ,
+  ◌++◌,
+  All,
   IfOk,
+  IsSome,
   IsTrue,
   List,
   MatchOption,
@@ -19,22 +22,25 @@ ghost use Rattle.std.specs.Prelude.{
   Some,
   length,
 };
-ghost use Rattle.log_ring.specs.domain_base.Limits.{log_pages};
+ghost use Rattle.log_ring.specs.domain_base.Limits.{log_pages, transaction_pages};
+ghost use Rattle.log_ring.specs.page_store.Pages.{Pages};
 ghost use Rattle.log_ring.specs.volume_disk.Disk.{Tells};
-ghost use Rattle.log_ring.specs.volume_disk.Run.{IsLaterBy, NamesWriteFault};
+ghost use Rattle.log_ring.specs.volume_disk.Run.{IsAtMost, IsLaterBy, NamesWriteFault};
 ghost use Rattle.log_ring.specs.disk_label.Anchor.{IsAnchor, IsWhole};
 ghost use Rattle.log_ring.specs.disk_label.FirstPages.{anchors_page};
-ghost use Rattle.log_ring.specs.Images.{IsChange, joined};
+ghost use Rattle.log_ring.specs.Images.{AreDistinct, IsChange, joined};
 ghost use Rattle.log_ring.specs.declared.image.PageImage.{PageImage};
-ghost use Rattle.log_ring.specs.Homes.{AreLoggable, AreOutside, HasMembers};
+ghost use Rattle.log_ring.specs.Homes.{AreLoggable, AreOutside, HasMembers, IsLoggable};
 ghost use Rattle.log_ring.specs.Ring.{IsRing};
+ghost use Rattle.log_ring.specs.Settling.{HasHome};
 ghost use Rattle.meta_log.specs.Checkpoint.{Checkpoints, HasCheckpointed, next_anchor};
-ghost use Rattle.meta_log.specs.Force.{Forces, HasForced, forced};
+ghost use Rattle.meta_log.specs.Force.{Forces, HasForced, IsSyncedOn, forced};
 ghost use Rattle.meta_log.specs.Log.{
   HasPlaceFor,
   IsFullFor,
   IsLog,
   appended,
+  images_at,
   new_log,
   next_number,
   room_of,
@@ -43,9 +49,12 @@ ghost use Rattle.meta_log.specs.Log.{
 
 use crate::LogFull;
 use crate::group::write_group;
-use crate::slots::{count_joined, join, new_slots};
+use crate::slots::{count_at, count_joined, join, join_from, new_slots};
 use log_ring::limits::{GROUP_IMAGES, LOG_PAGES};
-use log_ring::{Anchor, Change, OutOfMemory, Page, PageImage, Rack, VolIx, bring_home};
+use log_ring::{
+    Anchor, Change, Home, MetaPages, OutOfMemory, Page, PageImage, Rack, VolIx, bring_home,
+    image_of,
+};
 use std::alloc::Global;
 use std::marker::Model;
 
@@ -137,8 +146,8 @@ impl MetaLog {
         )
     }
 
-    /// The number of the next group.
-    fn next_number(&self) -> u64
+    /// The number of the next group, which what is appended will join.
+    pub fn next_number(&self) -> u64
         ensures value { result ≡ next_number self.now }
         ensures range { result < 2 ^ 63 }
     {
@@ -207,14 +216,65 @@ impl MetaLog {
         Ok(number)
     }
 
+    /// Whether a change with these homes, no two of them the same, has a place now.
+    pub fn takes(&self, homes: &[Home]) -> bool
+        requires distinct { AreDistinct homes.now }
+        requires most { length homes.now ≤ transaction_pages }
+        ensures { (pages : Pages) → (IsTrue result ↔ HasPlaceFor self.now
+            (length (joined (images_at pages homes.now) self.now.pending))) }
+    {
+        let count = count_at(&self.slots[self.logged..self.end], homes);
+        self.has_place_for(count)
+    }
+
+    /// Appends the pages that stand at homes in a store, as `append` does a change. The log copies
+    /// them into slots that it has, so this takes no memory. There must be a home, a page at each
+    /// of them, and a place for the change (`takes`), and the homes must be such that they may be
+    /// logged under the log's anchor. Returns the number of the group that they join.
+    pub fn append_from<M: MetaPages>(&mut self, pages: &M, homes: &[Home]) -> u64
+        requires some { 0 < length homes.now }
+        requires kept { All (λ home. IsSome (M.pages pages.now home)) homes.now }
+        requires loggable { All (IsLoggable self.old.anchor) homes.now }
+        requires place { HasPlaceFor self.old
+            (length (joined (images_at (M.pages pages.now) homes.now) self.old.pending)) }
+        requires number { next_number self.old + 1 < 2 ^ 63 }
+        ensures appends { self.new ≡ appended self.old (images_at (M.pages pages.now) homes.now) }
+        ensures number { result ≡ next_number self.old }
+    {
+        let number = self.next_number();
+        self.end = join_from(
+            self.slots.as_mut_slice(),
+            self.logged,
+            self.end,
+            pages,
+            homes,
+        );
+        number
+    }
+
+    /// Whether the log has an image of a home: a durable one that is not home yet, or one that is
+    /// pending.
+    pub fn has_image(&self, home: Home) -> bool
+        ensures { IsTrue result ↔ HasHome (self.now.logged ++ self.now.pending) home }
+    {
+        match image_of(&self.slots[..self.end], home) {
+            Some(_) => true,
+            None => false,
+        }
+    }
+
     /// Writes what is pending, which must be something, as a group, and counts it as durable.
     fn write_pending<R: Rack>(&mut self, rack: &mut R) -> Result<(), VolIx>
         requires ring { IsRing (R.disk rack.old).sizes self.old.anchor }
         requires some { 0 < length self.old.pending }
         ensures forces { Forces (R.disk rack.old) (R.disk rack.new) self.old }
         ensures ok { OnOk result (self.new ≡ forced self.old) }
+        ensures err { OnErr result (self.new ≡ self.old) }
         ensures done { OnOk result (HasForced (R.disk rack.old) (R.disk rack.new) self.old) }
+        ensures synced { let new = R.disk rack.new in OnOk result (Tells (R.disk rack.old)
+            → IsSyncedOn self.old.anchor.log_vol new.now) }
         ensures later { OnOk result (IsLaterBy 5 (R.disk rack.old) (R.disk rack.new)) }
+        ensures few { IsAtMost (length self.old.pending + 5) (R.disk rack.old) (R.disk rack.new) }
         ensures fault { NamesWriteFault (R.disk rack.old) (R.disk rack.new) result }
     {
         let place = self.anchor.start + self.used();
@@ -226,21 +286,27 @@ impl MetaLog {
         Ok(())
     }
 
-    /// Makes what is pending durable: as one group after a gate, which is opened once the group is
-    /// synced. With nothing pending it makes no call. Returns the number of the last durable group,
-    /// or 0 if there is none. That can only be if nothing was pending, and `last_durable` tells it
-    /// from group 0. The ring must lie in the rack. The error is the volume, if its write or sync
-    /// failed. The log must not be used again then.
+    /// Makes what is pending durable: as one group after a gate, which is opened once the group and
+    /// all else of the log's volume are synced. If something was pending, nothing is unsynced on
+    /// that volume then. It makes five calls more than there are images, and none with nothing
+    /// pending. Returns the number of the last durable group, or 0 if there is none. That can only
+    /// be if nothing was pending, and `last_durable` tells it from group 0. The ring must lie in
+    /// the rack. The error is the volume, if its write or sync failed. The log must not be used
+    /// again then.
     pub fn force<R: Rack>(&mut self, rack: &mut R) -> Result<u64, VolIx>
         requires { IsRing (R.disk rack.old).sizes self.old.anchor }
         ensures forces { Forces (R.disk rack.old) (R.disk rack.new) self.old }
         ensures idle { self.old.pending ≡ [] → R.disk rack.new ≡ R.disk rack.old }
         ensures ok { OnOk result (self.new ≡ forced self.old) }
+        ensures err { OnErr result (self.new ≡ self.old) }
         // if the next group is group 0 there is none before it, and the result is 0
         ensures number { IfOk result (λ number. number ≡ next_number self.new - 1) }
         ensures done { OnOk result (HasForced (R.disk rack.old) (R.disk rack.new) self.old) }
+        ensures synced { let new = R.disk rack.new in OnOk result (0 < length self.old.pending
+            → Tells (R.disk rack.old) → IsSyncedOn self.old.anchor.log_vol new.now) }
         ensures later { OnOk result (0 < length self.old.pending
             → IsLaterBy 5 (R.disk rack.old) (R.disk rack.new)) }
+        ensures few { IsAtMost (length self.old.pending + 5) (R.disk rack.old) (R.disk rack.new) }
         ensures fault { NamesWriteFault (R.disk rack.old) (R.disk rack.new) result }
     {
         if !self.is_pending() {
@@ -292,7 +358,8 @@ impl MetaLog {
 
     /// Brings the images of the durable groups home and moves the log's start past them, by the
     /// given anchor with another number, slot, start and group. Each home is written once, and each
-    /// volume is synced once before the anchor. Returns the anchor's number.
+    /// volume of a home is synced once before the anchor. Nothing is unsynced on these volumes and
+    /// on the anchor's then. The anchor takes six calls. Returns the anchor's number.
     ///
     /// Nothing may be pending. The members of the old anchor and the ring of the new one must lie
     /// in the rack, no durable image may have a page of the new ring as its home, and the anchor of
@@ -312,10 +379,12 @@ impl MetaLog {
         ensures checkpoints { let next = next_anchor self.old anchor.now in
             Checkpoints (R.disk rack.old) (R.disk rack.new) self.old next }
         ensures ok { OnOk result (self.new ≡ new_log (next_anchor self.old anchor.now)) }
+        ensures err { OnErr result (self.new ≡ self.old) }
         ensures number { IfOk result (λ number. number ≡ self.old.anchor.number + 1) }
         ensures done { let next = next_anchor self.old anchor.now in OnOk result
             (HasCheckpointed (R.disk rack.old) (R.disk rack.new) self.old next) }
         ensures later { OnOk result (IsLaterBy 6 (R.disk rack.old) (R.disk rack.new)) }
+        ensures few { IsAtMost (length self.old.logged + 14) (R.disk rack.old) (R.disk rack.new) }
         ensures fault { NamesWriteFault (R.disk rack.old) (R.disk rack.new) result }
     {
         let next = self.next_anchor(anchor);

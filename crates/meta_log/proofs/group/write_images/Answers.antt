@@ -43,6 +43,7 @@ loop-i-preserved g c =
           only_writes-then old mid new (IsOnPlaces anchor place n) so_far.writes
           (only_writes-wider mid new (IsIn anchor.log_vol (ring_byte anchor (place + i)) 8192) (IsOnPlaces anchor place n) (λ v k is. one_place anchor place i n v k lt is) c.write_image.ensures.writes);
       passed = c.in_ok-write_image.ensures.fault ∙ so_far.passed;
+      few = omega (arith, so_far.few, c.write_image.ensures.few);
       written = λ told.
           let mid_told = so_far.writes.touches.told ∙ told in
           subst (λ (l : List PageImage). AreImagesAt new.now.contents anchor place l) (sym more)

@@ -11,7 +11,8 @@ returns-in-Some-clause-put c =
     let first = c.args.first in
     let end = c.args.end in
     let at = c.in-Some.at in
-    let image = c.args.image.now in
+    let home = c.args.home.now in
+    let page = c.args.page.now in
     let those = drop first (take end slots) in
     let there = c.in-Some.ensures.place in
     let within = there.1.within in
@@ -19,15 +20,16 @@ returns-in-Some-clause-put c =
     let lt : at < end = omega arith in
     set_within slots first at end c.fill.new.slot there.0 lt
     ∙ ap (λ (x : PageImage). set those (at - first) x) c.fill.ensures
-    ∙ sym (with_image-place image.home image.page those (at - first) c.requires.distinct there.1)
+    ∙ sym (with_image-place home page those (at - first) c.requires.distinct there.1)
 
 pub returns-in-None-clause-put : goal.returns-in-None-clause-put
 returns-in-None-clause-put c =
     let slots = c.args.slots.now in
     let first = c.args.first in
     let end = c.args.end in
-    let image = c.args.image.now in
+    let home = c.args.home.now in
+    let page = c.args.page.now in
     let those = drop first (take end slots) in
     set_behind slots first end c.fill-in-None.new.slot c.requires.order c.requires.room
     ∙ ap (λ (x : PageImage). those ++ x ∷ []) c.fill-in-None.ensures
-    ∙ sym (with_image-new image.home image.page those c.in-None.ensures.none)
+    ∙ sym (with_image-new home page those c.in-None.ensures.none)

@@ -1,6 +1,6 @@
 use Rattle.std.proofs.Common.{◌≡◌, ◌+◌, ◌-◌, ◌<◌, List, take, drop, length, vec_len, sym, ◌∙◌, ap, subst, arith}
 use Rattle.log_ring.specs.declared.image.PageImage.{PageImage}
-use Rattle.meta_log.specs.Force.{forced}
+use Rattle.meta_log.specs.Force.{IsSyncedOn, forced}
 use Rattle.meta_log.specs.Inside.{log_of}
 use Rattle.meta_log.specs.Log.{IsLog, Log}
 use Rattle.meta_log.proofs.Pending.{forced_images, forced_is, forces_images, images_between, sayable_images, view_forced}
@@ -44,6 +44,9 @@ returns-clause-done g c =
     let images_are : images ≡ log.pending = images_between c.self.inside.slots.items slots c.self.inside.logged c.self.inside.end c.deref.ensures.value ∙ (λ i. (c.self.view_is i).pending) in
     forced_images log is c.requires.some c.self.inside.anchor (c.self.inside.anchor.start + c.used.result) c.next_number-number.result images (λ i. (c.self.view_is i).anchor) (λ i. (c.self.view_is i).anchor.start + c.used.ensures.value i) c.next_number-number.ensures.value images_are
     (g.R.Rack.disk c.args.rack.now) (g.R.Rack.disk c.write_group.new.rack) c.in_ok-write_group.ensures.done
+
+pub returns-clause-synced : goal.returns-clause-synced
+returns-clause-synced g c = λ told. subst (λ (log : Log). IsSyncedOn log.anchor.log_vol (g.R.Rack.disk c.write_group.new.rack).now) c.self.view_is (c.in_ok-write_group.ensures.synced told)
 
 pub returns-clause-ok : goal.returns-clause-ok
 returns-clause-ok g c =
