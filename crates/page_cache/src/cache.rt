@@ -175,8 +175,8 @@ impl PageCache {
         }
     }
 
-    /// The bytes of the frame of a home, if one is kept.
-    fn page_at(&self, home: &Home) -> Option<&Page>
+    /// The bytes of the frame of a home, if one is kept. Asking does not count as a use.
+    pub fn page_at(&self, home: &Home) -> Option<&Page>
         ensures { option_copied result
             ≡ option_map (λ (f : Frame). f.page) (frames_of self.now home.now) }
     {
@@ -200,7 +200,7 @@ impl PageCache {
     }
 
     /// Uses the frame of a home, if one is kept.
-    fn touch(&mut self, home: &Home)
+    pub fn touch(&mut self, home: &Home)
         ensures { Changes home.now (frames_of self.old home.now) self.old self.new }
     {
         let number = home_number(home);
