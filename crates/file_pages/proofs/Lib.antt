@@ -1,0 +1,4 @@
+mod Brought
+mod LentHomes
+pub mod OfMetaLog
+mod UseOrder

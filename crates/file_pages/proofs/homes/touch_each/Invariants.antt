@@ -1,0 +1,11 @@
+use Rattle.std.proofs.Common.{take}
+use Rattle.page_cache.specs.Cache.{frames_of, order_of}
+use Rattle.file_pages.specs.Lent.{KeepsFrames}
+use Rattle.file_pages.proofs.LentHomes.{ComeWithin}
+use Rattle.file_pages.proofs.homes.touch_each.Given as goal
+
+abbrev pub invariant-loop-home : goal.invariant-loop-home
+invariant-loop-home l = record {
+  keeps : KeepsFrames l.initial.cache l.cache;
+  within : ComeWithin l.home-index (take l.home-index l.homes) (frames_of l.initial.cache) (order_of l.cache);
+}
