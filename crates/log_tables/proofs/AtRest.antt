@@ -30,10 +30,10 @@ use Rattle.log_recovery.specs.declared.redone.Redone.{Redone}
 use Rattle.log_recovery.proofs.GoodAnchors.{homes_there, keeps_good_anchor, leaves_readable, restarts_good, would_be_good}
 use Rattle.log_recovery.proofs.Readied.{readies_to_settle}
 use Rattle.log_recovery.proofs.SettledAnchors.{settles_as_moves}
-use Rattle.meta_log.specs.Checkpoint.{Checkpoints, HasCheckpointed, MayCheckpoint, next_anchor, same_ring}
-use Rattle.meta_log.specs.Force.{Forces, HasEither, HasForced, forced}
-use Rattle.meta_log.specs.Log.{IsFullFor, IsLog, Log, Stands, appended, group_of, groups_of, new_log, next_number, pending_groups, used}
-use Rattle.meta_log.proofs.Pending.{one_group}
+use Rattle.file_pages.specs.meta_log.Checkpoint.{Checkpoints, HasCheckpointed, MayCheckpoint, next_anchor, same_ring}
+use Rattle.file_pages.specs.meta_log.Force.{Forces, HasEither, HasForced, forced}
+use Rattle.file_pages.specs.meta_log.Log.{IsFullFor, IsLog, Log, Stands, appended, group_of, groups_of, new_log, next_number, pending_groups, used}
+use Rattle.file_pages.proofs.OfMetaLog.Pending.{one_group}
 use Rattle.log_recovery.specs.Settling.{ReadsAs, StandsAtHome, StaysRead}
 use Rattle.log_tables.specs.Opened.{Adds, AddsOrNot, ComesHome, IsAtRest, ReadsAsBefore, with_change}
 use Rattle.log_recovery.proofs.Meanings.{good_is, log_settled, only_read, pages_home, reads_from, slot_readied}

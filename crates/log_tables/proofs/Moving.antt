@@ -22,9 +22,9 @@ use Rattle.log_recovery.proofs.OfLogRing.Staying.{log_beside}
 use Rattle.log_recovery.specs.Outcome.{HasGoodAnchor, IsUsable}
 use Rattle.log_recovery.specs.Readable.{IsBesideLabels, IsGoodNow, IsReadable, WouldBeGood, WouldBeGoodNow}
 use Rattle.log_recovery.proofs.GoodAnchors.{homes_there, keeps_good_beside, labels-same, leaves_readable, would_be-same, would_be_good}
-use Rattle.meta_log.specs.Checkpoint.{Checkpoints, HasCheckpointed, MayCheckpoint, next_anchor, same_ring}
-use Rattle.meta_log.specs.Log.{IsLog, Log, Stands, new_log, used}
-use Rattle.meta_log.proofs.Bodies.{written_closed}
+use Rattle.file_pages.specs.meta_log.Checkpoint.{Checkpoints, HasCheckpointed, MayCheckpoint, next_anchor, same_ring}
+use Rattle.file_pages.specs.meta_log.Log.{IsLog, Log, Stands, new_log, used}
+use Rattle.file_pages.proofs.OfMetaLog.Bodies.{written_closed}
 use Rattle.log_tables.specs.Moves.{IsMoving, MovesReadably}
 use Rattle.log_tables.specs.Opened.{IsAtRest}
 use Rattle.log_recovery.proofs.Meanings.{good_is}

@@ -7,7 +7,7 @@ use Rattle.log_recovery.specs.disk_label.declared.anchor.Anchor.{Anchor}
 use Rattle.log_recovery.specs.log_ring.declared.image.PageImage.{PageImage}
 use Rattle.log_recovery.specs.log_ring.Homes.{AreLoggable, AreOutside, HasMembers, member_of}
 use Rattle.log_recovery.specs.log_ring.Ring.{IsRing}
-use Rattle.meta_log.specs.Log.{Log, next_number}
+use Rattle.file_pages.specs.meta_log.Log.{Log, next_number}
 
 -- a change may be appended
 pub record MayAppend (log : Log) (change : List PageImage) : Type 0 where

@@ -10,7 +10,7 @@ use Rattle.log_recovery.specs.disk_label.declared.anchor.Anchor.{Anchor}
 use Rattle.log_recovery.specs.log_ring.Homes.{HasMembers}
 use Rattle.log_recovery.specs.log_ring.Ring.{IsRing}
 use Rattle.log_recovery.specs.Readable.{IsReadable, WouldBeGoodNow}
-use Rattle.meta_log.specs.Log.{Log}
+use Rattle.file_pages.specs.meta_log.Log.{Log}
 
 -- a log may be moved to the volume of an anchor, where the rack has its ring and its members
 pub record MayMoveTo (sizes : List ℕ) (log : Log) (anchor : Anchor) : Type 0 where

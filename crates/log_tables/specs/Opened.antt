@@ -15,8 +15,8 @@ use Rattle.log_recovery.specs.Outcome.{HasGoodAnchor, HasRecovered, IsFirstFault
 use Rattle.log_recovery.specs.Readable.{IsGoodNow}
 use Rattle.log_recovery.specs.Settled.{HasNumbersLeft, settled_anchor}
 use Rattle.log_recovery.specs.declared.redone.Redone.{Redone}
-use Rattle.meta_log.specs.Force.{HasEither}
-use Rattle.meta_log.specs.Log.{IsFullFor, Log, Stands, group_of, new_log, next_number}
+use Rattle.file_pages.specs.meta_log.Force.{HasEither}
+use Rattle.file_pages.specs.meta_log.Log.{IsFullFor, Log, Stands, group_of, new_log, next_number}
 use Rattle.log_recovery.specs.Settling.{ReadsAs}
 use Rattle.log_tables.specs.declared.openings.OpenFault.{OpenFault}
 use Rattle.log_tables.specs.declared.openings.OpenFault.TheVariants.{Recovering, NoNumbers, Readying, Settling, OutOfMemory}

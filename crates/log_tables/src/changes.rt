@@ -74,7 +74,7 @@ pub fn change(alloc: Global, numbers: &[u64], out: &mut String) -> Result<(), Fa
 }
 
 /// Installs a change over pages, if there is room: whether there was.
-fn install<M: MetaPages>(change: Change, pages: &mut M) -> bool {
+pub fn install<M: MetaPages>(change: Change, pages: &mut M) -> bool {
     if pages.spare() < change.len() {
         return false;
     }

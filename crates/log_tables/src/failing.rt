@@ -5,8 +5,8 @@ use crate::logs::{append, bring_home, force};
 use crate::racks::{SIZES, put_group, started};
 use crate::seen::{Seen, faults_of, leaves, look_at};
 use crate::settling::{Settled, make_ready, settle_log};
+use file_pages::MetaLog;
 use log_recovery::{OutOfMemory, Rack, RecoverFault, VolIx, recover};
-use meta_log::MetaLog;
 use std::alloc::Global;
 
 /// A group as it is written by hand: its number, the volume and page of each image, and the byte
@@ -49,7 +49,7 @@ const REDONE_AT_HOME: Seen = Seen {
 };
 
 /// How many pages of volumes share one in memory, where stops are many.
-const FOLD: u32 = 5;
+pub const FOLD: u32 = 5;
 
 /// A rack with the three groups, on which these calls fail, and whose volumes are folded so often.
 pub fn by_hand(alloc: Global, fold: u32, fails: &[u64]) -> Result<CountRack, OutOfMemory> {

@@ -2,17 +2,18 @@
 ghost use Rattle.std.specs.Prelude.{◌+◌, ◌^◌, ◌<◌, IsTrue};
 ghost use Rattle.log_recovery.specs.log_ring.Homes.{AreLoggable, HasMembers};
 ghost use Rattle.log_recovery.specs.log_ring.Ring.{IsRing};
-ghost use Rattle.meta_log.specs.Log.{next_number};
+ghost use Rattle.file_pages.specs.meta_log.Log.{next_number};
 ghost use Rattle.log_tables.specs.Calls.{HasMember, MayAppend, MayBringHome};
 ghost use Rattle.log_tables.specs.Moves.{MayMoveTo};
 
 use crate::counting::CountRack;
+use file_pages::{LogFull, MetaLog};
 use log_recovery::limits::{LOG_PAGES, MAX_VOLUME_PAGES_4, MAX_VOLUMES, PAGE_BYTES};
 use log_recovery::{
     Anchor, Change, Home, Member, OutOfMemory, Page, PageImage, Rack, VolIx, is_loggable, is_whole,
 };
-use meta_log::{LogFull, MetaLog};
 use std::alloc::Global;
+use std::test::Fail;
 
 pub const NONE: Member = Member { pages: 0, state: 0 };
 
@@ -29,7 +30,7 @@ fn are_loggable(anchor: &Anchor, images: &[PageImage]) -> bool
     true
 }
 
-fn has_number_left(log: &MetaLog) -> bool
+pub fn has_number_left(log: &MetaLog) -> bool
     ensures { IsTrue result → next_number log.now + 1 < 2 ^ 63 }
 {
     match log.last_durable() {
@@ -44,7 +45,7 @@ pub fn may_append(log: &MetaLog, change: &Change) -> bool
     has_number_left(log) && !change.is_empty() && are_loggable(log.anchor(), change.images())
 }
 
-fn has_ring<R: Rack>(rack: &R, anchor: &Anchor) -> bool
+pub fn has_ring<R: Rack>(rack: &R, anchor: &Anchor) -> bool
     ensures { IsTrue result → IsRing (R.disk rack.now).sizes anchor.now }
 {
     let Some(vol) = VolIx::new(anchor.log_vol) else {
@@ -66,7 +67,7 @@ fn has_member<R: Rack>(rack: &R, anchor: &Anchor, vol: VolIx) -> bool
     is_none || (vol.number() <= rack.volumes() && fits)
 }
 
-fn has_members<R: Rack>(rack: &R, anchor: &Anchor) -> bool
+pub fn has_members<R: Rack>(rack: &R, anchor: &Anchor) -> bool
     ensures { IsTrue result → HasMembers (R.disk rack.now).sizes anchor.now }
 {
     for number in 1..MAX_VOLUMES + 1 {
@@ -104,6 +105,23 @@ pub enum Appended {
     Unfit,
 }
 
+/// Says what an append answered.
+pub fn say_appended(out: &mut String, appended: Appended) -> Result<(), Fail> {
+    match appended {
+        Appended::Group(number) => write!(out, ": group {number}")?,
+        Appended::Full => out.push_str(": full")?,
+        Appended::Unfit => out.push_str(": unfit")?,
+    }
+    Ok(())
+}
+
+/// A page that is full of a byte.
+pub fn full_page(alloc: Global, byte: u8) -> Result<Page, OutOfMemory> {
+    let mut page = Page::zeros(alloc)?;
+    page.set(0, &[byte; PAGE_BYTES]);
+    Ok(page)
+}
+
 /// A change that puts pages full of a byte at pages of a volume.
 pub fn change_of(alloc: Global, vol: u32, pages: &[(u32, u8)]) -> Result<Change, OutOfMemory> {
     let mut change = Change::new(alloc)?;
@@ -111,8 +129,7 @@ pub fn change_of(alloc: Global, vol: u32, pages: &[(u32, u8)]) -> Result<Change,
         return Ok(change);
     };
     for (page, byte) in pages {
-        let mut content = Page::zeros(alloc)?;
-        content.set(0, &[*byte; PAGE_BYTES]);
+        let content = full_page(alloc, *byte)?;
         if change.len() < 32 {
             change.put(Home { vol, page: *page }, content);
         }

@@ -4,14 +4,14 @@ ghost use Rattle.log_recovery.specs.volume_disk.Disk.{Tells};
 ghost use Rattle.log_recovery.specs.volume_disk.Run.{Touches};
 ghost use Rattle.log_recovery.specs.disk_label.Fault.{HasSlotCause};
 ghost use Rattle.log_recovery.specs.Readable.{WouldBeGoodNow};
-ghost use Rattle.meta_log.specs.Checkpoint.{next_anchor};
-ghost use Rattle.meta_log.specs.Log.{new_log};
+ghost use Rattle.file_pages.specs.meta_log.Checkpoint.{next_anchor};
+ghost use Rattle.file_pages.specs.meta_log.Log.{new_log};
 ghost use Rattle.log_tables.specs.Moves.{IsMoving, MayMoveTo, MovesReadably};
 ghost use Rattle.log_tables.specs.Opened.{IsAtRest};
 
+use file_pages::MetaLog;
 use log_recovery::limits::BLOCKS_PER_PAGE;
 use log_recovery::{Anchor, Rack, SlotFault, VolIx, close_gate, ready_slot, sync_volumes};
-use meta_log::MetaLog;
 
 /// Moves a log that is home to a ring on another volume, by an anchor that is given but for its
 /// number, slot, start and group: makes both slots of the volume ready, closes the gate at which

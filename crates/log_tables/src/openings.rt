@@ -5,8 +5,8 @@ ghost use Rattle.std.specs.Prelude.{◌≡◌, ◌⊎◌, ◌^◌, ◌≤◌, If
 ghost use Rattle.log_recovery.specs.volume_disk.Disk.{IsSettled, Tells};
 ghost use Rattle.log_recovery.specs.volume_disk.Run.{Touches};
 ghost use Rattle.log_recovery.specs.log_ring.Ring.{IsOnLog};
-ghost use Rattle.meta_log.specs.Checkpoint.{next_anchor};
-ghost use Rattle.meta_log.specs.Log.{new_log};
+ghost use Rattle.file_pages.specs.meta_log.Checkpoint.{next_anchor};
+ghost use Rattle.file_pages.specs.meta_log.Log.{new_log};
 ghost use Rattle.log_recovery.specs.Settling.{StandsAtHome, StaysRead};
 ghost use Rattle.log_tables.specs.Calls.{MayAppend};
 ghost use Rattle.log_tables.specs.Opened.{
@@ -21,8 +21,8 @@ ghost use Rattle.log_tables.specs.Opened.{
   WasFull,
 };
 
+use file_pages::MetaLog;
 use log_recovery::{Change, Rack, RecoverFault, SlotFault, VolIx, ready_slot, recover, settle};
-use meta_log::MetaLog;
 use std::alloc::Global;
 
 /// Why a log is not opened.

@@ -4,13 +4,13 @@ ghost use Rattle.log_recovery.specs.volume_disk.Disk.{Tells};
 
 use crate::counting::{CountRack, NO_CALLS};
 use crate::logs::NONE;
+use file_pages::MetaLog;
 use log_recovery::gate::open_block;
 use log_recovery::limits::{BLOCKS_PER_PAGE, LOG_PAGES, MAX_VOLUME_PAGES, PAGE_BYTES};
 use log_recovery::{
     Anchor, Home, Member, OutOfMemory, Page, Rack, Version, VolIx, is_whole, read_blocks,
     write_anchor, write_label,
 };
-use meta_log::MetaLog;
 use std::alloc::Global;
 
 /// The pages of volumes 1 and 2.

@@ -6,7 +6,12 @@ use crate::failing::{
     by_hand, each_force_call_fails, each_read_fails, each_ready_call_fails,
     each_settling_call_fails, second_stops, stops_and_settling,
 };
-use crate::logs::{Appended, append, append_run, bring_home, force, move_home, move_ring};
+use crate::frame_lines::answer_of_frames;
+use crate::full_frames::{dirty_frames, frames_fail_well, lent_frames, most_dirty};
+use crate::logged::logged;
+use crate::logged_failing::{each_logged_call_fails, read_fails_well};
+use crate::logged_lines::answer_of_logged;
+use crate::logs::{append, append_run, bring_home, force, move_home, move_ring, say_appended};
 use crate::orders::{after_stop, moving};
 use crate::racks::{
     SIZES, put_byte, put_closed, put_group, put_header, put_label, run_of, started,
@@ -16,17 +21,21 @@ use crate::seen::{Seen, leaves, look_at};
 use crate::settling::{
     Settled, has_no_number_left, make_ready, recovered, say_faults, say_found, settle_log,
 };
+use crate::stores::{append_from, has_image, lasts, takes, write_in_place};
+use file_pages::{FilePages, LogFull, LoggedRack, MetaLog};
 use log_recovery::{MemoryPages, Rack};
-use meta_log::{LogFull, MetaLog};
 use std::alloc::Global;
 use std::test::Fail;
 
-/// A rack and its log, the call at which an order began, pages in memory, and of the next rack the
-/// calls that fail, the sizes of its volumes, and how many of their pages share one in memory.
+/// A rack and its log, or a rack that has its log with frames of its pages, the call at which an
+/// order began, pages in memory, and of the next rack the calls that fail, the sizes of its
+/// volumes, and how many of their pages share one in memory.
 #[derive(Drop)]
 pub struct Scene {
     rack: CountRack,
     log: MetaLog,
+    logged: Option<LoggedRack<CountRack>>,
+    held: FilePages,
     start: u64,
     pages: MemoryPages,
     fails: Vec<u64>,
@@ -41,6 +50,8 @@ impl Scene {
         Ok(Scene {
             rack,
             log,
+            logged: None,
+            held: FilePages::new(alloc)?,
             start: 0,
             pages: MemoryPages::new(alloc),
             fails: Vec::new(alloc),
@@ -55,9 +66,34 @@ impl Scene {
         let (rack, log) = started(alloc, sizes, self.fold, place, fails)?;
         self.rack = rack;
         self.log = log;
+        self.logged = None;
         self.fails = Vec::new(alloc);
         self.sizes = Vec::from_array(alloc, SIZES)?;
         Ok(())
+    }
+
+    /// Begins anew with a rack that has its log, which begins at a place: whether it has.
+    fn begin_logged(&mut self, alloc: Global, place: u32) -> Result<bool, Fail> {
+        let (sizes, fails) = (self.sizes.as_slice(), self.fails.as_slice());
+        let rack = logged(alloc, sizes, self.fold, place, fails)?;
+        self.logged = rack;
+        self.held = FilePages::new(alloc)?;
+        self.fails = Vec::new(alloc);
+        self.sizes = Vec::from_array(alloc, SIZES)?;
+        Ok(self.logged.is_some())
+    }
+
+    /// The rack that was begun last.
+    fn last_rack(&self) -> &CountRack {
+        match &self.logged {
+            Some(logged) => logged.rack(),
+            None => &self.rack,
+        }
+    }
+
+    /// How many calls it has made since the mark.
+    fn calls_since(&self) -> u64 {
+        self.last_rack().calls().saturating_sub(self.start)
     }
 }
 
@@ -94,18 +130,38 @@ fn answer_of_racks(
             Ok(())
         }
         "rack" => scene.begin(alloc, small(numbers, 0)),
+        "logged" => say_whether(out, &[scene.begin_logged(alloc, small(numbers, 0))?]),
         "count-anew" => {
             scene.rack.counts = NO_CALLS;
             Ok(())
         }
-        "counts" => say_counts(&scene.rack, out),
+        "counts" => say_counts(scene.last_rack(), out),
         "mark" => {
-            scene.start = scene.rack.calls();
+            scene.start = scene.last_rack().calls();
             Ok(())
         }
-        "calls-since" => say_numbers(out, &[scene.rack.calls().saturating_sub(scene.start)]),
-        _ => answer_of_logs(alloc, scene, word, numbers, out),
+        "calls-since" => say_numbers(out, &[scene.calls_since()]),
+        _ => answer_of_calls(alloc, scene, word, numbers, out),
     }
+}
+
+/// Answers a line of the calls of a rack that has its log, or of another log.
+fn answer_of_calls(
+    alloc: Global,
+    scene: &mut Scene,
+    word: &str,
+    numbers: &[u64],
+    out: &mut String,
+) -> Result<(), Fail> {
+    if let Some(rack) = &mut scene.logged {
+        let held = &mut scene.held;
+        if answer_of_logged(alloc, rack, word, numbers, out)?
+            || answer_of_frames(alloc, held, rack, word, numbers, out)?
+        {
+            return Ok(());
+        }
+    }
+    answer_of_logs(alloc, scene, word, numbers, out)
 }
 
 /// How often a rack was called: writes of more than a block, writes of a block, and syncs of
@@ -117,16 +173,6 @@ fn say_counts(rack: &CountRack, out: &mut String) -> Result<(), Fail> {
         out,
         &[counts.pages, counts.gates, first, second].map(u64::from),
     )
-}
-
-/// Says what an append answered.
-fn say_appended(out: &mut String, appended: Appended) -> Result<(), Fail> {
-    match appended {
-        Appended::Group(number) => write!(out, ": group {number}")?,
-        Appended::Full => out.push_str(": full")?,
-        Appended::Unfit => out.push_str(": unfit")?,
-    }
-    Ok(())
 }
 
 /// Says the number that a call answered, or the volume of which one failed.
@@ -239,8 +285,45 @@ fn answer_of_logs(
         "during" => say_whether(out, &[during(alloc, scene, numbers)?]),
         "after" => say_whether(out, &[after(alloc, scene, numbers)?]),
         "seen" => say_seen(out, &look_at(&mut scene.rack, alloc)),
+        _ => answer_of_stores(alloc, scene, word, numbers, out),
+    }
+}
+
+/// Answers a line of stores, of pages in place, and of stops before a log is settled.
+fn answer_of_stores(
+    alloc: Global,
+    scene: &mut Scene,
+    word: &str,
+    numbers: &[u64],
+    out: &mut String,
+) -> Result<(), Fail> {
+    let (page, byte_put) = (small(numbers, 0), byte(numbers, 1));
+    match word {
+        "append-from" => say_appended(out, append_from(&mut scene.log, alloc, page, byte_put)?),
+        "takes" => say_whether(out, &[takes(&scene.log, page)]),
+        "has-image" => say_whether(out, &[has_image(&scene.log, page)]),
+        "next" => say_numbers(out, &[scene.log.next_number()]),
+        "in-place" => say_whether(out, &[in_place(&mut scene.rack, numbers)]),
+        "lasts" => say_whether(out, &[lasts_by(alloc, scene, numbers)?]),
+        "stops-and-settling" => {
+            let settled = stops_and_settling(scene.last_rack(), alloc, scene.start)?;
+            say_whether(out, &[settled])
+        }
         _ => answer_of_recovery(alloc, scene, word, numbers, out),
     }
+}
+
+/// Writes a page in place: its volume, its number and the byte that it is full of.
+fn in_place(rack: &mut CountRack, numbers: &[u64]) -> bool {
+    write_in_place(rack, small(numbers, 0), small(numbers, 1), byte(numbers, 2))
+}
+
+/// Whether stops since the mark that leave so many groups leave a page full of a byte: the groups,
+/// the volume, the page and the byte.
+fn lasts_by(alloc: Global, scene: &Scene, numbers: &[u64]) -> Result<bool, Fail> {
+    let page = (small(numbers, 1), small(numbers, 2), byte(numbers, 3));
+    let groups = at(numbers, 0);
+    Ok(lasts(scene.last_rack(), alloc, scene.start, groups, page)?)
 }
 
 /// What is seen, by four numbers from a place on: how many groups, and the bytes of three pages.
@@ -259,17 +342,19 @@ fn say_seen(out: &mut String, seen: &Seen) -> Result<(), Fail> {
 
 /// Whether stops since the mark, before the last call, leave one of two, by eight picks.
 fn during(alloc: Global, scene: &Scene, numbers: &[u64]) -> Result<bool, Fail> {
-    let calls = (scene.start, scene.rack.calls());
+    let rack = scene.last_rack();
+    let calls = (scene.start, rack.calls());
     let allowed = (seen_by(numbers, 0), seen_by(numbers, 4));
-    Ok(leaves(8, &scene.rack, alloc, calls, allowed)?)
+    Ok(leaves(8, rack, alloc, calls, allowed)?)
 }
 
 /// Whether stops right after the last call leave this, by eight picks.
 fn after(alloc: Global, scene: &Scene, numbers: &[u64]) -> Result<bool, Fail> {
-    let end = scene.rack.calls();
+    let rack = scene.last_rack();
+    let end = rack.calls();
     let calls = (end, end.saturating_add(1));
     let allowed = (seen_by(numbers, 0), seen_by(numbers, 0));
-    Ok(leaves(8, &scene.rack, alloc, calls, allowed)?)
+    Ok(leaves(8, rack, alloc, calls, allowed)?)
 }
 
 /// Writes a group by hand: its place, its number, the byte of its first image, and its homes.
@@ -346,7 +431,6 @@ fn answer_of_recovery(
         "ready" => say_whether(out, &[make_ready(rack)]),
         "settle" => say_settled(out, settle_log(rack, alloc)),
         "no-number-left" => say_whether(out, &[has_no_number_left(rack, alloc)]),
-        "stops-and-settling" => say_whether(out, &[stops_and_settling(rack, alloc, scene.start)?]),
         _ => answer_of_orders(alloc, scene, word, numbers, out),
     }
 }
@@ -379,6 +463,12 @@ fn answer_of_orders(
         "each-ready-call-fails" => say_failing(out, each_ready_call_fails(alloc)?),
         "each-settling-call-fails" => say_whether(out, &[each_settling_call_fails(alloc)?]),
         "each-force-call-fails" => say_failing(out, each_force_call_fails(alloc)?),
+        "each-logged-call-fails" => say_failing(out, each_logged_call_fails(alloc)?),
+        "read-fails" => say_whether(out, &[read_fails_well(alloc)?]),
+        "frames-fail" => say_whether(out, &frames_fail_well(alloc)?),
+        "lent-frames" => say_whether(out, &lent_frames(alloc)?),
+        "dirty-frames" => say_whether(out, &dirty_frames(alloc)?),
+        "most-dirty" => say_whether(out, &most_dirty(alloc)?),
         "second-stops" => say_whether(out, &[second_stops(alloc)?]),
         "order" => order(alloc, out),
         "moving-order" => say_numbers(out, &moving(alloc)?.map(u64::from)),

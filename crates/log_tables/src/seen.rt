@@ -19,7 +19,8 @@ pub const NOTHING: Seen = Seen {
     bytes: [255; 3],
 };
 
-fn full_of(page: &[u8]) -> u8 {
+/// The byte that bytes are full of, 255 where they are not.
+pub fn full_of(page: &[u8]) -> u8 {
     match page.first() {
         Some(byte) => {
             if page.iter().all(|other| *other == *byte) {
@@ -32,7 +33,8 @@ fn full_of(page: &[u8]) -> u8 {
     }
 }
 
-fn byte_on<R: Rack>(rack: &mut R, vol: VolIx, page: u32) -> u8 {
+/// The byte that a page is full of, 255 where it is not full of a byte or cannot be read.
+pub fn byte_on<R: Rack>(rack: &mut R, vol: VolIx, page: u32) -> u8 {
     let mut bytes = [0; PAGE_BYTES];
     if vol.number() > rack.volumes() || page >= rack.pages(vol) || page > 1_000 {
         return 255;

@@ -2,8 +2,8 @@
 
 use crate::counting::CountRack;
 use crate::reading::say_numbers;
+use file_pages::MetaLog;
 use log_recovery::{Rack, RecoverFault, VolIx, ready_slot, recover, settle};
-use meta_log::MetaLog;
 use std::alloc::Global;
 use std::test::Fail;
 

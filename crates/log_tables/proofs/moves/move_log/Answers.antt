@@ -1,5 +1,5 @@
 use Rattle.std.proofs.Common.{◌*◌, arith, subst, sym}
-use Rattle.meta_log.specs.Log.{Log}
+use Rattle.file_pages.specs.meta_log.Log.{Log}
 use Rattle.log_tables.specs.Opened.{IsAtRest}
 use Rattle.log_tables.proofs.Moving.{counts-4, read-1, read-2, read-3, read-4, read-5, rests_there, touches-1, touches-2, touches-3, touches-4, touches-5}
 use Rattle.log_tables.proofs.moves.move_log.Goals as goal

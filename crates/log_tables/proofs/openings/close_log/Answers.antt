@@ -1,7 +1,7 @@
 use Rattle.std.proofs.Common.{◌∙◌, ap, arith}
 use Rattle.log_recovery.specs.disk_label.declared.anchor.Anchor.{Anchor}
-use Rattle.meta_log.specs.Checkpoint.{next_anchor}
-use Rattle.meta_log.specs.Log.{new_log}
+use Rattle.file_pages.specs.meta_log.Checkpoint.{next_anchor}
+use Rattle.file_pages.specs.meta_log.Log.{new_log}
 use Rattle.log_tables.proofs.AtRest.{closed, closed_home, closing, nothing_closed}
 use Rattle.log_tables.proofs.openings.close_log.Goals as goal
 

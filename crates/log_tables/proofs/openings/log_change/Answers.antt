@@ -1,8 +1,8 @@
 use Rattle.std.proofs.Common.{inl, refl, subst}
 use Rattle.log_recovery.proofs.OfVolumeDisk.Laws.{touches-none}
 use Rattle.log_recovery.specs.log_ring.Ring.{IsOnLog}
-use Rattle.meta_log.specs.Force.{Forces, HasForced}
-use Rattle.meta_log.specs.Log.{Log}
+use Rattle.file_pages.specs.meta_log.Force.{Forces, HasForced}
+use Rattle.file_pages.specs.meta_log.Log.{Log}
 use Rattle.log_tables.proofs.AtRest.{added, adds_or_not, full_alone, logged, nothing_logged, touches_ring}
 use Rattle.log_tables.proofs.openings.log_change.Goals as goal
 

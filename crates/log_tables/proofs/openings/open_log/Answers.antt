@@ -1,6 +1,6 @@
 use Rattle.std.proofs.Common.{◌∙◌, ap}
 use Rattle.log_recovery.specs.disk_label.declared.anchor.Anchor.{Anchor}
-use Rattle.meta_log.specs.Log.{new_log}
+use Rattle.file_pages.specs.meta_log.Log.{new_log}
 use Rattle.log_tables.proofs.AtRest.{opened, read_still, readied_still, settled_home, settled_still, still_counts}
 use Rattle.log_tables.proofs.openings.open_log.Goals as goal
 
