@@ -2,46 +2,46 @@
 
 use crate::bitfiles::push_files;
 use crate::cells::push_cells;
-use crate::free::free_answer;
-use crate::pages::random_pages;
-use crate::writing::{chain, fault};
-use anyhow::{Context, Result, bail};
+use crate::free::tell_free;
+use crate::pages::tell_random;
+use crate::writing::{tell_chain, tell_fault};
 use std::alloc::Global;
+use table_words::{Told, Words};
 
-/// What a line answers by itself.
-fn answer(alloc: Global, kind: &str, line: &str) -> Result<String> {
+/// Tells what a line answers by itself.
+fn answer(alloc: Global, kind: &str, line: &str, told: &mut Told) {
+    let mut words = Words::new(line);
     match kind {
-        "free cells" => free_answer(alloc, line),
-        "chains" => chain(alloc, line.parse()?),
-        "faults" => fault(alloc, line),
-        "random pages" => random_pages(alloc, line.parse()?),
-        _ => bail!("no such block"),
+        "free cells" => tell_free(alloc, &mut words, told),
+        "chains" => tell_chain(alloc, words.number(' '), told),
+        "faults" => tell_fault(words.rest(), told),
+        "random pages" => tell_random(alloc, words.number(' '), told),
+        _ => words.check(false),
     }
+    told.check(words.is_right());
 }
 
-/// Adds lines that stand alone, each with what it answers.
-fn push_single(alloc: Global, answers: &mut String, kind: &str, lines: &str) -> Result<()> {
+/// Tells lines that stand alone, each with what it answers.
+fn push_single(alloc: Global, told: &mut Told, kind: &str, lines: &str) {
     for line in lines.lines() {
-        if is_idle(line) {
-            push_answer(answers, line, "")?;
-        } else {
-            let answer = answer(alloc, kind, line).context(line)?;
-            push_answer(answers, line, answer.as_str())?;
+        let mut told_of = Told::new(alloc);
+        if !is_idle(line) {
+            answer(alloc, kind, line, &mut told_of);
         }
+        push_answer(told, line, &told_of);
     }
-    Ok(())
 }
 
-/// Adds a block with what it answers.
-pub fn push_block(alloc: Global, answers: &mut String, block: &str) -> Result<()> {
-    let (head, lines) = block.split_once('\n').context("a first line")?;
-    let (kind, _) = head.split_once(": ").context("a kind of block")?;
-    answers.push_str(head)?;
-    answers.push('\n')?;
+/// Tells a block with what it answers.
+pub fn push_block(alloc: Global, told: &mut Told, block: &str) {
+    let (head, lines) = block.split_once('\n').unwrap_or((block, ""));
+    let (kind, _) = head.split_once(": ").unwrap_or(("", ""));
+    told.push(head);
+    told.push("\n");
     match kind {
-        "cells" => push_cells(alloc, answers, lines),
-        "files" => push_files(alloc, answers, lines),
-        _ => push_single(alloc, answers, kind, lines),
+        "cells" => push_cells(alloc, told, lines),
+        "files" => push_files(alloc, told, lines),
+        _ => push_single(alloc, told, kind, lines),
     }
 }
 
@@ -50,24 +50,16 @@ pub fn is_idle(line: &str) -> bool {
     line.is_empty() || line.starts_with('#')
 }
 
-/// Adds lines, each after two blanks on a line of its own.
-fn push_below(answers: &mut String, lines: &str) -> Result<()> {
-    for line in lines.lines() {
-        answers.push_str("\n  ")?;
-        answers.push_str(line)?;
+/// Tells a line and its answer, which stands below it, each line after two blanks, where it has
+/// lines of its own.
+pub fn push_answer(told: &mut Told, line: &str, answer: &Told) {
+    told.push(line);
+    let text = answer.text();
+    let sign = if text.contains('\n') { "\n  " } else { " -> " };
+    for part in text.lines() {
+        told.push(sign);
+        told.push(part);
     }
-    Ok(())
-}
-
-/// Adds a line and its answer, which stands below it where it has lines of its own.
-pub fn push_answer(answers: &mut String, line: &str, answer: &str) -> Result<()> {
-    answers.push_str(line)?;
-    if answer.contains('\n') {
-        push_below(answers, answer)?;
-    } else if !answer.is_empty() {
-        answers.push_str(" -> ")?;
-        answers.push_str(answer)?;
-    }
-    answers.push('\n')?;
-    Ok(())
+    told.push("\n");
+    told.check(answer.is_right());
 }

@@ -2,51 +2,42 @@
 //! `chain` read a cell, `write` writes one, and `bytes` tells those of a page.
 
 use crate::blocks::{is_idle, push_answer};
-use crate::lines::{cell_of, home_of, put_line, shown_chain, shown_head, shown_page};
+use crate::lines::{cell_of, home_of, push_chain, push_head, push_page, put_line};
 use crate::writing::write;
-use anyhow::{Context, Result, bail};
 use free_cells::{CellAt, MemoryPages, read_head};
 use std::alloc::Global;
+use table_words::{Told, Words};
 
-/// The head of a cell.
-fn head(alloc: Global, pages: &MemoryPages, at: CellAt) -> Result<String> {
+/// Tells the head of a cell.
+fn tell_head(told: &mut Told, pages: &MemoryPages, at: CellAt) {
     match read_head(pages, at) {
-        Some(head) => Ok(shown_head(alloc, &head)?),
-        None => Ok(String::from_str(alloc, "nothing")?),
-    }
-}
-
-/// What is read of the pages.
-fn reading(alloc: Global, pages: &MemoryPages, word: &str, rest: &str) -> Result<String> {
-    match word {
-        "head" => head(alloc, pages, cell_of(rest)?),
-        "chain" => shown_chain(alloc, pages, cell_of(rest)?),
-        "bytes" => shown_page(alloc, pages, &home_of(rest)?),
-        _ => bail!("no such call"),
+        Some(head) => push_head(told, &head),
+        None => told.push("nothing"),
     }
 }
 
 /// Does what a line says.
-fn call(alloc: Global, pages: &mut MemoryPages, line: &str) -> Result<String> {
-    let (word, rest) = line.split_once(' ').context("a word and more")?;
-    match word {
-        "page" => put_line(alloc, pages, rest)?,
-        "write" => write(alloc, pages, rest)?,
-        _ => return reading(alloc, pages, word, rest),
+fn call(alloc: Global, pages: &mut MemoryPages, line: &str, told: &mut Told) {
+    let mut words = Words::new(line);
+    match words.until(' ') {
+        "page" => put_line(alloc, pages, &mut words),
+        "write" => write(alloc, pages, &mut words),
+        "head" => tell_head(told, pages, cell_of(&mut words)),
+        "chain" => push_chain(alloc, told, pages, cell_of(&mut words)),
+        "bytes" => push_page(told, pages, &home_of(&mut words)),
+        _ => words.check(false),
     }
-    Ok(String::new(alloc))
+    told.check(words.is_right());
 }
 
-/// Adds lines of pages and readings, with what they answer.
-pub fn push_cells(alloc: Global, answers: &mut String, lines: &str) -> Result<()> {
+/// Tells lines of pages and readings, with what they answer.
+pub fn push_cells(alloc: Global, told: &mut Told, lines: &str) {
     let mut pages = MemoryPages::new(alloc);
     for line in lines.lines() {
-        if is_idle(line) {
-            push_answer(answers, line, "")?;
-        } else {
-            let answer = call(alloc, &mut pages, line).context(line)?;
-            push_answer(answers, line, answer.as_str())?;
+        let mut answer = Told::new(alloc);
+        if !is_idle(line) {
+            call(alloc, &mut pages, line, &mut answer);
         }
+        push_answer(told, line, &answer);
     }
-    Ok(())
 }

@@ -8,14 +8,14 @@ ghost use Rattle.free_cells.specs.metadata_cells.Chain.{LeavesOthers, is_at};
 ghost use Rattle.free_cells.specs.Belong.{Belong, LeadsTo};
 ghost use Rattle.free_cells.specs.Cells.{table_of};
 
-use crate::lines::{shown_bytes, shown_page};
+use crate::lines::{push_bytes, push_page};
 use crate::writing::limits;
-use anyhow::{Context, Result, bail};
 use free_cells::{
     CellAt, CellHead, CellKind, FilesetNo, FreeCells, Home, MemoryPages, MetaPages, OutOfMemory,
     VolIx, empty_page, write_cell,
 };
 use std::alloc::Global;
+use table_words::{Told, Words};
 
 /// Page 3 of volume 1.
 fn first_home() -> Home
@@ -117,33 +117,54 @@ fn write_limits(alloc: Global, pages: &mut MemoryPages, at: &CellAt) -> Result<(
 }
 
 /// Takes a cell, of volume 1 where it has one, and writes it.
-fn take_and_write(alloc: Global, pages: &mut MemoryPages, cells: &mut FreeCells) -> Result<CellAt>
+fn take_and_write(
+    alloc: Global,
+    pages: &mut MemoryPages,
+    cells: &mut FreeCells,
+) -> Result<CellAt, OutOfMemory>
     requires { Belong cells.old (⟦<MemoryPages as MetaPages>⟧.pages pages.old) }
     ensures used { IfOk result (IsUsedAt (⟦<MemoryPages as MetaPages>⟧.pages pages.new)) }
     ensures table { IfOk result (λ at. Contains (table_of cells.new at.vol) at.page) }
     ensures belong { OnOk result (Belong cells.new
         (⟦<MemoryPages as MetaPages>⟧.pages pages.new)) }
 {
-    let at = cells.new_cell(first_home().vol).context("a free cell")?;
+    let at = cells.new_cell(first_home().vol).ok_or(OutOfMemory)?;
     write_limits(alloc, pages, &at)?;
     Ok(at)
 }
 
-/// The bytes of page 3, whose cell stands by itself: the cell's bytes, and how many others are not
-/// zeros after the page's head.
-fn shown_with(alloc: Global, pages: &MemoryPages, cell: u8) -> Result<String> {
-    let page = pages.get(first_home()).context("a page")?;
-    let at = 16 + 292 * usize::from(cell);
-    let end = at + 292;
-    let bytes = page.bytes();
-    let head = shown_bytes(alloc, bytes.get(..16).context("a head")?)?;
-    let own = shown_bytes(alloc, bytes.get(at..end).context("a cell")?)?;
-    let others = bytes
+/// Tells bytes of a page, if they are there.
+fn push_part(told: &mut Told, bytes: Option<&[u8]>) {
+    match bytes {
+        Some(bytes) => push_bytes(told, bytes),
+        None => told.check(false),
+    }
+}
+
+/// How many bytes after the head of a page are not zeros, but for those from one place to another.
+fn count_others(bytes: &[u8], at: usize, end: usize) -> usize {
+    bytes
         .iter()
         .enumerate()
         .filter(|(k, byte)| 16 <= *k && (*k < at || end <= *k) && **byte != 0)
-        .count();
-    Ok(format!(in alloc; "{head}, in the cell {own}, {others} other bytes")?)
+        .count()
+}
+
+/// Tells the bytes of page 3, whose cell stands by itself: the cell's bytes, and how many others
+/// are not zeros after the page's head.
+fn push_with(told: &mut Told, pages: &MemoryPages, cell: u8) {
+    let Some(page) = pages.get(first_home()) else {
+        return told.check(false);
+    };
+    let at = 16 + 292 * usize::from(cell);
+    let end = at + 292;
+    let bytes = page.bytes();
+    push_part(told, bytes.get(..16));
+    told.push(", in the cell ");
+    push_part(told, bytes.get(at..end));
+    told.push(", ");
+    told.push_number(count_others(bytes, at, end) as u64);
+    told.push(" other bytes");
 }
 
 /// Whether the cell is one of page 3.
@@ -152,19 +173,21 @@ fn is_of_page(at: &CellAt) -> bool {
     at.vol == home.vol && at.page == home.page && at.cell < 28
 }
 
-/// The page before a cell was taken, after it was written, and after it was given back.
-fn comes_and_goes(alloc: Global) -> Result<String> {
-    let mut pages = two_pages(alloc)?;
-    let mut cells = one_read(alloc, &pages)?;
-    let before = shown_page(alloc, &pages, &first_home())?;
-    let at = take_and_write(alloc, &mut pages, &mut cells)?;
-    if !is_of_page(&at) {
-        bail!("a cell of another page");
-    }
-    let between = shown_with(alloc, &pages, at.cell)?;
-    cells.free_cell(&mut pages, at);
-    let after = shown_page(alloc, &pages, &first_home())?;
-    Ok(format!(in alloc; "before {before}\nwritten {between}\nafter {after}")?)
+/// Tells the page before a cell was taken, after it was written, and after it was given back.
+fn come_and_go(alloc: Global, pages: &mut MemoryPages, cells: &mut FreeCells, told: &mut Told)
+    requires { Belong cells.old (⟦<MemoryPages as MetaPages>⟧.pages pages.old) }
+{
+    told.push("before ");
+    push_page(told, pages, &first_home());
+    let Ok(at) = take_and_write(alloc, pages, cells) else {
+        return told.check(false);
+    };
+    told.check(is_of_page(&at));
+    told.push("\nwritten ");
+    push_with(told, pages, at.cell);
+    cells.free_cell(pages, at);
+    told.push("\nafter ");
+    push_page(told, pages, &first_home());
 }
 
 /// How many cells 60 calls hand out, and whether they all differ.
@@ -180,109 +203,140 @@ fn all_taken(alloc: Global, cells: &mut FreeCells) -> Result<(usize, bool), OutO
     Ok((taken.len(), differ))
 }
 
-/// How many cells are left in words.
-fn shown_left(alloc: Global, cells: &mut FreeCells) -> Result<String> {
-    let (left, differ) = all_taken(alloc, cells)?;
-    let word = if differ {
-        "all different"
-    } else {
-        "some twice"
+/// Tells how many cells are left.
+fn tell_left(alloc: Global, cells: &mut FreeCells, told: &mut Told) {
+    let Ok((left, differ)) = all_taken(alloc, cells) else {
+        return told.check(false);
     };
-    Ok(format!(in alloc; "{left} left, {word}")?)
+    told.push_number(left as u64);
+    told.push(if differ {
+        " left, all different"
+    } else {
+        " left, some twice"
+    });
 }
 
-/// The last page of the table and the one after it, once that was added, and how many cells there
-/// are then.
-fn added_page(alloc: Global) -> Result<String> {
-    let mut pages = two_pages(alloc)?;
-    let mut cells = one_read(alloc, &pages)?;
-    cells.add_page(alloc, &mut pages, added_home())?;
-    let last = shown_page(alloc, &pages, &first_home())?;
-    let added = shown_page(alloc, &pages, &added_home())?;
-    let left = shown_left(alloc, &mut cells)?;
-    Ok(format!(in alloc; "last {last}\nadded {added}\n{left}")?)
+/// Adds a page after page 3, and tells both pages, and how many cells there are then.
+fn add_page(alloc: Global, pages: &mut MemoryPages, cells: &mut FreeCells, told: &mut Told)
+    requires belong { Belong cells.old (⟦<MemoryPages as MetaPages>⟧.pages pages.old) }
+    requires first { table_of cells.old 1 ≡ 3 ∷ [] }
+    requires ends { LeadsTo cells.old 1 (⟦<MemoryPages as MetaPages>⟧.pages pages.old) 0 }
+{
+    told.check(cells.add_page(alloc, pages, added_home()).is_ok());
+    told.push("last ");
+    push_page(told, pages, &first_home());
+    told.push("\nadded ");
+    push_page(told, pages, &added_home());
+    told.push("\n");
+    tell_left(alloc, cells, told);
 }
 
-/// The free cells of both volumes, whose pages were read.
-fn both_read(alloc: Global, pages: &MemoryPages) -> Result<FreeCells, OutOfMemory>
-    requires first { IsSomeAnd (⟦<MemoryPages as MetaPages>⟧.pages pages.now
-        (record { vol = 1; page = 3 })) (IsEmptyPage 0) }
-    requires second { IsSomeAnd (⟦<MemoryPages as MetaPages>⟧.pages pages.now
+/// Reads the page of volume 2, too.
+fn read_second(alloc: Global, pages: &MemoryPages, cells: &mut FreeCells) -> Result<(), OutOfMemory>
+    requires belong { Belong cells.old (⟦<MemoryPages as MetaPages>⟧.pages pages.now) }
+    requires second { table_of cells.old 2 ≡ [] }
+    requires page { IsSomeAnd (⟦<MemoryPages as MetaPages>⟧.pages pages.now
         (record { vol = 2; page = 5 })) (IsEmptyPage 0) }
 {
-    let mut cells = one_read(alloc, pages)?;
-    cells.read_page(alloc, pages, second_home())?;
-    Ok(cells)
+    cells.read_page(alloc, pages, second_home())
 }
 
-/// Adds the volume of a new cell, of volume 1 where that may be, or 0.
-fn push_next(alloc: Global, cells: &mut FreeCells, answer: &mut String) -> Result<()> {
+/// Tells the volume of a new cell, of volume 1 where that may be, or 0.
+fn push_next(cells: &mut FreeCells, told: &mut Told) {
     let vol = match cells.new_cell(first_home().vol) {
         Some(at) => at.vol.number(),
         None => 0,
     };
-    answer.push_str(format!(in alloc; "{vol}, ")?.as_str())?;
-    Ok(())
-}
-
-/// The volume that a word names.
-fn volume_of(word: &str) -> Result<VolIx> {
-    VolIx::new(word.parse()?).context("a volume")
+    told.push_number(u64::from(vol));
+    told.push(", ");
 }
 
 /// Closes, opens or drops a volume.
-fn change_volume(cells: &mut FreeCells, word: &str) -> Result<()> {
-    let (word, vol) = word.split_once(':').context("a volume")?;
-    let vol = volume_of(vol)?;
+fn change_volume(cells: &mut FreeCells, word: &str, vol: VolIx) -> bool {
     match word {
         "close" => cells.close_volume(vol),
         "open" => cells.activate(vol),
         "drop" => cells.drop_volume(vol),
-        _ => bail!("no such step"),
+        _ => return false,
     }
-    Ok(())
+    true
+}
+
+/// Does what a word with the number of a volume says; whether it says something.
+fn is_volume_changed(cells: &mut FreeCells, word: &str) -> bool {
+    let mut words = Words::new(word);
+    let word = words.until(':');
+    match VolIx::new(words.number(' ')) {
+        Some(vol) => change_volume(cells, word, vol),
+        None => false,
+    }
 }
 
 /// Does what one word says.
-fn step(alloc: Global, cells: &mut FreeCells, word: &str, answer: &mut String) -> Result<()> {
+fn step(cells: &mut FreeCells, word: &str, told: &mut Told) {
     match word {
-        "next" => push_next(alloc, cells, answer)?,
+        "next" => push_next(cells, told),
         "take" => {
             let _ = cells.new_cell(first_home().vol);
         }
         "keep" => cells.keep(),
         "back" => cells.take_back(),
-        _ => change_volume(cells, word)?,
+        _ => told.check(is_volume_changed(cells, word)),
     }
-    Ok(())
 }
 
-/// The volumes of new cells after a line's steps, and how many cells are left then.
-fn steps(alloc: Global, cells: &mut FreeCells, words: &str) -> Result<String> {
-    let mut answer = String::new(alloc);
-    for word in words.split_terminator(' ') {
-        step(alloc, cells, word, &mut answer)?;
+/// Tells the volumes of new cells after a line's steps, and how many cells are left then.
+fn steps(alloc: Global, cells: &mut FreeCells, words: &Words, told: &mut Told) {
+    for word in words.rest().split_terminator(' ') {
+        step(cells, word, told);
     }
-    let left = shown_left(alloc, cells)?;
-    answer.push_str(left.as_str())?;
-    Ok(answer)
+    tell_left(alloc, cells, told);
 }
 
-/// What comes of a line: of a cell that comes and goes, of an added page, or of steps where the
-/// page of volume 1 was read, or those of both volumes.
-pub fn free_answer(alloc: Global, line: &str) -> Result<String> {
-    let (word, rest) = line.split_once(' ').unwrap_or((line, ""));
-    match word {
-        "cell" => comes_and_goes(alloc),
-        "page" => added_page(alloc),
-        "one" => {
-            let pages = two_pages(alloc)?;
-            steps(alloc, &mut one_read(alloc, &pages)?, rest)
-        }
+/// Tells what comes of a line, where the page of volume 1 was read: of a cell that comes and goes,
+/// of an added page, or of steps, once the page of volume 2 was read, too, for `both`.
+fn tell_read(
+    alloc: Global,
+    pages: &mut MemoryPages,
+    cells: &mut FreeCells,
+    words: &mut Words,
+    told: &mut Told,
+)
+    requires belong { Belong cells.old (⟦<MemoryPages as MetaPages>⟧.pages pages.old) }
+    requires first { table_of cells.old 1 ≡ 3 ∷ [] }
+    requires second { table_of cells.old 2 ≡ [] }
+    requires ends { LeadsTo cells.old 1 (⟦<MemoryPages as MetaPages>⟧.pages pages.old) 0 }
+    requires page { IsSomeAnd (⟦<MemoryPages as MetaPages>⟧.pages pages.old
+        (record { vol = 2; page = 5 })) (IsEmptyPage 0) }
+{
+    match words.until(' ') {
+        "cell" => come_and_go(alloc, pages, cells, told),
+        "page" => add_page(alloc, pages, cells, told),
         "both" => {
-            let pages = two_pages(alloc)?;
-            steps(alloc, &mut both_read(alloc, &pages)?, rest)
+            told.check(read_second(alloc, pages, cells).is_ok());
+            steps(alloc, cells, words, told);
         }
-        _ => bail!("no such line"),
+        _ => steps(alloc, cells, words, told),
+    }
+}
+
+/// Reads the page of volume 1, and tells what comes of a line then.
+fn tell_on(alloc: Global, pages: &mut MemoryPages, words: &mut Words, told: &mut Told)
+    requires first { IsSomeAnd (⟦<MemoryPages as MetaPages>⟧.pages pages.old
+        (record { vol = 1; page = 3 })) (IsEmptyPage 0) }
+    requires second { IsSomeAnd (⟦<MemoryPages as MetaPages>⟧.pages pages.old
+        (record { vol = 2; page = 5 })) (IsEmptyPage 0) }
+{
+    match one_read(alloc, pages) {
+        Ok(mut cells) => tell_read(alloc, pages, &mut cells, words, told),
+        Err(_) => told.check(false),
+    }
+}
+
+/// Tells what comes of a line on new pages.
+pub fn tell_free(alloc: Global, words: &mut Words, told: &mut Told) {
+    match two_pages(alloc) {
+        Ok(mut pages) => tell_on(alloc, &mut pages, words, told),
+        Err(_) => told.check(false),
     }
 }

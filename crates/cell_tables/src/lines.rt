@@ -1,61 +1,54 @@
 //! Pages and what is read from them as lines of text. A line of a page has its volume and its
 //! number, a place, and bytes in hexadecimal digits: the place is a byte of the page, or `c` and
 //! the number of a cell. What no line says is zeros.
-ghost use Rattle.std.specs.Prelude.{◌+◌, ◌≤◌, length};
 
-use anyhow::{Context, Result, bail};
 use free_cells::limits::PAGE_BYTES;
 use free_cells::{
     CellAt, CellHead, CellKind, ChainFault, Home, Leftover, MemoryPages, MetaPages, OutOfMemory,
-    Page, Record, VolIx, read_chain, read_head,
+    Page, Record, read_chain,
 };
-use hex::{decode, encode};
 use std::alloc::Global;
+use table_words::{Told, Words, decode};
 
 /// The home that a word names, as in `1.0`.
-pub fn home_of(word: &str) -> Result<Home> {
-    let (vol, page) = word.split_once('.').context("a home")?;
-    let vol = VolIx::new(vol.parse()?).context("a volume")?;
-    Ok(Home {
+pub fn home_of(words: &mut Words) -> Home {
+    let vol = words.volume('.');
+    Home {
         vol,
-        page: page.parse()?,
-    })
+        page: words.number(' '),
+    }
 }
 
 /// The cell that a word names, as in `1.0.27`.
-pub fn cell_of(word: &str) -> Result<CellAt> {
-    let (home, cell) = word.rsplit_once('.').context("a cell")?;
-    let Home { vol, page } = home_of(home)?;
-    Ok(CellAt {
+pub fn cell_of(words: &mut Words) -> CellAt {
+    let vol = words.volume('.');
+    let page = words.number('.');
+    CellAt {
         vol,
         page,
-        cell: cell.parse()?,
-    })
+        cell: words.byte(' '),
+    }
 }
 
 /// The byte that a word names.
-fn place_of(word: &str) -> Result<usize> {
-    match word.strip_prefix("c") {
-        Some(cell) => {
-            let cell: u8 = cell.parse()?;
-            Ok(16 + 292 * usize::from(cell))
+fn place_of(words: &mut Words) -> usize {
+    match words.rest().strip_prefix("c") {
+        Some(_) => {
+            words.until('c');
+            16 + 292 * usize::from(words.byte(' '))
         }
-        None => {
-            let at: u16 = word.parse()?;
-            Ok(usize::from(at))
-        }
+        None => usize::from(words.short(' ')),
     }
 }
 
-/// Puts bytes on a page that is there.
-fn put_bytes(pages: &mut MemoryPages, home: &Home, at: usize, bytes: &[u8]) -> Result<()> {
-    if PAGE_BYTES < at || PAGE_BYTES - at < bytes.len() {
-        bail!("bytes of a page");
-    }
-    if pages.get(*home).is_some() {
+/// Puts bytes on a page, if it is there and has room for them.
+fn put_bytes(pages: &mut MemoryPages, home: &Home, at: usize, bytes: &[u8]) -> bool {
+    let is_there = pages.get(*home).is_some();
+    let has_room = at <= PAGE_BYTES && bytes.len() <= PAGE_BYTES - at;
+    if is_there && has_room {
         pages.set(*home, at, bytes);
     }
-    Ok(())
+    is_there && has_room
 }
 
 /// Puts a page of zeros there, if none is.
@@ -68,111 +61,154 @@ fn add_page(alloc: Global, pages: &mut MemoryPages, home: &Home) -> Result<(), O
     Ok(())
 }
 
-/// Does what one line says.
-pub fn put_line(alloc: Global, pages: &mut MemoryPages, line: &str) -> Result<()> {
-    let mut words = line.split(' ');
-    let home = home_of(words.next().context("a home")?)?;
-    let at = place_of(words.next().context("a place")?)?;
-    let mut bytes = Vec::new(alloc);
-    for word in words {
-        bytes.extend_from_slice(&decode(alloc, word)?)?;
+/// Puts the bytes of a word from a place of a page on, and gives the place after them.
+fn put_word(
+    alloc: Global,
+    pages: &mut MemoryPages,
+    home: &Home,
+    at: usize,
+    words: &mut Words,
+) -> usize {
+    match decode(alloc, words.until(' ')) {
+        Ok(bytes) => {
+            words.check(put_bytes(pages, home, at, &bytes));
+            at.saturating_add(bytes.len())
+        }
+        Err(_) => {
+            words.check(false);
+            at
+        }
     }
-    add_page(alloc, pages, &home)?;
-    put_bytes(pages, &home, at, &bytes)
 }
 
-fn shown_cell(alloc: Global, at: &CellAt) -> Result<String, OutOfMemory> {
-    format!(in alloc; "{}.{}.{}", at.vol.number(), at.page, at.cell)
+/// Does what one line says.
+pub fn put_line(alloc: Global, pages: &mut MemoryPages, words: &mut Words) {
+    let home = home_of(words);
+    let mut at = place_of(words);
+    words.check(add_page(alloc, pages, &home).is_ok());
+    for _ in 0..words.rest().len() {
+        if words.rest().is_empty() {
+            break;
+        }
+        at = put_word(alloc, pages, &home, at, words);
+    }
+}
+
+fn push_cell(told: &mut Told, at: &CellAt) {
+    told.push_number(u64::from(at.vol.number()));
+    told.push(".");
+    told.push_number(u64::from(at.page));
+    told.push(".");
+    told.push_number(u64::from(at.cell));
 }
 
 fn kind_word(kind: CellKind) -> &'static str {
     match kind {
-        CellKind::Primary => "primary",
-        CellKind::Chain => "chain",
-        CellKind::Quota => "quota",
-        CellKind::Volume => "volume",
+        CellKind::Primary => "primary ",
+        CellKind::Chain => "chain ",
+        CellKind::Quota => "quota ",
+        CellKind::Volume => "volume ",
     }
 }
 
 /// The kind that a word names.
-pub fn kind_of(word: &str) -> Result<CellKind> {
+pub fn kind_of(word: &str) -> Option<CellKind> {
     match word {
-        "primary" => Ok(CellKind::Primary),
-        "chain" => Ok(CellKind::Chain),
-        "quota" => Ok(CellKind::Quota),
-        "volume" => Ok(CellKind::Volume),
-        _ => bail!("no such kind"),
+        "primary" => Some(CellKind::Primary),
+        "chain" => Some(CellKind::Chain),
+        "quota" => Some(CellKind::Quota),
+        "volume" => Some(CellKind::Volume),
+        _ => None,
     }
 }
 
-/// A head in words: the kind, the next cell, the tag and the fileset.
-pub fn shown_head(alloc: Global, head: &CellHead) -> Result<String, OutOfMemory> {
-    let kind = kind_word(head.kind);
-    let next = match &head.next {
-        Some(at) => shown_cell(alloc, at)?,
-        None => String::from_str(alloc, "-")?,
-    };
-    let fileset = match head.fileset {
-        Some(fileset) => format!(in alloc; "{}", fileset.number())?,
-        None => String::from_str(alloc, "-")?,
-    };
-    format!(in alloc; "{kind} {next} {}.{} {fileset}", head.slot, head.seq)
+/// Tells a head in words: the kind, the next cell, the tag and the fileset.
+pub fn push_head(told: &mut Told, head: &CellHead) {
+    told.push(kind_word(head.kind));
+    match &head.next {
+        Some(at) => push_cell(told, at),
+        None => told.push("-"),
+    }
+    told.push(" ");
+    told.push_number(u64::from(head.slot));
+    told.push(".");
+    told.push_number(u64::from(head.seq));
+    match head.fileset {
+        Some(fileset) => {
+            told.push(" ");
+            told.push_number(u64::from(fileset.number()));
+        }
+        None => told.push(" -"),
+    }
 }
 
-/// A record in words, and of most kinds the kind alone.
-fn shown_record(alloc: Global, record: &Record) -> Result<String, OutOfMemory> {
+/// Tells numbers, each after a colon.
+fn push_numbers(told: &mut Told, word: &str, numbers: &[u64]) {
+    told.push(word);
+    for number in numbers {
+        told.push(":");
+        told.push_number(*number);
+    }
+}
+
+/// Tells a record in words, and of most kinds the kind alone.
+fn push_record(told: &mut Told, record: &Record) {
     match record {
-        Record::Pending { what } => match what {
-            Leftover::Trim => String::from_str(alloc, " trim"),
-            Leftover::Remove => String::from_str(alloc, " remove"),
-        },
+        Record::Pending { what } => told.push(match what {
+            Leftover::Trim => " trim",
+            Leftover::Remove => " remove",
+        }),
         Record::UserQuota { id, files, blocks } => {
-            format!(in alloc; " user:{id}:{files}:{blocks}")
+            push_numbers(told, " user", &[u64::from(*id), *files, *blocks]);
         }
         Record::GroupQuota { id, files, blocks } => {
-            format!(in alloc; " group:{id}:{files}:{blocks}")
+            push_numbers(told, " group", &[u64::from(*id), *files, *blocks]);
         }
-        Record::Parent { slot, seq } => format!(in alloc; " parent:{slot}:{seq}"),
-        _ => format!(in alloc; " kind:{}", record.kind()),
+        Record::Parent { slot, seq } => {
+            push_numbers(told, " parent", &[u64::from(*slot), u64::from(*seq)]);
+        }
+        _ => push_numbers(told, " kind", &[u64::from(record.kind())]),
     }
 }
 
-/// The records of a chain in words, or where it is broken.
-pub fn shown_chain(alloc: Global, pages: &MemoryPages, at: CellAt) -> Result<String> {
+/// Tells the records of a chain in words.
+fn push_records(told: &mut Told, records: &[Record]) {
+    told.push("records");
+    for record in records {
+        push_record(told, record);
+    }
+}
+
+/// Tells the records of a chain in words, or where it is broken.
+pub fn push_chain(alloc: Global, told: &mut Told, pages: &MemoryPages, at: CellAt) {
     match read_chain(alloc, pages, at) {
-        Ok(records) => {
-            let mut text = String::from_str(alloc, "records")?;
-            for record in records.as_slice() {
-                text.push_str(shown_record(alloc, record)?.as_str())?;
-            }
-            Ok(text)
-        }
+        Ok(records) => push_records(told, records.as_slice()),
         Err(ChainFault::Broken { at }) => {
-            let cell = shown_cell(alloc, &at)?;
-            Ok(format!(in alloc; "broken {cell}")?)
+            told.push("broken ");
+            push_cell(told, &at);
         }
-        Err(ChainFault::OutOfMemory) => bail!("memory"),
+        Err(ChainFault::OutOfMemory) => told.check(false),
     }
 }
 
-/// Bytes in groups of eight: the number of each group that is not zeros, and its digits.
-pub fn shown_bytes(alloc: Global, bytes: &[u8]) -> Result<String> {
-    let mut text = String::new(alloc);
+/// Tells bytes in groups of eight: the number of each group that is not zeros, and its digits.
+pub fn push_bytes(told: &mut Told, bytes: &[u8]) {
+    let mut is_first = true;
     for (number, group) in bytes.chunks(8).enumerate() {
         if group.iter().any(|byte| *byte != 0) {
-            let digits = encode(alloc, group)?;
-            let space = if text.is_empty() { "" } else { " " };
-            let word = format!(in alloc; "{space}{number}:{}", digits.as_str())?;
-            text.push_str(word.as_str())?;
+            told.push(if is_first { "" } else { " " });
+            told.push_number(number as u64);
+            told.push(":");
+            told.push_digits(group);
+            is_first = false;
         }
     }
-    Ok(text)
 }
 
-/// The bytes of the page at a home.
-pub fn shown_page(alloc: Global, pages: &MemoryPages, home: &Home) -> Result<String> {
+/// Tells the bytes of the page at a home.
+pub fn push_page(told: &mut Told, pages: &MemoryPages, home: &Home) {
     match pages.get(*home) {
-        Some(page) => shown_bytes(alloc, page.bytes()),
-        None => Ok(String::from_str(alloc, "no page")?),
+        Some(page) => push_bytes(told, page.bytes()),
+        None => told.push("no page"),
     }
 }

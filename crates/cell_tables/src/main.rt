@@ -10,16 +10,18 @@ mod lines;
 mod pages;
 mod writing;
 
-use anyhow::Result;
 use blocks::push_block;
-use std::io;
+use std::io::{self, Lock};
+use std::process::ExitCode;
+use table_words::Told;
 
-fn main(rt: HostRuntime) -> Result<()> {
-    let text = io::read_to_string(rt.alloc(), rt.reader())?;
-    let mut answers = String::new(rt.alloc());
+fn main(rt: HostRuntime) -> ExitCode {
+    let Ok(text) = io::read_to_string(rt.alloc(), rt.stdin().lock()) else {
+        return ExitCode::FAILURE;
+    };
+    let mut told = Told::new(rt.alloc());
     for block in text.as_str().split_inclusive("\n\n") {
-        push_block(rt.alloc(), &mut answers, block)?;
+        push_block(rt.alloc(), &mut told, block);
     }
-    rt.print(answers.as_str())?;
-    Ok(())
+    told.print(&rt)
 }

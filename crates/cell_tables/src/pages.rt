@@ -1,19 +1,19 @@
 //! Pages in memory beside a plain list of the same.
 
-use anyhow::{Context, Result};
 use free_cells::{Home, MemoryPages, MetaPages, OutOfMemory, Page, VolIx};
 use std::alloc::Global;
+use table_words::Told;
 
 /// One of twelve homes: three pages of each of four volumes, one of them the last that there may
 /// be.
-fn home_of(number: u32) -> Result<Home> {
-    let vol = VolIx::new(1 + number % 4 * 2).context("a volume")?;
+fn home_of(number: u32) -> Option<Home> {
+    let vol = VolIx::new(1 + number % 4 * 2)?;
     let page = match number / 4 % 3 {
         0 => 0,
         1 => 1,
         _ => u32::MAX,
     };
-    Ok(Home { vol, page })
+    Some(Home { vol, page })
 }
 
 /// A page with that byte at its end.
@@ -66,55 +66,80 @@ fn take(pages: &mut MemoryPages, home: &Home) -> (Option<u8>, bool) {
     (mark, rose == usize::from(mark.is_some()))
 }
 
-/// One call at both, and whether they answer alike.
-fn call(
-    alloc: Global,
-    pages: &mut MemoryPages,
+/// Takes an entry from the plain list, and puts one with a mark there, if one is given.
+fn change_marks(
     marks: &mut Vec<(u32, u8)>,
     number: u32,
-) -> Result<bool> {
-    let at = number % 12;
-    let home = home_of(at)?;
-    let plain = plain_mark(marks, at);
-    marks.retain(|entry| entry.0 != at);
-    if number % 5 < 2 {
-        let (taken, counted) = take(pages, &home);
-        return Ok(taken == plain && counted);
+    mark: Option<u8>,
+) -> Result<(), OutOfMemory> {
+    marks.retain(|entry| entry.0 != number);
+    if let Some(mark) = mark {
+        marks.push((number, mark))?;
     }
-    let mark = (number / 16 % 256) as u8;
-    marks.push((at, mark))?;
-    Ok(put(alloc, pages, &home, mark)?)
+    Ok(())
+}
+
+/// Whether a call on the pages answers as the plain list does, of which the mark is `plain`: it puts
+/// a mark, if one is given, and forgets the page otherwise.
+fn is_alike(
+    alloc: Global,
+    pages: &mut MemoryPages,
+    home: &Home,
+    plain: Option<u8>,
+    mark: Option<u8>,
+) -> bool {
+    match mark {
+        Some(mark) => put(alloc, pages, home, mark).unwrap_or(false),
+        None => take(pages, home) == (plain, true),
+    }
+}
+
+/// One call at both, and whether they answer alike.
+fn call(alloc: Global, pages: &mut MemoryPages, marks: &mut Vec<(u32, u8)>, number: u32) -> bool {
+    let at = number % 12;
+    let plain = plain_mark(marks, at);
+    let mark = if number % 5 < 2 {
+        None
+    } else {
+        Some((number / 16 % 256) as u8)
+    };
+    if change_marks(marks, at, mark).is_err() {
+        return false;
+    }
+    match home_of(at) {
+        Some(home) => is_alike(alloc, pages, &home, plain, mark),
+        None => false,
+    }
 }
 
 /// Whether both have the same at all homes.
-fn are_alike(pages: &MemoryPages, marks: &[(u32, u8)]) -> Result<bool> {
+fn are_alike(pages: &MemoryPages, marks: &[(u32, u8)]) -> bool {
     for number in 0..12 {
-        let home = home_of(number)?;
-        if mark_at(pages, &home) != plain_mark(marks, number) {
-            return Ok(false);
+        let mark = match home_of(number) {
+            Some(home) => mark_at(pages, &home),
+            None => None,
+        };
+        if mark != plain_mark(marks, number) {
+            return false;
         }
     }
-    Ok(true)
+    true
 }
 
-/// How many of the calls come before the first after which they differ. They are drawn by a rule
-/// that has no pattern.
-fn same_calls(alloc: Global, calls: u32) -> Result<u32> {
+/// Tells how many of so many random calls both answer alike before the first after which they
+/// differ. They are drawn by a rule that has no pattern.
+pub fn tell_random(alloc: Global, calls: u32, told: &mut Told) {
     let mut pages = MemoryPages::new(alloc);
     let mut marks = Vec::new(alloc);
     let mut drawn = 1u32;
-    for number in 0..calls {
+    let mut same = 0u64;
+    for _ in 0..calls {
         drawn = drawn.wrapping_mul(1_664_525).wrapping_add(1_013_904_223);
-        let right = call(alloc, &mut pages, &mut marks, drawn / 65_536)?;
-        if !right || !are_alike(&pages, &marks)? {
-            return Ok(number);
+        if !call(alloc, &mut pages, &mut marks, drawn / 65_536) || !are_alike(&pages, &marks) {
+            break;
         }
+        same = same.saturating_add(1);
     }
-    Ok(calls)
-}
-
-/// How many of so many random calls both answer alike.
-pub fn random_pages(alloc: Global, calls: u32) -> Result<String> {
-    let same = same_calls(alloc, calls)?;
-    Ok(format!(in alloc; "{same} alike")?)
+    told.push_number(same);
+    told.push(" alike");
 }

@@ -4,12 +4,12 @@ ghost use Rattle.free_cells.specs.metadata_cells.Cell.{AreRecords, spellings};
 ghost use Rattle.free_cells.specs.metadata_cells.CellPage.{HasPlace, is_cell_page as begins};
 
 use crate::lines::{cell_of, kind_of};
-use anyhow::{Context, Result, bail};
 use free_cells::{
     CellAt, CellHead, CellKind, ChainFault, FilesetNo, Home, MemoryPages, MetaPages, OutOfMemory,
     Page, Record, RecordList, StoreFault, VolIx, read_chain, u32_at, write_cell,
 };
 use std::alloc::Global;
+use table_words::{Told, Words};
 
 /// Whether the bytes begin as a page of cells does.
 fn is_cell_page(bytes: &[u8]) -> bool
@@ -62,20 +62,22 @@ pub fn limits(alloc: Global, user: u32, group: u32) -> Result<RecordList, OutOfM
     Ok(RecordList::from_vec(records))
 }
 
-/// Writes a cell with two records, where there is a place for it.
-fn write_limits(
+/// Writes a cell with two records; whether memory sufficed and there is a place for it.
+fn is_written(
     alloc: Global,
     pages: &mut MemoryPages,
     at: &CellAt,
     head: &CellHead,
     user: u32,
-) -> Result<()> {
-    let records = limits(alloc, user, 7)?;
-    if !has_place(pages, at) || !leads_well(head) {
-        bail!("a place");
+) -> bool {
+    let Ok(records) = limits(alloc, user, 7) else {
+        return false;
+    };
+    let has_room = has_place(pages, at) && leads_well(head);
+    if has_room {
+        write_cell(pages, *at, head, &records);
     }
-    write_cell(pages, *at, head, &records);
-    Ok(())
+    has_room
 }
 
 fn head_of(next: Option<CellAt>, kind: CellKind) -> CellHead {
@@ -89,48 +91,66 @@ fn head_of(next: Option<CellAt>, kind: CellKind) -> CellHead {
 }
 
 /// The place of a chain's cell of that number: volumes 1 and 2 in turn, from page 4 on.
-fn place_of(number: u32) -> Result<CellAt> {
-    let vol = VolIx::new(1 + number % 2).context("a volume")?;
+fn place_of(number: u32) -> CellAt {
+    let vol = if number % 2 == 0 {
+        VolIx::new(1).unwrap()
+    } else {
+        VolIx::new(2).unwrap()
+    };
     let place = number / 2;
-    Ok(CellAt {
+    CellAt {
         vol,
         page: 4 + place / 28,
         cell: (place % 28) as u8,
-    })
+    }
 }
 
-/// Six pages of free cells on each of two volumes, but for their counts of free cells.
-fn free_pages(alloc: Global) -> Result<MemoryPages> {
-    let mut pages = MemoryPages::new(alloc);
-    for number in 0..12 {
-        let CellAt { vol, page, .. } = place_of(number % 2 + number / 2 * 56)?;
-        let mut bytes = Page::zeros(alloc)?;
-        bytes.set(0, b"BMTP");
-        pages.reserve(alloc, 1)?;
-        pages.put(Home { vol, page }, bytes);
-    }
-    Ok(pages)
-}
-
-/// Writes a chain of so many cells, the first one last. Each cell has its number for a user.
-fn write_chain(alloc: Global, pages: &mut MemoryPages, cells: u32) -> Result<()> {
-    let mut next = None;
-    for number in (0..cells).rev() {
-        let at = place_of(number)?;
-        let kind = if number == 0 {
-            CellKind::Primary
-        } else {
-            CellKind::Chain
-        };
-        let head = head_of(next, kind);
-        write_limits(alloc, pages, &at, &head, number)?;
-        next = Some(at);
-    }
+/// Puts a page of free cells, but for its count of free cells.
+fn put_free(alloc: Global, pages: &mut MemoryPages, home: &Home) -> Result<(), OutOfMemory> {
+    let mut bytes = Page::zeros(alloc)?;
+    bytes.set(0, b"BMTP");
+    pages.reserve(alloc, 1)?;
+    pages.put(*home, bytes);
     Ok(())
 }
 
-/// How many records of users there are, and whether they are of the users from 0 on.
-fn users(records: &[Record]) -> (u32, bool) {
+/// Puts six such pages on each of two volumes; whether memory sufficed.
+fn is_made(alloc: Global, pages: &mut MemoryPages) -> bool {
+    for number in 0..12 {
+        let CellAt { vol, page, .. } = place_of(number % 2 + number / 2 * 56);
+        if put_free(alloc, pages, &Home { vol, page }).is_err() {
+            return false;
+        }
+    }
+    true
+}
+
+/// The kind of a chain's cell of that number.
+fn kind_at(number: u32) -> CellKind {
+    if number == 0 {
+        CellKind::Primary
+    } else {
+        CellKind::Chain
+    }
+}
+
+/// Writes a chain of so many cells, the first one last; whether each was written. Each cell has its
+/// number for a user.
+fn is_chain_written(alloc: Global, pages: &mut MemoryPages, cells: u32) -> bool {
+    let mut next = None;
+    for number in (0..cells).rev() {
+        let at = place_of(number);
+        let head = head_of(next, kind_at(number));
+        if !is_written(alloc, pages, &at, &head, number) {
+            return false;
+        }
+        next = Some(at);
+    }
+    true
+}
+
+/// Tells how many records of users there are, and whether they are of the users from 0 on.
+fn tell_users(records: &[Record], told: &mut Told) {
     let mut count = 0u32;
     let mut in_order = true;
     for record in records {
@@ -139,50 +159,60 @@ fn users(records: &[Record]) -> (u32, bool) {
             count = count.saturating_add(1);
         }
     }
-    (count, in_order)
+    told.push_number(u64::from(count));
+    told.push(if in_order {
+        " users in order"
+    } else {
+        " users in no order"
+    });
 }
 
-/// The users of a chain of so many cells that was written and is read.
-fn users_of(alloc: Global, cells: u32) -> Result<(u32, bool)> {
-    let mut pages = free_pages(alloc)?;
-    write_chain(alloc, &mut pages, cells)?;
-    match read_chain(alloc, &pages, place_of(0)?) {
-        Ok(records) => Ok(users(records.as_slice())),
-        Err(ChainFault::Broken { .. }) => bail!("broken"),
-        Err(ChainFault::OutOfMemory) => bail!("memory"),
+/// Tells the users of the chain on pages.
+fn tell_read(alloc: Global, pages: &MemoryPages, told: &mut Told) {
+    match read_chain(alloc, pages, place_of(0)) {
+        Ok(records) => tell_users(records.as_slice(), told),
+        Err(ChainFault::Broken { .. }) => told.push("broken"),
+        Err(ChainFault::OutOfMemory) => told.check(false),
     }
 }
 
-/// How many users the records of a chain of so many cells are of, in their order.
-pub fn chain(alloc: Global, cells: u32) -> Result<String> {
-    let (count, in_order) = users_of(alloc, cells)?;
-    let word = if in_order { "in order" } else { "in no order" };
-    Ok(format!(in alloc; "{count} users {word}")?)
+/// Tells how many users the records of a chain of so many cells are of, in their order, once it was
+/// written.
+pub fn tell_chain(alloc: Global, cells: u32, told: &mut Told) {
+    let mut pages = MemoryPages::new(alloc);
+    told.check(is_made(alloc, &mut pages));
+    told.check(is_chain_written(alloc, &mut pages, cells));
+    tell_read(alloc, &pages, told);
 }
 
-/// The cell that a word names, or none for a dash.
-fn next_of(word: &str) -> Result<Option<CellAt>> {
-    match word {
-        "-" => Ok(None),
-        _ => Ok(Some(cell_of(word)?)),
+/// The next cell that a word names, or none for a dash.
+fn next_of(words: &mut Words) -> Option<CellAt> {
+    match words.rest().strip_prefix("- ") {
+        Some(_) => {
+            words.until(' ');
+            None
+        }
+        None => Some(cell_of(words)),
     }
 }
 
 /// Writes a cell: a line has the cell, the next one, the kind, and the user.
-pub fn write(alloc: Global, pages: &mut MemoryPages, rest: &str) -> Result<()> {
-    let (at, rest) = rest.split_once(' ').context("a cell")?;
-    let (next, rest) = rest.split_once(' ').context("the next cell")?;
-    let (kind, user) = rest.split_once(' ').context("a kind")?;
-    let head = head_of(next_of(next)?, kind_of(kind)?);
-    write_limits(alloc, pages, &cell_of(at)?, &head, user.parse()?)
+pub fn write(alloc: Global, pages: &mut MemoryPages, words: &mut Words) {
+    let at = cell_of(words);
+    let next = next_of(words);
+    let kind = kind_of(words.until(' '));
+    let user = words.number(' ');
+    let is_written = match kind {
+        Some(kind) => is_written(alloc, pages, &at, &head_of(next, kind), user),
+        None => false,
+    };
+    words.check(is_written);
 }
 
-/// What a fault of a store says.
-pub fn fault(alloc: Global, word: &str) -> Result<String> {
-    let fault = match word {
+/// Tells what a fault of a store says.
+pub fn tell_fault(word: &str, told: &mut Told) {
+    told.push_shown(&match word {
         "no page" => StoreFault::NoPage,
-        "no memory" => StoreFault::OutOfMemory,
-        _ => bail!("no such fault"),
-    };
-    Ok(format!(in alloc; "{fault}")?)
+        _ => StoreFault::OutOfMemory,
+    });
 }

@@ -12,5 +12,5 @@ returns-clause-belong c =
     let new = c.new_cell.new.self in
     let before = pages_of c.args.pages.now.entries.items in
     let write = c.in_ok-write_limits.ensures in
-    let takes = subst (λ (o : Option CellAt). IfSome o (λ q. TakesCell q old new)) c.in_ok-at.ensures c.new_cell.ensures.taken in
+    let takes = subst (λ (o : Option CellAt). IfSome o (λ q. TakesCell q old new)) c.in_ok-at.ensures.ok_part c.new_cell.ensures.taken in
     belong_written old new before (pages_of c.write_limits.new.pages.entries.items) at takes write.others write.well_formed write.headers (c.new_cell.ensures.belong before c.requires)

@@ -4,7 +4,7 @@ use Rattle.free_cells.specs.domain_base.declared.place.Home.{Home}
 use Rattle.free_cells.specs.page_store.Homes.{pages_of}
 use Rattle.free_cells.specs.Belong.{LeadsTo}
 use Rattle.free_cells.specs.Cells.{table_of}
-use Rattle.cell_tables.proofs.free.added_page.Goals as goal
+use Rattle.cell_tables.proofs.free.add_page.Goals as goal
 
 not_there : ¬ Contains {X = ℕ} (3 ∷ []) 9
 not_there there =
@@ -13,16 +13,16 @@ not_there there =
 
 pub add_page-requires-clause-some : goal.add_page-requires-clause-some
 add_page-requires-clause-some c =
-    let cells = c.in_ok-cells.cells in
+    let cells = c.args.cells.now in
     subst (λ (h : Home). 0 < length (table_of cells h.vol)) (sym c.added_home.ensures)
-    (subst (λ (t : List ℕ). 0 < length t) (sym c.in_ok-cells.ensures.first) (lit< tt))
+    (subst (λ (t : List ℕ). 0 < length t) (sym c.requires.first) (lit< tt))
 
 pub add_page-requires-clause-ends : goal.add_page-requires-clause-ends
 add_page-requires-clause-ends c =
-    subst (λ (h : Home). LeadsTo c.in_ok-cells.cells h.vol (pages_of c.in_ok-pages.pages.entries.items) 0) (sym c.added_home.ensures) c.in_ok-cells.ensures.ends
+    subst (λ (h : Home). LeadsTo c.args.cells.now h.vol (pages_of c.args.pages.now.entries.items) 0) (sym c.added_home.ensures) c.requires.ends
 
 pub add_page-requires-clause-fresh : goal.add_page-requires-clause-fresh
 add_page-requires-clause-fresh c =
-    let cells = c.in_ok-cells.cells in
+    let cells = c.args.cells.now in
     subst (λ (h : Home). ¬ Contains (table_of cells h.vol) h.page) (sym c.added_home.ensures)
-    (subst (λ (t : List ℕ). ¬ Contains t 9) (sym c.in_ok-cells.ensures.first) not_there)
+    (subst (λ (t : List ℕ). ¬ Contains t 9) (sym c.requires.first) not_there)
