@@ -1,22 +1,19 @@
 //! Bitmaps of volumes. A row has the number of pages and calls: `use:0..10` and `free:20` change
 //! pages, `run:10` asks for the first run of ten pages, and `run:10:2` for that from page 2 on.
 
-use anyhow::{Context, Result, bail};
 use free_space::Bitmap;
-use hex::encode;
 use std::alloc::Global;
+use table_words::{Told, Words};
 
 /// Marks the pages from one to another as used.
-fn use_pages(map: &mut Bitmap, pages: &str) -> Result<()> {
-    let (from, to) = pages.split_once("..").context("pages")?;
-    let from: u32 = from.parse()?;
-    let to: u32 = to.parse()?;
-    for page in from..to {
+fn use_pages(map: &mut Bitmap, words: &mut Words) {
+    let from = words.number('.');
+    words.until('.');
+    for page in from..words.number(' ') {
         if page < map.pages() {
             map.set(page);
         }
     }
-    Ok(())
 }
 
 /// Frees the page, if it is the volume's.
@@ -27,61 +24,69 @@ fn free_page(map: &mut Bitmap, page: u32) {
 }
 
 /// The first run of so many pages, from a page on where one is named.
-fn run(alloc: Global, map: &Bitmap, asked: &str) -> Result<String> {
-    let found = match asked.split_once(':') {
-        Some((count, from)) => map.first_run_from(from.parse()?, count.parse()?),
-        None => map.first_run(asked.parse()?),
-    };
-    match found {
-        Some(page) => Ok(format!(in alloc; "{page}")?),
-        None => Ok(String::from_str(alloc, "none")?),
+fn run(map: &Bitmap, words: &mut Words) -> Option<u32> {
+    let count = words.number(':');
+    if words.rest().is_empty() {
+        map.first_run(count)
+    } else {
+        map.first_run_from(words.number(' '), count)
     }
 }
 
-/// How many bytes there are, the first ten of them, and how many of the others are all ones.
-fn bytes(alloc: Global, map: &Bitmap) -> Result<String> {
+/// Tells how many bytes there are, the first ten of them, and how many of the others are all ones.
+fn tell_bytes(map: &Bitmap, told: &mut Told) {
     let bytes = map.bytes();
-    let (front, rest) = bytes.split_at_checked(10).context("ten bytes")?;
+    let (front, rest) = bytes.split_at_checked(10).unwrap_or((bytes, &[]));
     let ones = rest.iter().filter(|byte| **byte == 0xff).count();
-    let front = encode(alloc, front)?;
-    Ok(format!(in alloc; "{} bytes, {front}, {ones} of ones", bytes.len())?)
+    told.push_number(bytes.len() as u64);
+    told.push(" bytes, ");
+    told.push_digits(front);
+    told.push(", ");
+    told.push_number(ones as u64);
+    told.push(" of ones");
 }
 
-/// What is asked of the bitmap.
-fn asked(alloc: Global, map: &Bitmap, word: &str, rest: &str) -> Result<String> {
+/// Tells how many pages are free, and how many of them stand in a row.
+fn tell_count(map: &Bitmap, told: &mut Told) {
+    told.push_number(u64::from(map.count_free()));
+    told.push(" free, ");
+    told.push_number(u64::from(map.longest_run()));
+    told.push(" in a row");
+}
+
+/// Tells what is asked of the bitmap.
+fn tell_asked(map: &Bitmap, word: &str, words: &mut Words, told: &mut Told) {
     match word {
-        "run" => run(alloc, map, rest),
-        "bytes" => bytes(alloc, map),
-        "size" => Ok(format!(in alloc; "{}", map.bytes().len())?),
-        "count" => {
-            let (free, longest) = (map.count_free(), map.longest_run());
-            Ok(format!(in alloc; "{free} free, {longest} in a row")?)
-        }
-        _ => bail!("no such call"),
+        "run" => told.push_some(run(map, words)),
+        "bytes" => tell_bytes(map, told),
+        "size" => told.push_number(map.bytes().len() as u64),
+        "count" => tell_count(map, told),
+        _ => words.check(false),
     }
 }
 
-/// Makes a call, and adds a line of what it answers.
-fn call(alloc: Global, map: &mut Bitmap, text: &str, answers: &mut String) -> Result<()> {
-    let (word, rest) = text.split_once(':').unwrap_or((text, ""));
-    match word {
-        "use" => use_pages(map, rest)?,
-        "free" => free_page(map, rest.parse()?),
-        _ => {
-            let answer = asked(alloc, map, word, rest)?;
-            answers.push_str(format!(in alloc; "{text}: {answer}\n")?.as_str())?;
+/// Makes a call, and tells a line of what it answers.
+fn call(map: &mut Bitmap, text: &str, told: &mut Told) {
+    let mut words = Words::new(text);
+    match words.until(':') {
+        "use" => use_pages(map, &mut words),
+        "free" => free_page(map, words.number(' ')),
+        word => {
+            told.push(text);
+            told.push(": ");
+            tell_asked(map, word, &mut words, told);
+            told.push("\n");
         }
     }
-    Ok(())
+    told.check(words.is_right());
 }
 
-/// What the calls on a bitmap answer.
-pub fn bitmap(alloc: Global, rest: &str) -> Result<String> {
-    let (pages, calls) = rest.split_once(' ').context("calls")?;
-    let mut map = Bitmap::new(alloc, pages.parse()?)?;
-    let mut answers = String::new(alloc);
-    for text in calls.split(' ') {
-        call(alloc, &mut map, text, &mut answers)?;
+/// Tells what the calls on a bitmap answer.
+pub fn tell_bitmap(alloc: Global, words: &mut Words, told: &mut Told) {
+    let Ok(mut map) = Bitmap::new(alloc, words.number(' ')) else {
+        return told.check(false);
+    };
+    for text in words.rest().split(' ') {
+        call(&mut map, text, told);
     }
-    Ok(answers)
 }

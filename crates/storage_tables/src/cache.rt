@@ -3,23 +3,25 @@
 //! mark, `waits:2:70` the group that it waits for, `drop:2:70` forgets it and shows the mark of the
 //! page that is handed back, and `flush:9` writes the next home that is durable by that group.
 //! `fill:2` fills the cache with the pages of volume 1 and writes the first two.
+ghost use Rattle.std.specs.Prelude.{◌<◌};
 
 use crate::callers::write_and_show;
-use anyhow::{Context, Result, bail};
 use page_cache::{Home, OutOfMemory, Page, PageCache, VolIx};
 use std::alloc::Global;
+use table_words::{Told, Words};
 
-/// A page of a volume.
-pub fn home_at(vol: u32, page: u32) -> Result<Home> {
-    let vol = VolIx::new(vol).context("a volume")?;
-    Ok(Home { vol, page })
+/// A page with a byte at that place.
+fn page_with(alloc: Global, at: usize, mark: u8) -> Result<Page, OutOfMemory>
+    requires { at < 8_192 }
+{
+    let mut page = Page::zeros(alloc)?;
+    page.set(at, &[mark]);
+    Ok(page)
 }
 
 /// A page with that byte at its end.
 pub fn page_of(alloc: Global, mark: u8) -> Result<Page, OutOfMemory> {
-    let mut page = Page::zeros(alloc)?;
-    page.set(8_191, &[mark]);
-    Ok(page)
+    page_with(alloc, 8_191, mark)
 }
 
 /// The byte at a page's end.
@@ -27,65 +29,67 @@ pub fn mark_of(page: &Page) -> u8 {
     page.bytes()[8_191]
 }
 
+/// The mark that is shown of a home.
+pub fn shown(cache: &mut PageCache, home: &Home) -> Option<u32> {
+    match cache.frame(*home) {
+        Some(page) => Some(u32::from(mark_of(page))),
+        None => None,
+    }
+}
+
 /// A home, and up to two numbers more, zeros where they are not told.
 #[derive(Clone, Copy)]
-struct Told {
+struct Call {
     home: Home,
     mark: u8,
     group: u64,
 }
 
-/// The next number, or 0.
-fn number(word: Option<&str>) -> Result<u32> {
-    match word {
-        Some(word) => Ok(word.parse()?),
-        None => Ok(0),
-    }
-}
-
 /// What the words of a call tell.
-fn told_by(rest: &str) -> Result<Told> {
-    let mut words = rest.split(':');
-    let vol = number(words.next())?;
-    let page = number(words.next())?;
-    let mark = number(words.next())?;
-    let group = number(words.next())?;
-    Ok(Told {
-        home: home_at(vol, page)?,
-        mark: (mark % 256) as u8,
-        group: u64::from(group),
-    })
+fn call_of(words: &mut Words) -> Call {
+    let vol = words.volume(':');
+    let page = words.number(':');
+    let mark = words.byte_if_any(':');
+    Call {
+        home: Home { vol, page },
+        mark,
+        group: u64::from(words.number_if_any(' ')),
+    }
 }
 
-/// Keeps a page of a home that has none.
-fn keep(alloc: Global, cache: &mut PageCache, home: &Home, mark: u8) -> Result<()> {
-    let page = page_of(alloc, mark)?;
+/// Keeps a page of a home that has none; whether there was room, and memory sufficed.
+pub fn is_kept(alloc: Global, cache: &mut PageCache, home: &Home, mark: u8) -> bool {
+    let Ok(page) = page_of(alloc, mark) else {
+        return false;
+    };
     if cache.is_kept(*home) || cache.dirty() >= 1_024 {
-        bail!("no room for a new home");
+        return false;
     }
-    cache.keep(*home, page).map_err(|_| OutOfMemory)?;
-    Ok(())
+    cache.keep(*home, page).is_ok()
 }
 
-/// Writes a home that is kept.
-fn write(alloc: Global, cache: &mut PageCache, told: &Told) -> Result<()> {
-    let page = page_of(alloc, told.mark)?;
-    if !cache.is_kept(told.home) {
-        bail!("no kept home");
+/// Writes a home that is kept; whether it was, and memory sufficed.
+pub fn is_written(alloc: Global, cache: &mut PageCache, home: &Home, mark: u8, group: u64) -> bool {
+    let Ok(page) = page_of(alloc, mark) else {
+        return false;
+    };
+    let is_kept = cache.is_kept(*home);
+    if is_kept {
+        cache.write(*home, page, group);
     }
-    cache.write(told.home, page, told.group);
-    Ok(())
+    is_kept
 }
 
-/// Writes a page with that first byte to a kept home, and shows what stands there then.
-fn write_first(alloc: Global, cache: &mut PageCache, told: &Told) -> Result<String> {
-    let mut page = Page::zeros(alloc)?;
-    page.set(0, &[told.mark]);
-    if !cache.is_kept(told.home) {
-        bail!("no kept home");
+/// Writes a page with that first byte to a kept home, and tells what stands there then.
+fn write_first(alloc: Global, cache: &mut PageCache, call: &Call, told: &mut Told) {
+    let Ok(page) = page_with(alloc, 0, call.mark) else {
+        return told.check(false);
+    };
+    if !cache.is_kept(call.home) {
+        return told.check(false);
     }
-    let shown = write_and_show(cache, &told.home, page, told.group);
-    shown_mark(alloc, shown)
+    let shown = write_and_show(cache, &call.home, page, call.group);
+    told.push_some(shown.map(u32::from));
 }
 
 /// Makes a kept home clean.
@@ -95,117 +99,117 @@ pub fn clean(cache: &mut PageCache, home: &Home) {
     }
 }
 
-/// Forgets a kept home.
-pub fn forget(cache: &mut PageCache, home: &Home) {
-    if cache.is_kept(*home) {
-        cache.drop_frame(*home);
-    }
-}
-
-/// The mark of the page that a home's frame hands back as it is forgotten.
-fn drop_frame(alloc: Global, cache: &mut PageCache, home: &Home) -> Result<String> {
+/// Forgets a home, and gives the mark of the page that its frame hands back, if it was kept.
+pub fn forget(cache: &mut PageCache, home: &Home) -> Option<u32> {
     if !cache.is_kept(*home) {
-        return shown_mark(alloc, None);
+        return None;
     }
     let page = cache.drop_frame(*home);
-    shown_mark(alloc, Some(mark_of(&page)))
+    Some(u32::from(mark_of(&page)))
 }
 
-/// The group that a home's frame waits for.
-fn waits(alloc: Global, cache: &PageCache, home: &Home) -> Result<String> {
+/// Tells the group that a home's frame waits for.
+fn tell_wait(cache: &PageCache, home: &Home, told: &mut Told) {
     match cache.waits(*home) {
-        Some(group) => Ok(format!(in alloc; "{group}")?),
-        None => Ok(String::from_str(alloc, "none")?),
+        Some(group) => told.push_number(group),
+        None => told.push("none"),
     }
 }
 
-pub fn shown_mark(alloc: Global, mark: Option<u8>) -> Result<String> {
-    match mark {
-        Some(mark) => Ok(format!(in alloc; "{mark}")?),
-        None => Ok(String::from_str(alloc, "none")?),
-    }
-}
-
-/// Writes the next home that is durable, and says which it was.
-fn flush(alloc: Global, cache: &mut PageCache, durable: u64) -> Result<String> {
+/// Writes the next home that is durable, and tells which it was.
+fn flush(cache: &mut PageCache, durable: u64, told: &mut Told) {
     match cache.next_flush(durable) {
         Some(home) => {
             clean(cache, &home);
-            Ok(format!(in alloc; "{}:{}", home.vol.number(), home.page)?)
+            told.push_home("", &home);
         }
-        None => Ok(String::from_str(alloc, "none")?),
+        None => told.push("none"),
+    }
+}
+
+/// A page of volume 1.
+fn first_volume(page: u32) -> Home {
+    Home {
+        vol: VolIx::new(1).unwrap(),
+        page,
     }
 }
 
 /// Fills a cache with the pages of volume 1, of which the first so many are written once they are
-/// kept.
-fn fill(alloc: Global, cache: &mut PageCache, written: u32) -> Result<()> {
+/// kept; whether that passed.
+fn is_filled(alloc: Global, cache: &mut PageCache, written: u32) -> bool {
     for page in 0..1_024 {
-        let told = Told {
-            home: home_at(1, page)?,
-            mark: 2,
-            group: 1,
-        };
-        keep(alloc, cache, &told.home, 1)?;
-        if page < written {
-            write(alloc, cache, &told)?;
+        let home = first_volume(page);
+        if !is_kept(alloc, cache, &home, 1) {
+            return false;
+        }
+        if page < written && !is_written(alloc, cache, &home, 2, 1) {
+            return false;
         }
     }
-    Ok(())
+    true
 }
 
-/// Which of the first five pages of volume 1 are kept.
-fn first_five(alloc: Global, cache: &PageCache) -> Result<String> {
-    let mut text = String::from_str(alloc, "pages")?;
+/// Tells which of the first five pages of volume 1 are kept.
+fn tell_first_five(cache: &PageCache, told: &mut Told) {
+    told.push("pages");
     for page in 0..5 {
-        if cache.is_kept(home_at(1, page)?) {
-            text.push_str(format!(in alloc; " {page}")?.as_str())?;
+        if cache.is_kept(first_volume(page)) {
+            told.push(" ");
+            told.push_number(u64::from(page));
         }
     }
-    Ok(text)
 }
 
-/// What a call answers.
-fn answer(alloc: Global, cache: &mut PageCache, word: &str, rest: &str) -> Result<String> {
+/// Tells what a call answers.
+fn tell_call(alloc: Global, cache: &mut PageCache, word: &str, words: &mut Words, told: &mut Told) {
     match word {
-        "show" => {
-            let mark = cache.frame(told_by(rest)?.home).map(mark_of);
-            shown_mark(alloc, mark)
-        }
-        "waits" => waits(alloc, cache, &told_by(rest)?.home),
-        "drop" => drop_frame(alloc, cache, &told_by(rest)?.home),
-        "write-first" => write_first(alloc, cache, &told_by(rest)?),
-        "flush" => flush(alloc, cache, rest.parse()?),
-        "dirty" => Ok(format!(in alloc; "{}", cache.dirty())?),
-        "first-five" => first_five(alloc, cache),
-        _ => bail!("no such call"),
+        "show" => told.push_some(shown(cache, &call_of(words).home)),
+        "waits" => tell_wait(cache, &call_of(words).home, told),
+        "drop" => told.push_some(forget(cache, &call_of(words).home)),
+        "write-first" => write_first(alloc, cache, &call_of(words), told),
+        "flush" => flush(cache, u64::from(words.number(' ')), told),
+        "dirty" => told.push_number(cache.dirty() as u64),
+        "first-five" => tell_first_five(cache, told),
+        _ => words.check(false),
     }
 }
 
-/// Makes a call that answers nothing, and tells whether it is one.
-fn is_done(alloc: Global, cache: &mut PageCache, word: &str, rest: &str) -> Result<bool> {
-    match word {
-        "keep" => {
-            let Told { home, mark, .. } = told_by(rest)?;
-            keep(alloc, cache, &home, mark)?;
-        }
-        "write" => write(alloc, cache, &told_by(rest)?)?,
-        "fill" => fill(alloc, cache, rest.parse()?)?,
-        _ => return Ok(false),
+/// Keeps a page, or writes one, as words say; whether that passed.
+fn is_put(alloc: Global, cache: &mut PageCache, word: &str, words: &mut Words) -> bool {
+    let Call { home, mark, group } = call_of(words);
+    if word == "keep" {
+        is_kept(alloc, cache, &home, mark)
+    } else {
+        is_written(alloc, cache, &home, mark, group)
     }
-    Ok(true)
 }
 
-/// What the calls on a cache answer.
-pub fn cache(alloc: Global, calls: &str) -> Result<String> {
-    let mut cache = PageCache::new(alloc)?;
-    let mut answers = String::new(alloc);
+/// Makes a call, and tells a line of what it answers, if it answers anything.
+fn make_call(alloc: Global, cache: &mut PageCache, text: &str, told: &mut Told) {
+    let mut words = Words::new(text);
+    match words.until(':') {
+        "fill" => told.check(is_filled(alloc, cache, words.number(' '))),
+        word => {
+            if word == "keep" || word == "write" {
+                told.check(is_put(alloc, cache, word, &mut words));
+            } else {
+                told.push(text);
+                told.push(": ");
+                tell_call(alloc, cache, word, &mut words, told);
+                told.push("\n");
+            }
+        }
+    }
+    told.check(words.is_right());
+}
+
+/// Tells what the calls on a cache answer.
+pub fn tell_cache(alloc: Global, calls: &str, told: &mut Told) {
+    let Ok(mut cache) = PageCache::new(alloc) else {
+        return told.check(false);
+    };
     for text in calls.split(' ') {
-        let (word, rest) = text.split_once(':').unwrap_or((text, ""));
-        if !is_done(alloc, &mut cache, word, rest)? {
-            let answer = answer(alloc, &mut cache, word, rest)?;
-            answers.push_str(format!(in alloc; "{text}: {answer}\n")?.as_str())?;
-        }
+        make_call(alloc, &mut cache, text, told);
     }
-    Ok(answers)
 }

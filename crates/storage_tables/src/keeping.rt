@@ -3,10 +3,10 @@
 //! how many pages are free, held and waiting, and which were taken, freed and given back to wait.
 
 use crate::spaces::{one_volume, take, take_and_give_back, take_and_leave};
-use anyhow::{Context, Result};
-use cell_records::VolIx;
+use cell_records::{OutOfMemory, VolIx};
 use free_space::{FreeSpace, PageUse};
 use std::alloc::Global;
+use table_words::Told;
 
 /// Takes a page, keeps that, and frees it at once.
 fn take_keep_and_leave(space: &mut FreeSpace, vol: VolIx) -> Option<u32> {
@@ -50,58 +50,80 @@ fn make_change(space: &mut FreeSpace, vol: VolIx, letter: u8) -> Option<u32> {
     }
 }
 
-/// Makes a step: a capital [K]eeps, takes back what was kept ([B]), or [P]asses what waits.
-fn step(space: &mut FreeSpace, vol: VolIx, letter: u8) -> Result<()> {
+/// Makes a step: a capital [K]eeps, takes back what was kept ([B]), or [P]asses what waits. Whether
+/// a page was free, where one is taken.
+fn is_made(space: &mut FreeSpace, vol: VolIx, letter: u8) -> bool {
     match letter {
         b'K' => space.keep(),
         b'B' => space.take_back(),
         b'P' => space.log_passed(5),
-        _ => {
-            make_change(space, vol, letter).context("a free page")?;
-        }
+        _ => return make_change(space, vol, letter).is_some(),
     }
-    Ok(())
+    true
 }
 
-/// Pages in rising order, or a dash.
-fn shown_pages(alloc: Global, pages: &[u32]) -> Result<String> {
-    let mut pages = Vec::from_slice(alloc, pages)?;
+/// Tells pages in rising order, or a dash.
+fn tell_sorted(pages: &mut [u32], told: &mut Told) {
     pages.sort_unstable();
-    let mut text = String::new(alloc);
-    for page in pages.as_slice() {
-        text.push_str(format!(in alloc; " {page}")?.as_str())?;
+    for page in pages.iter() {
+        told.push(" ");
+        told.push_number(u64::from(*page));
     }
-    if text.is_empty() {
-        text.push_str(" -")?;
+    if pages.is_empty() {
+        told.push(" -");
     }
-    Ok(text)
 }
 
-/// How the volume stands.
-fn shown_space(alloc: Global, space: &FreeSpace, vol: VolIx) -> Result<String> {
-    let waiting: Vec<u32> = space
-        .given_back(vol)
-        .iter()
-        .map(|waiting| waiting.page)
-        .collect(alloc)?;
-    let taken = shown_pages(alloc, space.taken(vol))?;
-    let freed = shown_pages(alloc, space.freed(vol))?;
-    let given_back = shown_pages(alloc, &waiting)?;
-    let (free, held) = (space.free_now(), space.used_on(vol));
-    let counts = format!(in alloc; "{free} {held} {}", space.waiting())?;
-    Ok(format!(in alloc; "{counts}, taken{taken}, freed{freed}, waiting{given_back}")?)
+/// Tells pages in rising order after a word.
+fn tell_pages(alloc: Global, word: &str, pages: &[u32], told: &mut Told) {
+    told.push(word);
+    match Vec::from_slice(alloc, pages) {
+        Ok(mut pages) => tell_sorted(pages.as_mut_slice(), told),
+        Err(_) => told.check(false),
+    }
 }
 
-/// How a volume stands after each of the changes.
-pub fn changes(alloc: Global, letters: &str) -> Result<String> {
-    let vol = VolIx::new(4).context("a volume")?;
-    let mut space = one_volume(alloc, vol, 8, 2)?;
-    let mut text = String::new(alloc);
+/// The pages that were given back.
+fn given_back(alloc: Global, space: &FreeSpace, vol: VolIx) -> Result<Vec<u32>, OutOfMemory> {
+    let mut pages = Vec::new(alloc);
+    for waiting in space.given_back(vol) {
+        pages.push(waiting.page)?;
+    }
+    Ok(pages)
+}
+
+/// Tells how the volume stands.
+fn tell_space(alloc: Global, space: &FreeSpace, vol: VolIx, told: &mut Told) {
+    let (free, held) = (space.free_now() as u64, space.used_on(vol) as u64);
+    told.push_pair("", free, " ", held);
+    told.push(" ");
+    told.push_number(space.waiting() as u64);
+    tell_pages(alloc, ", taken", space.taken(vol), told);
+    tell_pages(alloc, ", freed", space.freed(vol), told);
+    match given_back(alloc, space, vol) {
+        Ok(pages) => tell_pages(alloc, ", waiting", &pages, told),
+        Err(_) => told.check(false),
+    }
+}
+
+/// Tells how a volume stands after each of the changes.
+fn tell_letters(alloc: Global, space: &mut FreeSpace, vol: VolIx, letters: &str, told: &mut Told) {
     for letter in letters.bytes() {
-        step(&mut space, vol, letter)?;
-        let shown = shown_space(alloc, &space, vol)?;
-        let letter = char::from(letter);
-        text.push_str(format!(in alloc; "{letter}: {shown}\n")?.as_str())?;
+        told.check(is_made(space, vol, letter));
+        told.push_letter(letter);
+        told.push(": ");
+        tell_space(alloc, space, vol, told);
+        told.push("\n");
     }
-    Ok(text)
+}
+
+/// Tells how a new volume stands after each of the changes.
+pub fn tell_changes(alloc: Global, letters: &str, told: &mut Told) {
+    let Some(vol) = VolIx::new(4) else {
+        return told.check(false);
+    };
+    match one_volume(alloc, vol, 8, 2) {
+        Ok(mut space) => tell_letters(alloc, &mut space, vol, letters, told),
+        Err(_) => told.check(false),
+    }
 }

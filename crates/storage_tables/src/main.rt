@@ -14,14 +14,18 @@ mod rows;
 mod spaces;
 mod staged;
 
-use anyhow::Result;
 use rows::push_row;
+use std::io::{self, Lock};
+use std::process::ExitCode;
+use table_words::Told;
 
-fn main(rt: HostRuntime) -> Result<()> {
-    let mut answers = String::new(rt.alloc());
-    for row in rt.lines(rt.alloc()) {
-        push_row(rt.alloc(), &mut answers, row?.as_str())?;
+fn main(rt: HostRuntime) -> ExitCode {
+    let Ok(text) = io::read_to_string(rt.alloc(), rt.stdin().lock()) else {
+        return ExitCode::FAILURE;
+    };
+    let mut told = Told::new(rt.alloc());
+    for row in text.as_str().lines() {
+        push_row(rt.alloc(), &mut told, row);
     }
-    rt.print(answers.as_str())?;
-    Ok(())
+    told.print(&rt)
 }

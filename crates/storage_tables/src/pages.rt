@@ -1,59 +1,83 @@
 //! Pages of 8,192 bytes, gates, and what a version allows.
 
-use anyhow::{Context, Result, bail};
 use cell_records::limits::PAGE_BYTES;
-use free_space::{Page, Version, gate};
-use hex::{decode, encode};
+use free_space::{OutOfMemory, Page, Version, gate};
 use std::alloc::Global;
+use table_words::{Told, Words, decode};
 
-/// The page's last five bytes in digits.
-fn end_of(alloc: Global, page: &Page) -> Result<String> {
-    let end = page.bytes().get(8_187..).context("five bytes")?;
-    Ok(encode(alloc, end)?)
-}
-
-/// How many bytes of a new page are zeros, and the end of its copy after bytes were written from a
-/// place on.
-pub fn page(alloc: Global, rest: &str) -> Result<String> {
-    let (at, digits) = rest.split_once(' ').context("a place")?;
-    let at: usize = at.parse()?;
-    let bytes = decode(alloc, digits)?;
-    if PAGE_BYTES < at || PAGE_BYTES - at < bytes.len() {
-        bail!("no bytes of a page");
-    }
-    let mut page = Page::zeros(alloc)?;
+/// Tells how many bytes of a page are zeros.
+fn tell_zeros(page: &Page, told: &mut Told) {
     let zeros = page.bytes().iter().filter(|byte| **byte == 0).count();
-    page.set(at, &bytes);
-    let copy = page.copy(alloc)?;
-    let end = end_of(alloc, &copy)?;
-    Ok(format!(in alloc; "{zeros} zeros, then {end} at the end")?)
+    told.push_number(zeros as u64);
+    told.push(" zeros, then ");
 }
 
-/// Whether the block of a gate says that it is open, and its last byte.
-fn shown_block(alloc: Global, block: [u8; 512]) -> Result<String> {
-    let word = if gate::is_open(&block) {
-        "open"
-    } else {
-        "closed"
-    };
-    Ok(format!(in alloc; "{word}, {:02x} at the end", block[511])?)
+/// Tells the last five bytes of a page's copy in digits.
+fn tell_copy(alloc: Global, page: &Page, told: &mut Told) {
+    match page.copy(alloc) {
+        Ok(copy) => told.push_digits(copy.bytes().get(8_187..).unwrap_or(&[])),
+        Err(_) => told.check(false),
+    }
+    told.push(" at the end");
 }
 
-/// The block of an open gate or of a closed one.
-pub fn block(alloc: Global, word: &str) -> Result<String> {
-    match word {
-        "open" => shown_block(alloc, gate::open_block()),
-        "closed" => shown_block(alloc, gate::closed_block()),
-        _ => bail!("no such gate"),
+/// Tells how many bytes of a new page are zeros, and the end of its copy after bytes were written
+/// from a place on.
+fn tell_written(
+    alloc: Global,
+    at: usize,
+    bytes: &[u8],
+    told: &mut Told,
+) -> Result<(), OutOfMemory> {
+    let mut page = Page::zeros(alloc)?;
+    tell_zeros(&page, told);
+    if at <= PAGE_BYTES && bytes.len() <= PAGE_BYTES - at {
+        page.set(at, bytes);
+    }
+    tell_copy(alloc, &page, told);
+    Ok(())
+}
+
+/// Tells a new page, and its copy once the bytes of a row were written from a place on.
+pub fn tell_page(alloc: Global, words: &mut Words, told: &mut Told) {
+    let at = words.number(' ') as usize;
+    match decode(alloc, words.rest()) {
+        Ok(bytes) => {
+            let is_told = tell_written(alloc, at, &bytes, told).is_ok();
+            told.check(is_told);
+        }
+        Err(_) => words.check(false),
     }
 }
 
-/// How many pages a volume may have by a version, and how many its bitmap has where the volume has
-/// so many.
-pub fn volume_pages(alloc: Global, rest: &str) -> Result<String> {
-    let (version, pages) = rest.split_once(' ').context("a version")?;
-    let version = Version::from_number(version.parse()?).context("a version")?;
-    let bitmap = version.bitmap_pages(pages.parse()?);
-    let most = version.max_volume_pages();
-    Ok(format!(in alloc; "at most {most}, {bitmap} of the bitmap")?)
+/// Tells the block of an open gate or of a closed one: whether it says that it is open, and its last
+/// byte.
+pub fn tell_block(word: &str, told: &mut Told) {
+    let block = if word == "open" {
+        gate::open_block()
+    } else {
+        gate::closed_block()
+    };
+    told.push(if gate::is_open(&block) {
+        "open, "
+    } else {
+        "closed, "
+    });
+    told.push_digits(&[block[511]]);
+    told.push(" at the end");
+}
+
+/// Tells how many pages a volume may have by a version, and how many its bitmap has where the
+/// volume has so many.
+pub fn tell_volume_pages(words: &mut Words, told: &mut Told) {
+    let version = Version::from_number(words.number(' '));
+    let pages = words.number(' ');
+    let Some(version) = version else {
+        return words.check(false);
+    };
+    told.push("at most ");
+    told.push_number(u64::from(version.max_volume_pages()));
+    told.push(", ");
+    told.push_number(u64::from(version.bitmap_pages(pages)));
+    told.push(" of the bitmap");
 }

@@ -3,28 +3,34 @@
 //! and then the marks of all homes.
 ghost use Rattle.std.specs.Prelude.{◌<◌};
 
-use crate::cache::{clean, forget, home_at, mark_of, page_of, shown_mark};
-use anyhow::Result;
-use page_cache::{Home, OutOfMemory, PageCache};
+use crate::cache::{clean, forget, is_kept, is_written, shown};
+use page_cache::{Home, PageCache, VolIx};
 use std::alloc::Global;
+use table_words::Told;
 
 /// How many homes the calls name, about twice as many as a cache keeps frames.
 const HOMES: u32 = 2_000;
 
 /// A home of that number; they go round the volumes.
-fn home_of(number: u32) -> Result<Home> {
-    home_at(1 + number % 8, number / 8)
+fn home_of(number: u32) -> Home {
+    let vol = match VolIx::new(1 + number % 8) {
+        Some(vol) => vol,
+        None => VolIx::new(1).unwrap(),
+    };
+    Home {
+        vol,
+        page: number / 8,
+    }
 }
 
-/// Keeps a page where no frame of the home is kept, unless all are dirty, and writes it otherwise.
-fn put(alloc: Global, cache: &mut PageCache, home: &Home, mark: u8, group: u64) -> Result<()> {
-    let page = page_of(alloc, mark)?;
+/// Keeps a page where no frame of the home is kept, unless all are dirty, and writes it otherwise;
+/// whether that passed.
+fn is_put(alloc: Global, cache: &mut PageCache, home: &Home, mark: u8, group: u64) -> bool {
     if cache.is_kept(*home) {
-        cache.write(*home, page, group);
-    } else if cache.dirty() < 1_024 {
-        cache.keep(*home, page).map_err(|_| OutOfMemory)?;
+        is_written(alloc, cache, home, mark, group)
+    } else {
+        cache.dirty() >= 1_024 || is_kept(alloc, cache, home, mark)
     }
-    Ok(())
 }
 
 /// Makes the next home clean whose group is durable.
@@ -34,74 +40,73 @@ fn flush(cache: &mut PageCache, durable: u64) {
     }
 }
 
-/// The mark that is shown of a home.
-fn shown(alloc: Global, cache: &mut PageCache, home: &Home) -> Result<String> {
-    let mark = cache.frame(*home).map(mark_of);
-    shown_mark(alloc, mark)
-}
-
-/// How many frames are dirty, and which home is written next.
-fn standing(alloc: Global, cache: &PageCache, durable: u64) -> Result<String> {
-    let dirty = cache.dirty();
+/// Tells how many frames are dirty, and which home is written next.
+fn tell_standing(cache: &PageCache, durable: u64, told: &mut Told) {
+    told.push_number(cache.dirty() as u64);
+    told.push(">");
     match cache.next_flush(durable) {
-        Some(home) => Ok(format!(in alloc; "{dirty}>{}:{}", home.vol.number(), home.page)?),
-        None => Ok(format!(in alloc; "{dirty}>none")?),
+        Some(home) => told.push_home("", &home),
+        None => told.push("none"),
     }
 }
 
-/// One call, and what is seen then.
-fn call(alloc: Global, cache: &mut PageCache, drawn: u32) -> Result<String> {
-    let home = home_of(drawn / 16 % HOMES)?;
+/// Makes a call, and tells what is seen then.
+fn call(alloc: Global, cache: &mut PageCache, drawn: u32, told: &mut Told) {
+    let home = home_of(drawn / 16 % HOMES);
     let mark = (drawn / 7 % 256) as u8;
     let group = u64::from(drawn / 64 % 32);
     match drawn % 16 {
-        0..=7 => put(alloc, cache, &home, mark, group)?,
+        0..=7 => told.check(is_put(alloc, cache, &home, mark, group)),
         8..=10 => flush(cache, group),
-        11 => forget(cache, &home),
-        _ => return shown(alloc, cache, &home),
+        11 => {
+            let _ = forget(cache, &home);
+        }
+        _ => return told.push_some(shown(cache, &home)),
     }
-    standing(alloc, cache, group)
+    tell_standing(cache, group, told);
 }
 
-/// A cache that is full, half of whose frames are dirty, which are the oldest.
-fn full(alloc: Global) -> Result<PageCache> {
-    let mut cache = PageCache::new(alloc)?;
+/// Fills a cache, half of whose frames are dirty, which are the oldest; whether that passed.
+fn is_filled(alloc: Global, cache: &mut PageCache) -> bool {
     for number in 0..1_024 {
-        let home = home_of(number)?;
-        put(alloc, &mut cache, &home, 1, 1)?;
-        if number < 512 {
-            put(alloc, &mut cache, &home, 2, u64::from(number % 32))?;
+        let home = home_of(number);
+        if !is_put(alloc, cache, &home, 1, 1) {
+            return false;
+        }
+        if number < 512 && !is_put(alloc, cache, &home, 2, u64::from(number % 32)) {
+            return false;
         }
     }
-    Ok(cache)
+    true
 }
 
-/// Adds a word, so many of them to a line.
-fn push_word(text: &mut String, word: &str, number: u32, to_a_line: u32) -> Result<()>
+/// Tells what comes after a word, of which so many stand on a line.
+fn end_word(number: u32, to_a_line: u32, told: &mut Told)
     requires { 0 < to_a_line }
 {
-    text.push_str(word)?;
-    text.push(if number % to_a_line == to_a_line - 1 {
-        '\n'
-    } else {
-        ' '
-    })?;
-    Ok(())
+    let is_last = number % to_a_line == to_a_line - 1;
+    told.push(if is_last { "\n" } else { " " });
 }
 
-/// What is seen of so many calls, and the marks of all homes then.
-pub fn random_cache(alloc: Global, calls: u32) -> Result<String> {
-    let mut cache = full(alloc)?;
-    let mut text = String::new(alloc);
+/// Tells what is seen of so many calls, and the marks of all homes then.
+fn tell_calls(alloc: Global, cache: &mut PageCache, calls: u32, told: &mut Told) {
     let mut drawn = 1u32;
     for number in 0..calls {
         drawn = drawn.wrapping_mul(1_664_525).wrapping_add(1_013_904_223);
-        let seen = call(alloc, &mut cache, drawn / 65_536 * 31)?;
-        push_word(&mut text, seen.as_str(), number, 10)?;
+        call(alloc, cache, drawn / 65_536 * 31, told);
+        end_word(number, 10, told);
     }
     for number in 0..HOMES {
-        let mark = shown(alloc, &mut cache, &home_of(number)?)?;
-        push_word(&mut text, mark.as_str(), number, 20)?;
+        told.push_some(shown(cache, &home_of(number)));
+        end_word(number, 20, told);
     }
-    Ok(text)
+}
+
+/// Tells what is seen of so many calls on a new cache that was filled.
+pub fn tell_random_cache(alloc: Global, calls: u32, told: &mut Told) {
+    let Ok(mut cache) = PageCache::new(alloc) else {
+        return told.check(false);
+    };
+    told.check(is_filled(alloc, &mut cache));
+    tell_calls(alloc, &mut cache, calls, told);
 }

@@ -4,9 +4,9 @@
 ghost use Rattle.std.specs.Prelude.{◌<◌};
 
 use crate::staged::{Step, look_at, take_step};
-use anyhow::{Context, Result};
 use staged_pages::StagedPages;
 use std::alloc::Global;
+use table_words::{Told, Words};
 
 /// Numbers that are always the same ones.
 #[derive(Drop)]
@@ -38,37 +38,32 @@ impl Random {
     }
 }
 
-/// Adds what a page is.
-fn push_page(alloc: Global, text: &mut String, pages: &StagedPages, page: u32) -> Result<()> {
+/// Tells what a page is.
+fn tell_page(pages: &StagedPages, page: u32, told: &mut Told) {
     let [now, before, times] = look_at(pages, page);
     let is_listed = times < 2 && (now == before || times == 1);
-    let mark = if is_listed { "" } else { "!" };
-    text.push_str(format!(in alloc; "{now}/{before}{mark}")?.as_str())?;
-    Ok(())
+    told.push_pair("", u64::from(now), "/", u64::from(before));
+    told.push(if is_listed { "" } else { "!" });
 }
 
-/// Adds what the three pages are.
-fn push_pages(alloc: Global, text: &mut String, pages: &StagedPages) -> Result<()> {
-    push_page(alloc, text, pages, 0)?;
-    text.push(',')?;
-    push_page(alloc, text, pages, 1)?;
-    text.push(',')?;
-    push_page(alloc, text, pages, 2)
+/// Tells what the three pages are.
+fn tell_pages(pages: &StagedPages, told: &mut Told) {
+    tell_page(pages, 0, told);
+    told.push(",");
+    tell_page(pages, 1, told);
+    told.push(",");
+    tell_page(pages, 2, told);
 }
 
-/// What the pages are after each of the steps from a seed.
-pub fn random_staged(alloc: Global, rest: &str) -> Result<String> {
-    let (seed, steps) = rest.split_once(' ').context("two numbers")?;
-    let steps: u32 = steps.parse()?;
+/// Tells what the pages are after each of the steps from a seed.
+pub fn tell_random_staged(alloc: Global, words: &mut Words, told: &mut Told) {
     let mut random = Random {
-        state: seed.parse()?,
+        state: u64::from(words.number(' ')),
     };
     let mut pages = StagedPages::new(alloc);
-    let mut text = String::new(alloc);
-    for number in 0..steps {
-        take_step(alloc, &mut pages, random.step())?;
-        push_pages(alloc, &mut text, &pages)?;
-        text.push(if number % 5 == 4 { '\n' } else { ' ' })?;
+    for number in 0..words.number(' ') {
+        told.check(take_step(alloc, &mut pages, random.step()).is_ok());
+        tell_pages(&pages, told);
+        told.push(if number % 5 == 4 { "\n" } else { " " });
     }
-    Ok(text)
 }

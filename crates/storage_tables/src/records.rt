@@ -2,73 +2,73 @@
 //! zeros after them; what is read is the length and the record, or the kind and the place of the
 //! field that is wrong. What is read is written again, and has to be the same bytes.
 
-use anyhow::{Context, Result};
 use cell_records::from_domain_base::Version;
 use cell_records::{
     Bad, ExtentField, HoleField, Leftover, OutOfMemory, Record, read_record, write_record,
 };
-use hex::decode;
 use std::alloc::Global;
+use table_words::{Told, Words, decode};
 
-/// The bytes of a line's second and third word.
-fn bytes_of(alloc: Global, digits: &str, zeros: &str) -> Result<Vec<u8>> {
-    let mut bytes = match digits {
-        "-" => Vec::new(alloc),
-        _ => decode(alloc, digits)?,
-    };
-    let zeros: usize = zeros.trim_start_matches('+').parse()?;
+/// The bytes that digits spell; none for a dash.
+fn digits_of(alloc: Global, digits: &str) -> Option<Vec<u8>> {
+    match digits {
+        "-" => Some(Vec::new(alloc)),
+        _ => decode(alloc, digits).ok(),
+    }
+}
+
+/// Adds so many zeros to bytes.
+fn push_zeros(bytes: &mut Vec<u8>, zeros: u32) -> Result<(), OutOfMemory> {
     for _ in 0..zeros {
         bytes.push(0)?;
     }
-    Ok(bytes)
+    Ok(())
 }
 
-fn extents(alloc: Global, name: &str, rows: &[ExtentField]) -> Result<String, OutOfMemory> {
-    let mut text = String::from_str(alloc, name)?;
-    for row in rows.iter().filter(|row| 0 < row.count) {
-        let shown = format!(in alloc; " {}+{}@{}:{}", row.page, row.count, row.vol, row.first)?;
-        text.push_str(shown.as_str())?;
-    }
-    Ok(text)
-}
-
-fn holes(alloc: Global, rows: &[HoleField]) -> Result<String, OutOfMemory> {
-    let mut text = String::from_str(alloc, "holes")?;
-    for row in rows.iter().filter(|row| 0 < row.count) {
-        let shown = format!(in alloc; " {}+{}", row.page, row.count)?;
-        text.push_str(shown.as_str())?;
-    }
-    Ok(text)
-}
-
-fn numbers(alloc: Global, name: &str, numbers: &[u64]) -> Result<String, OutOfMemory> {
-    let mut text = String::from_str(alloc, name)?;
+fn tell_numbers(name: &str, numbers: &[u64], told: &mut Told) {
+    told.push(name);
     for number in numbers {
-        let shown = format!(in alloc; " {number}")?;
-        text.push_str(shown.as_str())?;
+        told.push(" ");
+        told.push_number(*number);
     }
-    Ok(text)
 }
 
-fn volumes(alloc: Global, width: u8, mark: u8, vols: &[u8]) -> Result<String, OutOfMemory> {
-    let mut text = format!(in alloc; "stripe {width} {mark}")?;
+fn tell_extents(name: &str, rows: &[ExtentField], told: &mut Told) {
+    told.push(name);
+    for row in rows {
+        if 0 < row.count {
+            told.push_pair(" ", u64::from(row.page), "+", u64::from(row.count));
+            told.push_pair("@", u64::from(row.vol), ":", u64::from(row.first));
+        }
+    }
+}
+
+fn tell_holes(rows: &[HoleField], told: &mut Told) {
+    told.push("holes");
+    for row in rows {
+        if 0 < row.count {
+            told.push_pair(" ", u64::from(row.page), "+", u64::from(row.count));
+        }
+    }
+}
+
+fn tell_stripe(width: u8, mark: u8, vols: &[u8], told: &mut Told) {
+    tell_numbers("stripe", &[u64::from(width), u64::from(mark)], told);
     for vol in vols {
-        let shown = format!(in alloc; " {vol}")?;
-        text.push_str(shown.as_str())?;
+        told.push(" ");
+        told.push_number(u64::from(*vol));
     }
-    Ok(text)
 }
 
-fn pending(alloc: Global, what: Leftover) -> Result<String, OutOfMemory> {
-    let text = match what {
+fn pending_word(what: Leftover) -> &'static str {
+    match what {
         Leftover::Trim => "pending trim",
         Leftover::Remove => "pending remove",
-    };
-    String::from_str(alloc, text)
+    }
 }
 
-/// A record in words.
-fn shown(alloc: Global, record: &Record) -> Result<String, OutOfMemory> {
+/// Tells a record of a file whose fields are numbers.
+fn tell_file(record: &Record, told: &mut Told) {
     match record {
         Record::Attributes {
             kind,
@@ -80,97 +80,100 @@ fn shown(alloc: Global, record: &Record) -> Result<String, OutOfMemory> {
             links,
             birth,
             unsynced,
-        } => numbers(
-            alloc,
-            "attributes",
-            &[
-                *kind as u64,
-                *uid as u64,
-                *gid as u64,
-                *flags as u64,
-                *size,
-                *keep as u64,
-                *links as u64,
-                *birth,
-                *unsynced,
-            ],
-        ),
+        } => {
+            let rest = [*size, *keep as u64, *links as u64, *birth, *unsynced];
+            tell_numbers(
+                "attributes",
+                &[*kind as u64, *uid as u64, *gid as u64, *flags as u64],
+                told,
+            );
+            tell_numbers("", &rest, told);
+        }
         Record::CloneFile {
             source_vol,
             source_cell,
             source_page,
             frozen,
-        } => numbers(
-            alloc,
-            "clone",
-            &[
-                *source_vol as u64,
-                *source_cell as u64,
-                *source_page as u64,
-                *frozen as u64,
-            ],
-        ),
-        Record::Extents { rows } => extents(alloc, "extents", rows),
-        Record::ShortExtents { rows } => extents(alloc, "short", rows),
-        Record::Holes { rows } => holes(alloc, rows),
-        Record::Pending { what } => pending(alloc, *what),
-        Record::UserQuota { id, files, blocks } => numbers(
-            alloc,
-            "user",
-            &[*id as u64, *files, *blocks],
-        ),
-        Record::GroupQuota { id, files, blocks } => numbers(
-            alloc,
-            "group",
-            &[*id as u64, *files, *blocks],
-        ),
-        Record::DirIndex { vol, page, entries } => numbers(
-            alloc,
-            "index",
-            &[*vol as u64, *page as u64, *entries as u64],
-        ),
-        Record::Parent { slot, seq } => numbers(alloc, "parent", &[*slot as u64, *seq as u64]),
-        Record::Stripe { width, mark, vols } => volumes(alloc, *width, *mark, vols),
+        } => {
+            let source = [*source_vol as u64, *source_cell as u64, *source_page as u64];
+            tell_numbers("clone", &source, told);
+            tell_numbers("", &[*frozen as u64], told);
+        }
+        _ => told.check(false),
+    }
+}
+
+/// Tells a record whose fields are numbers.
+fn tell_fields(record: &Record, told: &mut Told) {
+    match record {
+        Record::UserQuota { id, files, blocks } => {
+            tell_numbers("user", &[*id as u64, *files, *blocks], told);
+        }
+        Record::GroupQuota { id, files, blocks } => {
+            tell_numbers("group", &[*id as u64, *files, *blocks], told);
+        }
+        Record::DirIndex { vol, page, entries } => {
+            tell_numbers("index", &[*vol as u64, *page as u64, *entries as u64], told);
+        }
+        Record::Parent { slot, seq } => {
+            tell_numbers("parent", &[*slot as u64, *seq as u64], told);
+        }
         Record::Volume {
             vol,
             pages,
             bitmap_pages,
-        } => numbers(
-            alloc,
-            "volume",
-            &[*vol as u64, *pages as u64, *bitmap_pages as u64],
-        ),
-        Record::DenseExtents { rows } => extents(alloc, "dense", rows),
-        Record::ShortDense { rows } => extents(alloc, "short-dense", rows),
+        } => {
+            let numbers = [*vol as u64, *pages as u64, *bitmap_pages as u64];
+            tell_numbers("volume", &numbers, told);
+        }
+        _ => tell_file(record, told),
     }
 }
 
-/// What is read of the bytes, in words.
-fn answer(alloc: Global, bytes: &[u8], version: Version) -> Result<String, OutOfMemory> {
+/// Tells a record in words.
+fn tell_words(record: &Record, told: &mut Told) {
+    match record {
+        Record::Extents { rows } => tell_extents("extents", rows, told),
+        Record::ShortExtents { rows } => tell_extents("short", rows, told),
+        Record::DenseExtents { rows } => tell_extents("dense", rows, told),
+        Record::ShortDense { rows } => tell_extents("short-dense", rows, told),
+        Record::Holes { rows } => tell_holes(rows, told),
+        Record::Pending { what } => told.push(pending_word(*what)),
+        Record::Stripe { width, mark, vols } => tell_stripe(*width, *mark, vols, told),
+        _ => tell_fields(record, told),
+    }
+}
+
+/// Tells what is read of the bytes, in words.
+fn tell_read(bytes: &[u8], version: Version, told: &mut Told) {
     let mut out = [0xffu8; 300];
     match read_record(bytes, version) {
         Ok((record, length)) => {
-            let words = shown(alloc, &record)?;
+            told.push_number(length as u64);
+            told.push(" ");
+            tell_words(&record, told);
             let written = if length <= 300 {
                 write_record(&record, &mut out)
             } else {
                 0
             };
-            let same = written == length
-                && bytes.len() >= length
-                && out[..300].starts_with(&bytes[..length]);
-            let otherwise = if same { "" } else { " written otherwise" };
-            format!(in alloc; "{length} {words}{otherwise}")
+            if written != length || !out.starts_with(bytes.get(..length).unwrap_or(&out)) {
+                told.push(" written otherwise");
+            }
         }
-        Err(Bad { kind, at }) => format!(in alloc; "bad {kind} at {at}"),
+        Err(Bad { kind, at }) => told.push_pair("bad ", u64::from(kind), " at ", at as u64),
     }
 }
 
-/// What is read of the bytes that a row spells.
-pub fn record(alloc: Global, rest: &str) -> Result<String> {
-    let (version, rest) = rest.split_once(' ').context("digits")?;
-    let (digits, zeros) = rest.split_once(' ').context("zeros")?;
-    let version = Version::from_number(version.parse()?).context("a version")?;
-    let bytes = bytes_of(alloc, digits, zeros)?;
-    Ok(answer(alloc, &bytes, version)?)
+/// Tells what is read of the bytes that a row spells.
+pub fn tell_record(alloc: Global, words: &mut Words, told: &mut Told) {
+    let version = Version::from_number(words.number(' '));
+    let digits = digits_of(alloc, words.until(' '));
+    words.until('+');
+    let zeros = words.number(' ');
+    let (Some(version), Some(mut bytes)) = (version, digits) else {
+        return words.check(false);
+    };
+    told.check(push_zeros(&mut bytes, zeros).is_ok());
+    tell_read(&bytes, version, told);
 }

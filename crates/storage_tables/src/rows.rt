@@ -1,53 +1,50 @@
 //! Rows: a word for what is done, and what it is done with.
 
-use crate::bitmaps::bitmap;
-use crate::cache::cache;
-use crate::keeping::changes;
-use crate::pages::{block, page, volume_pages};
-use crate::random_cache::random_cache;
-use crate::random_staged::random_staged;
-use crate::records::record;
-use crate::spaces::space;
-use crate::staged::staged;
-use anyhow::{Context, Result, bail};
+use crate::bitmaps::tell_bitmap;
+use crate::cache::tell_cache;
+use crate::keeping::tell_changes;
+use crate::pages::{tell_block, tell_page, tell_volume_pages};
+use crate::random_cache::tell_random_cache;
+use crate::random_staged::tell_random_staged;
+use crate::records::tell_record;
+use crate::spaces::tell_space;
+use crate::staged::tell_staged;
 use std::alloc::Global;
+use table_words::{Told, Words};
 
-/// What comes of a row.
-fn row_answer(alloc: Global, row: &str) -> Result<String> {
-    let (word, rest) = row.split_once(' ').context("a word and more")?;
-    match word {
-        "record" => record(alloc, rest),
-        "bitmap" => bitmap(alloc, rest),
-        "space" => space(alloc, rest),
-        "changes" => changes(alloc, rest),
-        "cache" => cache(alloc, rest),
-        "staged" => staged(alloc, rest),
-        "random-cache" => random_cache(alloc, rest.parse()?),
-        "random-staged" => random_staged(alloc, rest),
-        "page" => page(alloc, rest),
-        "block" => block(alloc, rest),
-        "pages" => volume_pages(alloc, rest),
-        _ => bail!("no such word"),
+/// Tells what comes of a row.
+fn tell_row(alloc: Global, row: &str, told: &mut Told) {
+    let mut words = Words::new(row);
+    match words.until(' ') {
+        "record" => tell_record(alloc, &mut words, told),
+        "bitmap" => tell_bitmap(alloc, &mut words, told),
+        "space" => tell_space(alloc, &mut words, told),
+        "changes" => tell_changes(alloc, words.rest(), told),
+        "cache" => tell_cache(alloc, words.rest(), told),
+        "staged" => tell_staged(alloc, words.rest(), told),
+        "random-cache" => tell_random_cache(alloc, words.number(' '), told),
+        "random-staged" => tell_random_staged(alloc, &mut words, told),
+        "page" => tell_page(alloc, &mut words, told),
+        "block" => tell_block(words.rest(), told),
+        "pages" => tell_volume_pages(&mut words, told),
+        _ => words.check(false),
     }
+    told.check(words.is_right());
 }
 
-/// Adds lines, each after two blanks.
-fn push_below(answers: &mut String, lines: &str) -> Result<()> {
-    for line in lines.lines() {
-        answers.push_str("  ")?;
-        answers.push_str(line)?;
-        answers.push('\n')?;
+/// Tells a row, and below it what comes of it, each line after two blanks. A comment and an empty
+/// row stand for themselves.
+pub fn push_row(alloc: Global, told: &mut Told, row: &str) {
+    let mut below = Told::new(alloc);
+    if !row.is_empty() && !row.starts_with('#') {
+        tell_row(alloc, row, &mut below);
     }
-    Ok(())
-}
-
-/// Adds a row, and below it what comes of it. A comment and an empty row stand for themselves.
-pub fn push_row(alloc: Global, answers: &mut String, row: &str) -> Result<()> {
-    answers.push_str(row)?;
-    answers.push('\n')?;
-    if row.is_empty() || row.starts_with('#') {
-        return Ok(());
+    told.push(row);
+    told.push("\n");
+    for line in below.text().lines() {
+        told.push("  ");
+        told.push(line);
+        told.push("\n");
     }
-    let answer = row_answer(alloc, row).context(row)?;
-    push_below(answers, answer.as_str())
+    told.check(below.is_right());
 }

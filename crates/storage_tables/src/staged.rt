@@ -2,10 +2,10 @@
 //! first byte, `set:0:7` sets it, `forget:0` forgets the page, `keep` keeps the change, and `back`
 //! takes it back.
 
-use anyhow::{Context, Result, bail};
 use page_cache::{Home, MetaPages, OutOfMemory, Page, VolIx};
 use staged_pages::StagedPages;
 use std::alloc::Global;
+use table_words::{Told, Words};
 
 /// A call: on a page, by its number, with the first byte that it has then, or on the change.
 #[derive(Clone, Copy, Debug)]
@@ -82,42 +82,46 @@ pub fn look_at(pages: &StagedPages, page: u32) -> [u8; 3] {
     ]
 }
 
-/// A page and a byte.
-fn page_and_byte(rest: &str) -> Result<(u32, u8)> {
-    let (page, byte) = rest.split_once(':').context("a page and a byte")?;
-    Ok((page.parse()?, byte.parse()?))
-}
-
-/// The step that a word names.
-fn step_of(text: &str) -> Result<Step> {
-    let (word, rest) = text.split_once(':').unwrap_or((text, ""));
+/// The step that a word names; it keeps the change if it is none.
+fn step_of(words: &mut Words) -> Step {
+    let word = words.until(':');
+    let page = words.number_if_any(':');
+    let byte = words.byte_if_any(' ');
     match word {
-        "put" => {
-            let (page, byte) = page_and_byte(rest)?;
-            Ok(Step::Put(page, byte))
+        "put" => Step::Put(page, byte),
+        "set" => Step::Set(page, byte),
+        "forget" => Step::Forget(page),
+        "back" => Step::TakeBack,
+        _ => {
+            words.check(word == "keep");
+            Step::Keep
         }
-        "set" => {
-            let (page, byte) = page_and_byte(rest)?;
-            Ok(Step::Set(page, byte))
-        }
-        "forget" => Ok(Step::Forget(rest.parse()?)),
-        "keep" => Ok(Step::Keep),
-        "back" => Ok(Step::TakeBack),
-        _ => bail!("no such step"),
     }
 }
 
-/// What the first three pages are once the steps are taken, where none was there: a line for each.
-pub fn staged(alloc: Global, steps: &str) -> Result<String> {
+/// Tells a line of what a page is.
+fn tell_page(pages: &StagedPages, page: u32, told: &mut Told) {
+    let [now, before, times] = look_at(pages, page);
+    told.push_pair("", u64::from(page), ": ", u64::from(now));
+    told.push_pair(
+        " now, ",
+        u64::from(before),
+        " before, listed ",
+        u64::from(times),
+    );
+    told.push("\n");
+}
+
+/// Tells what the first three pages are once the steps are taken, where none was there: a line for
+/// each.
+pub fn tell_staged(alloc: Global, steps: &str, told: &mut Told) {
     let mut pages = StagedPages::new(alloc);
     for step in steps.split(' ') {
-        take_step(alloc, &mut pages, step_of(step)?)?;
+        let mut words = Words::new(step);
+        let is_taken = take_step(alloc, &mut pages, step_of(&mut words)).is_ok();
+        told.check(is_taken && words.is_right());
     }
-    let mut text = String::new(alloc);
     for page in 0..3 {
-        let [now, before, times] = look_at(&pages, page);
-        let line = format!(in alloc; "{page}: {now} now, {before} before, listed {times}\n")?;
-        text.push_str(line.as_str())?;
+        tell_page(&pages, page, told);
     }
-    Ok(text)
 }
