@@ -6,8 +6,8 @@ mod answering;
 #[cfg(test)]
 mod closed;
 #[cfg(test)]
+mod making;
+#[cfg(test)]
 mod opened;
 #[cfg(test)]
 mod telling;
-#[cfg(test)]
-mod wide;

@@ -1,69 +1,167 @@
-//! Domains that are made, and whose history is begun.
+//! Domains that are made, whose history is begun, and in which commands are answered: what they
+//! tell of themselves.
 ghost use Rattle.std.specs.Prelude.{◌≡◌};
 ghost use Rattle.client_commands.specs.page_ways.Frame.{frame_in};
 ghost use Rattle.client_commands.specs.staged_pages.Store.{before_of};
+ghost use Rattle.client_commands.specs.domain_memory.Staged.{IsSettled};
 
 use crate::answering::answered;
-use crate::telling::all_told;
+use crate::making::made;
+use crate::telling::{all_told, command_in};
 use client_commands::from_fileset_values::Command;
+use client_commands::limits::PAGE_BYTES;
 use client_commands::{
-    Attached, Domain, FilesetTable, Home, MakeFault, Opening, OutOfMemory, Page, Rack, Told,
-    Version, VolIx, make, recover,
+    Attached, Bytes, Domain, Entry, FilesetTable, Home, MakeFault, Opening, Page, Rack, Refusal,
+    Reply, Told, Version, VolIx, recover,
 };
 use memory_disk::MemoryRack;
 use std::alloc::Global;
 use std::marker::Brand;
 use std::test::Fail;
 
-/// What is seen of a domain that was opened, and its rack.
+/// What a domain tells of itself, asked by calls that change nothing: whether its history has room
+/// for some entries more, whether a job runs, whether a volume has panicked, and whether page 159
+/// of its volume is kept in memory; and whether its table names the fileset home, None where no
+/// page of a table is kept.
+type Looks = ([bool; 4], Option<bool>);
+
+/// Whether the page of a table names the fileset home.
+fn names_home(alloc: Global, page: Option<&Page>) -> Option<bool> {
+    let table = FilesetTable::read(alloc, page?).ok()?;
+    Some(table.find(b"home").is_some())
+}
+
+/// What a domain tells of itself, and of room for so many entries.
+fn looks_of<R: Rack, O: Opening>(alloc: Global, domain: &Domain<R, O>, room: usize) -> Looks {
+    let vol = VolIx::new(1).unwrap();
+    let has_home = names_home(alloc, domain.read_page(Home { vol, page: 132 }));
+    let others = [
+        domain.spare() >= room,
+        domain.job_runs(),
+        domain.panicked().is_some(),
+        domain.read_page(Home { vol, page: 159 }).is_some(),
+    ];
+    (others, has_home)
+}
+
+/// The count that a reply has.
+fn count_of(entry: &Entry) -> Result<u64, &'static str> {
+    match &entry.reply {
+        Reply::Count(count) => Ok(*count),
+        Reply::Refused(Refusal::OutOfMemory) => Err("out of memory"),
+        _ => Err("no count"),
+    }
+}
+
+/// The history of a domain: how many entries there are, how many are committed, and how many are
+/// durable; and the stamp of the last one, and the count that it was answered.
+#[derive(Clone, Copy)]
+struct History {
+    entries: [u64; 3],
+    stamp: u64,
+    count: Result<u64, &'static str>,
+}
+
+fn history_of<R: Rack, O: Opening>(domain: &Domain<R, O>) -> History {
+    let entries = domain.entries();
+    let (stamp, count) = match entries.last() {
+        Some(entry) => (entry.stamp, count_of(entry)),
+        None => (0, Err("no entry")),
+    };
+    History {
+        entries: [entries.len() as u64, domain.committed(), domain.durable()],
+        stamp,
+        count,
+    }
+}
+
+/// The write of so many pages to the start of the file a of the fileset home.
+fn write_of(alloc: Global, pages: usize) -> Option<Command> {
+    let bytes = vec![in alloc; b'w'; pages.saturating_mul(PAGE_BYTES)].ok()?;
+    match command_in(alloc, "write home:/a 0 00")? {
+        Command::Write { place, offset, .. } => Some(Command::Write {
+            place,
+            offset,
+            bytes: Bytes::from_vec(bytes),
+        }),
+        _ => None,
+    }
+}
+
+/// Answers that write, if it has pages; if memory is short nothing is answered.
+fn told_write<R: Rack + Drop, O: Opening>(
+    domain: Domain<R, O>,
+    alloc: Global,
+    pages: usize,
+) -> Domain<R, O>
+    requires rests { ⟦<Domain<R, O> as Told>⟧.rests domain }
+    requires settled { IsSettled domain.memory }
+{
+    if pages == 0 {
+        return domain;
+    }
+    match write_of(alloc, pages) {
+        Some(command) => answered(domain, alloc, command),
+        None => domain,
+    }
+}
+
+/// What is seen of a domain before and after commands, and its rack then.
 #[derive(Drop)]
 struct Seen<R: Rack> {
-    entries: usize,
-    committed: u64,
-    durable: u64,
-    stamp: Option<u64>,
+    looks: [Looks; 2],
+    history: History,
     rack: R,
 }
 
-/// Begins the history of a domain, discards a change of nothing, answers a sync, and gives the
-/// domain's rack back.
-fn opened<R: Rack + Drop, O: Opening>(alloc: Global, attached: Attached<R>) -> Seen<R>
+/// Answers the commands of lines, and a write of so many pages.
+fn seen_of<R: Rack + Drop, O: Opening>(
+    domain: Domain<R, O>,
+    alloc: Global,
+    lines: &[&str],
+    pages: usize,
+) -> Seen<R>
+    requires rests { ⟦<Domain<R, O> as Told>⟧.rests domain }
+    requires settled { IsSettled domain.memory }
+{
+    let before = looks_of(alloc, &domain, 3);
+    let domain = all_told(domain, alloc, lines);
+    let domain = told_write(domain, alloc, pages);
+    Seen {
+        looks: [before, looks_of(alloc, &domain, 2)],
+        history: history_of(&domain),
+        rack: domain.into_rack(),
+    }
+}
+
+/// Begins the history of a domain with room for three entries, discards a change of nothing, and
+/// answers the commands of lines, and a write of so many pages.
+fn opened<R: Rack + Drop, O: Opening>(
+    alloc: Global,
+    attached: Attached<R>,
+    lines: &[&str],
+    pages: usize,
+) -> Seen<R>
     requires pages { O.pages ≡ before_of attached.memory.pages }
     requires frame { O.frame ≡ frame_in attached.memory.frame }
     requires sizes { O.sizes ≡ (R.disk attached.rack).sizes }
 {
     let mut domain: Domain<R, O> = Domain::begin(alloc, attached);
+    let _ = domain.reserve_history(3);
     domain.discard();
-    let domain = answered(domain, alloc, Command::Sync);
-    Seen {
-        entries: domain.entries().len(),
-        committed: domain.committed(),
-        durable: domain.durable(),
-        stamp: domain.entries().last().map(|entry| entry.stamp),
-        rack: domain.into_rack(),
-    }
+    seen_of(domain, alloc, lines, pages)
 }
 
-/// What comes of a domain that is made on a volume of zeros and opened.
-#[derive(Debug, PartialEq, Eq, Drop)]
-enum Outcome {
-    /// It has so many entries; so many are committed, and so many are durable. The stamp of its
-    /// last one is how many calls the rack has had, at least one. Recovery finds a domain with this
-    /// table page on its rack.
-    Opened {
-        entries: usize,
-        committed: u64,
-        durable: u64,
-        stamped: bool,
-        table: u32,
-    },
-    /// No domain is found on its rack.
-    Lost,
-    Small {
-        pages: u32,
-    },
-    Failed,
-    NoMemory,
+/// What is seen of a domain that is made on a volume of so many pages, with these commands and that
+/// write.
+fn made_and_opened(
+    alloc: Global,
+    volume: (u32, Version),
+    lines: &[&str],
+    pages: usize,
+) -> Result<Seen<MemoryRack>, MakeFault> {
+    let attached = made(alloc, volume.0, volume.1)?;
+    Ok(opened::<MemoryRack, Brand>(alloc, attached, lines, pages))
 }
 
 /// The page of the table of the domain that recovery finds on a rack.
@@ -72,140 +170,63 @@ fn found_table(alloc: Global, rack: &mut MemoryRack) -> Option<u32> {
     Some(redone.anchor.table?.page)
 }
 
-fn outcome_of(alloc: Global, mut seen: Seen<MemoryRack>) -> Outcome {
+/// The numbers of entries of a domain that answered a sync; whether the stamp of the last one is how
+/// many calls the rack has had, at least one; and the page of the table of the domain that recovery
+/// finds on its rack.
+fn synced(
+    alloc: Global,
+    pages: u32,
+    version: Version,
+) -> Result<([u64; 3], bool, Option<u32>), MakeFault> {
+    let mut seen = made_and_opened(alloc, (pages, version), &["sync"], 0)?;
     let calls = seen.rack.calls();
-    match found_table(alloc, &mut seen.rack) {
-        None => Outcome::Lost,
-        Some(table) => Outcome::Opened {
-            entries: seen.entries,
-            committed: seen.committed,
-            durable: seen.durable,
-            stamped: calls > 0 && seen.stamp == Some(calls),
-            table,
-        },
-    }
-}
-
-/// Makes a domain on a rack of one volume, and opens it.
-fn made_and_opened(alloc: Global, pages: u32, version: Version) -> Result<Outcome, OutOfMemory> {
-    let rack = MemoryRack::new(alloc, &[pages], &[], false)?;
-    if rack.volumes() != 1 {
-        return Ok(Outcome::Failed);
-    }
-    match make(alloc, rack, version) {
-        Ok(attached) => {
-            let seen = opened::<MemoryRack, Brand>(alloc, attached);
-            Ok(outcome_of(alloc, seen))
-        }
-        Err((_, MakeFault::VolumeSmall { pages })) => Ok(Outcome::Small { pages }),
-        Err((_, MakeFault::Fault { .. })) => Ok(Outcome::Failed),
-        Err((_, MakeFault::OutOfMemory)) => Ok(Outcome::NoMemory),
-    }
+    let is_stamped = calls > 0 && seen.history.stamp == calls;
+    let table = found_table(alloc, &mut seen.rack);
+    Ok((seen.history.entries, is_stamped, table))
 }
 
 #[test]
-fn a_domain_that_is_made_answers_a_sync(rt: HostRuntime) -> Result<(), Fail> {
-    let alloc = rt.alloc();
-    let seen = [
-        made_and_opened(alloc, 160, Version::Three)?,
-        made_and_opened(alloc, 512, Version::Four)?,
+fn a_domain_that_is_made_answers_a_sync(rt: HostRuntime) {
+    let first = synced(rt.alloc(), 160, Version::Three);
+    assert_eq!(rt; first, Ok(([1, 1, 0], true, Some(132))));
+    let second = synced(rt.alloc(), 512, Version::Four);
+    assert_eq!(rt; second, Ok(([1, 1, 0], true, Some(132))));
+}
+
+#[test]
+fn a_small_volume_is_refused(rt: HostRuntime) {
+    let seen = synced(rt.alloc(), 159, Version::Four);
+    assert_eq!(rt; seen, Err(MakeFault::VolumeSmall { pages: 159 }));
+}
+
+/// What a domain that is made on a volume of 160 pages tells of itself before and after a fileset
+/// is made in it.
+fn looks(alloc: Global) -> Result<[Looks; 2], MakeFault> {
+    let seen = made_and_opened(alloc, (160, Version::Four), &["mkfset home"], 0)?;
+    Ok(seen.looks)
+}
+
+#[test]
+fn a_domain_tells_of_its_room_and_of_pages_that_are_kept(rt: HostRuntime) {
+    let told = |has_home| ([true, false, false, false], Some(has_home));
+    assert_eq!(rt; looks(rt.alloc()), Ok([told(false), told(true)]));
+}
+
+/// What the write of so many pages to a new file is answered in a new domain with 379 free pages.
+fn written(alloc: Global, pages: usize) -> Result<Result<u64, &'static str>, MakeFault> {
+    let lines = ["mkfset home", "create home:/a 10 20"];
+    let seen = made_and_opened(alloc, (512, Version::Four), &lines, pages)?;
+    Ok(seen.history.count)
+}
+
+/// At most 24 more pages are held after a command. A script cannot name the bytes of so many.
+#[test]
+fn a_write_takes_24_pages_at_most(rt: HostRuntime) -> Result<(), Fail> {
+    let answers = [
+        written(rt.alloc(), 11)?,
+        written(rt.alloc(), 24)?,
+        written(rt.alloc(), 25)?,
     ];
-    let empty = |table| Outcome::Opened {
-        entries: 1,
-        committed: 1,
-        durable: 0,
-        stamped: true,
-        table,
-    };
-    assert_eq!(rt; seen, [empty(132), empty(132)]);
-    Ok(())
-}
-
-#[test]
-fn a_small_volume_is_refused(rt: HostRuntime) -> Result<(), Fail> {
-    let alloc = rt.alloc();
-    let seen = made_and_opened(alloc, 159, Version::Four)?;
-    assert_eq!(rt; seen, Outcome::Small { pages: 159 });
-    Ok(())
-}
-
-/// What a domain tells of itself, asked by calls that change nothing.
-#[derive(Debug, PartialEq, Eq, Drop)]
-struct Looks {
-    /// Whether its history has room for so many entries more.
-    has_room: bool,
-    job_runs: bool,
-    has_panicked: bool,
-    /// Whether its table names the fileset home; None where no page of a table is kept.
-    has_home: Option<bool>,
-    /// Whether the last page of its volume is kept in memory.
-    keeps_last: bool,
-}
-
-/// Whether the page of a table names the fileset home.
-fn names_home(alloc: Global, page: Option<&Page>) -> Option<bool> {
-    let table = FilesetTable::read(alloc, page?).ok()?;
-    Some(table.find(b"home").is_some())
-}
-
-/// What a domain on a volume of 160 pages tells of itself, and of room for so many entries.
-fn looks_of<R: Rack, O: Opening>(
-    alloc: Global,
-    domain: &Domain<R, O>,
-    vol: VolIx,
-    room: usize,
-) -> Looks {
-    Looks {
-        has_room: domain.spare() >= room,
-        job_runs: domain.job_runs(),
-        has_panicked: domain.panicked().is_some(),
-        has_home: names_home(alloc, domain.read_page(Home { vol, page: 132 })),
-        keeps_last: domain.read_page(Home { vol, page: 159 }).is_some(),
-    }
-}
-
-/// Begins the history of a domain, and looks at it before and after a fileset is made in it.
-fn looked_at<R: Rack + Drop, O: Opening>(
-    alloc: Global,
-    attached: Attached<R>,
-    vol: VolIx,
-) -> Result<[Looks; 2], OutOfMemory>
-    requires pages { O.pages ≡ before_of attached.memory.pages }
-    requires frame { O.frame ≡ frame_in attached.memory.frame }
-    requires sizes { O.sizes ≡ (R.disk attached.rack).sizes }
-{
-    let mut domain: Domain<R, O> = Domain::begin(alloc, attached);
-    domain.reserve_history(3)?;
-    domain.discard();
-    let first = looks_of(alloc, &domain, vol, 3);
-    let domain = all_told(domain, alloc, &["mkfset home"]);
-    let second = looks_of(alloc, &domain, vol, 2);
-    Ok([first, second])
-}
-
-/// What a domain tells of itself that is made on a volume of 160 pages.
-fn made_and_looked_at(alloc: Global) -> Result<[Looks; 2], Fail> {
-    let vol = VolIx::new(1).ok_or("a volume")?;
-    let rack = MemoryRack::new(alloc, &[160], &[], false)?;
-    if rack.volumes() != 1 {
-        return Err(Fail::from("one volume"));
-    }
-    match make(alloc, rack, Version::Four) {
-        Ok(made) => Ok(looked_at::<MemoryRack, Brand>(alloc, made, vol)?),
-        Err((_rack, fault)) => Err(Fail::from(fault)),
-    }
-}
-
-#[test]
-fn a_domain_tells_of_its_room_and_of_pages_that_are_kept(rt: HostRuntime) -> Result<(), Fail> {
-    let looks = made_and_looked_at(rt.alloc())?;
-    let told = |has_home| Looks {
-        has_room: true,
-        job_runs: false,
-        has_panicked: false,
-        has_home: Some(has_home),
-        keeps_last: false,
-    };
-    assert_eq!(rt; looks, [told(false), told(true)]);
+    assert_eq!(rt; answers, [Ok(90_112), Ok(196_608), Err("out of memory")]);
     Ok(())
 }

@@ -1,20 +1,21 @@
-//! Lines of scripts that are answered in a domain.
+//! Lines of commands that are answered in a domain.
 ghost use Rattle.client_commands.specs.domain_memory.Staged.{IsSettled};
 
 use crate::answering::answered;
 use client_commands::from_fileset_values::Command;
 use client_commands::{Domain, Opening, Rack, Told};
-use script_text::read_script;
+use command_text::{command, known_verb};
 use std::alloc::Global;
 
-/// The command that a line of a script has; none also if memory is short.
-fn command_in(alloc: Global, line: &str) -> Option<Command> {
-    let mut text = Vec::new(alloc);
-    text.extend_from_slice(b"client 1\n").ok()?;
-    text.extend_from_slice(line.as_bytes()).ok()?;
-    let script = read_script(alloc, text.as_slice()).ok()?;
-    let section = script.clients.into_vec().pop()?;
-    section.commands.into_vec().pop()
+/// The command that a line has; none also if memory is short.
+pub fn command_in(alloc: Global, line: &str) -> Option<Command> {
+    let mut words = line.split(' ');
+    let verb = known_verb(words.next()?.as_bytes())?;
+    let mut more = Vec::new(alloc);
+    for word in words {
+        more.push(word.as_bytes()).ok()?;
+    }
+    command(alloc, verb, more.as_slice()).ok()
 }
 
 /// Answers the command of a line; a line without one has no answer.

@@ -1,7 +1,7 @@
 use Rattle.memory_disk.specs.Memory.{memory_disk}
 use Rattle.client_commands.specs.page_ways.Frame.{frame_in}
 use Rattle.client_commands.specs.staged_pages.Store.{before_of}
-use Rattle.state_tests.proofs.closed.names_again.Given as goal
+use Rattle.state_tests.proofs.closed.has_names.Given as goal
 
 abbrev pub ghosts-names_kept : goal.ghosts-names_kept
 ghosts-names_kept a = record {
