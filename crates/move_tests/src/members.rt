@@ -15,6 +15,10 @@ const SECOND: Member = Member {
     state: 2,
 };
 
+fn member(pages: u32, state: u32) -> Member {
+    Member { pages, state }
+}
+
 /// An anchor with an open member 1, which has the log, and a closed member 2.
 fn anchor() -> Anchor {
     Anchor {
@@ -92,34 +96,11 @@ fn a_member_is_opened_closed_and_taken_off(rt: HostRuntime) -> Result<(), Fail> 
         in_state(&table, one, 0),
         in_state(&table, one, 2),
     ];
-    let opened = with_members(
-        Member {
-            pages: 64,
-            state: 1,
-        },
-        NONE,
-    );
-    let off = with_members(
-        Member {
-            pages: 64,
-            state: 0,
-        },
-        NONE,
-    );
+    let opened = with_members(member(64, 1), NONE);
+    let off = with_members(member(64, 0), NONE);
+    let first = member(512, 2);
     let closed = Anchor {
-        members: [
-            Member {
-                pages: 512,
-                state: 2,
-            },
-            SECOND,
-            NONE,
-            NONE,
-            NONE,
-            NONE,
-            NONE,
-            NONE,
-        ],
+        members: [first, SECOND, NONE, NONE, NONE, NONE, NONE, NONE],
         ..anchor()
     };
     assert_eq!(rt; seen, [Some(opened), Some(off), None, Some(closed)]);
