@@ -5,7 +5,6 @@ ghost use Rattle.disk_label.specs.volume_disk.Run.{OnlyReads};
 ghost use Rattle.disk_label.specs.Anchor.{IsAnchor, IsNext};
 
 use crate::calls::image;
-use crate::reading::{at, byte, small};
 use crate::renewals::{is_whole, renew_twice};
 use disk_label::{
     Anchor, AnchorFault, Home, Member, OutOfMemory, Rack, VolIx, close_gates, read_anchor,
@@ -13,6 +12,7 @@ use disk_label::{
 };
 use memory_disk::MemoryRack;
 use std::alloc::Global;
+use table_words::Words;
 
 const NONE: Member = Member { pages: 0, state: 0 };
 
@@ -110,24 +110,28 @@ pub fn make_ready<R: Rack>(rack: &mut R) -> bool {
     rack.volumes() >= 1 && rack.pages(vol) >= 2 && ready_slot(rack, vol, 1).is_ok()
 }
 
-/// The anchor that three numbers say, from a place on: its own number, which is 0 for no anchor, the
-/// volume of its log, and its slot.
-fn anchor_by(numbers: &[u64], from: usize) -> Option<Anchor> {
-    let from = from.min(3);
-    let number = at(numbers, from);
+/// The anchor that three numbers say: its own number, which is 0 for no anchor, the volume of its
+/// log, and its slot.
+pub fn anchor_of(words: &mut Words) -> Option<Anchor> {
+    let (number, log_vol, slot) = (
+        words.long_if_any(' '),
+        words.number_if_any(' '),
+        words.byte_if_any(' '),
+    );
     if number == 0 {
-        return None;
+        None
+    } else {
+        Some(anchor(number, log_vol, slot))
     }
-    Some(anchor(number, small(numbers, from + 1), byte(numbers, from + 2)))
 }
 
 /// Writes the anchor that numbers say, and where redo starts, if that is said: whether that passed.
-pub fn write(rack: &mut MemoryRack, numbers: &[u64]) -> bool {
-    let Some(mut next) = anchor_by(numbers, 0) else {
+pub fn write(rack: &mut MemoryRack, words: &mut Words) -> bool {
+    let Some(mut next) = anchor_of(words) else {
         return false;
     };
-    if numbers.len() > 3 {
-        next.start = small(numbers, 3);
+    if !words.is_at_end() {
+        next.start = words.number_if_any(' ');
     }
     write_next(rack, &next)
 }
@@ -143,39 +147,29 @@ fn is_found(found: &Result<Anchor, AnchorFault>, wanted: &Option<Anchor>) -> boo
     }
 }
 
-/// Whether what was found is what numbers say, from a place on.
-fn is_by(found: &Result<Anchor, AnchorFault>, numbers: &[u64], from: usize) -> bool {
-    is_found(found, &anchor_by(numbers, from))
-}
-
-/// Whether what was found is one of two that numbers say.
-fn is_either(found: &Result<Anchor, AnchorFault>, numbers: &[u64]) -> bool {
-    is_by(found, numbers, 0) || is_by(found, numbers, 3)
-}
-
-/// Whether a stop right after a call leaves one of the two anchors that numbers say.
+/// Whether a stop right after a call leaves one of two anchors.
 fn leaves_one(
     rack: &MemoryRack,
     alloc: Global,
     call: u64,
     pick: u64,
-    numbers: &[u64],
+    wanted: &[Option<Anchor>; 2],
 ) -> Result<bool, OutOfMemory> {
     let mut left = image(rack, alloc, call, pick)?;
-    Ok(is_either(&read_anchor(&mut left), numbers))
+    let found = read_anchor(&mut left);
+    Ok(is_found(&found, &wanted[0]) || is_found(&found, &wanted[1]))
 }
 
-/// Whether stops right after each of these calls, by each of 16 picks, leave one of the two anchors
-/// that numbers say.
+/// Whether stops right after each of these calls, by each of 16 picks, leave one of two anchors.
 pub fn leaves(
     rack: &MemoryRack,
     alloc: Global,
     calls: (u64, u64),
-    numbers: &[u64],
+    wanted: &[Option<Anchor>; 2],
 ) -> Result<bool, OutOfMemory> {
     for call in calls.0..calls.1 {
         for pick in 0..16 {
-            if !leaves_one(rack, alloc, call, pick, numbers)? {
+            if !leaves_one(rack, alloc, call, pick, wanted)? {
                 return Ok(false);
             }
         }

@@ -2,11 +2,11 @@
 ghost use Rattle.std.specs.Prelude.{◌≡◌, true};
 ghost use Rattle.disk_label.specs.volume_disk.Disk.{AreBlocks};
 
-use crate::reading::{at, byte, numbers_of, say_numbers, say_whether, small, word_of};
+use crate::telling::{push_number, push_numbers, push_whether};
 use disk_label::{OutOfMemory, Rack, VolIx};
 use memory_disk::MemoryRack;
 use std::alloc::Global;
-use std::test::Fail;
+use table_words::{Told, Words};
 
 /// The bytes that both halves of a block are full of, None for one that is full of none.
 pub type Halves = [Option<u8>; 2];
@@ -93,19 +93,18 @@ pub fn image(
     rack.image(alloc, call, pick)
 }
 
-/// Says the byte that a half is full of, or that it is full of none.
-pub fn say_half(out: &mut String, byte: Option<u8>) -> Result<(), Fail> {
+/// Tells the byte that a half is full of, or that it is full of none.
+pub fn push_half(told: &mut Told, byte: Option<u8>) {
     match byte {
-        Some(byte) => write!(out, " {byte}")?,
-        None => out.push_str(" none")?,
+        Some(byte) => push_number(told, u64::from(byte)),
+        None => told.push(" none"),
     }
-    Ok(())
 }
 
-fn say_halves(out: &mut String, seen: &Halves) -> Result<(), Fail> {
-    out.push(':')?;
-    say_half(out, seen[0])?;
-    say_half(out, seen[1])
+fn push_halves(told: &mut Told, seen: &Halves) {
+    told.push(":");
+    push_half(told, seen[0]);
+    push_half(told, seen[1]);
 }
 
 /// The clock and, of a volume, the pages and the counts of faults: reads and writes.
@@ -121,43 +120,71 @@ fn counts<R: Rack>(rack: &R, vol: u32) -> [u64; 4] {
     ]
 }
 
-/// Says bytes of a block: the volume, the block, the first one's place and how many they are.
-fn say_bytes<R: Rack>(rack: &mut R, numbers: &[u64], out: &mut String) -> Result<(), Fail> {
+/// Tells bytes of a block: the volume, the block, the first one's place and how many they are.
+fn push_bytes<R: Rack>(rack: &mut R, words: &mut Words, told: &mut Told) {
     let mut block = [0; 512];
-    if !get(rack, small(numbers, 0), small(numbers, 1), &mut block) {
-        return Err(Fail::new("a block that cannot be read"));
-    }
-    out.push(':')?;
-    let (first, count) = (small(numbers, 2) as usize, small(numbers, 3) as usize);
+    let (vol, number) = (words.number_if_any(' '), words.number_if_any(' '));
+    words.check(get(rack, vol, number, &mut block));
+    let (first, count) = (
+        words.number_if_any(' ') as usize,
+        words.number_if_any(' ') as usize,
+    );
+    told.push(":");
     for byte in block.iter().skip(first).take(count) {
-        write!(out, " {byte}")?;
+        push_number(told, u64::from(*byte));
     }
-    Ok(())
 }
 
 /// Fills blocks as numbers say: the volume, the block, how many blocks, and the byte.
-fn fill_by<R: Rack>(rack: &mut R, numbers: &[u64]) -> bool {
-    let (vol, block) = (small(numbers, 0), small(numbers, 1));
-    fill(rack, vol, block, at(numbers, 2), byte(numbers, 3))
+fn is_filled<R: Rack>(rack: &mut R, words: &mut Words) -> bool {
+    let (vol, block) = (words.number_if_any(' '), words.number_if_any(' '));
+    let count = words.long_if_any(' ');
+    fill(rack, vol, block, count, words.byte_if_any(' '))
 }
 
-/// Makes the call of a line, and says whether it passed or what it told.
-pub fn call<R: Rack>(
-    rack: &mut R,
-    alloc: Global,
-    line: &str,
-    out: &mut String,
-) -> Result<(), Fail> {
-    let numbers = numbers_of(alloc, line)?;
-    let numbers = numbers.as_slice();
-    let (vol, block) = (small(numbers, 0), small(numbers, 1));
-    match word_of(line) {
-        "put" => say_whether(out, &[fill_by(rack, numbers)]),
-        "sync" => say_whether(out, &[sync(rack, vol)]),
-        "get" => say_whether(out, &[get(rack, vol, block, &mut [0; 512])]),
-        "look" => say_halves(out, &look(rack, vol, block)),
-        "counts" => say_numbers(out, &counts(rack, vol)),
-        "bytes" => say_bytes(rack, numbers, out),
-        _ => Err(Fail::new("a call that is not known")),
+/// Reads a block as numbers say: the volume and the block.
+fn is_read<R: Rack>(rack: &mut R, words: &mut Words) -> bool {
+    let (vol, block) = (words.number_if_any(' '), words.number_if_any(' '));
+    get(rack, vol, block, &mut [0; 512])
+}
+
+/// What the halves of a block are full of that numbers say: the volume and the block.
+fn look_by<R: Rack>(rack: &mut R, words: &mut Words) -> Halves {
+    let (vol, block) = (words.number_if_any(' '), words.number_if_any(' '));
+    look(rack, vol, block)
+}
+
+/// Whether blocks are full of a byte, as numbers say: the volume, the first block, how many blocks,
+/// and the byte.
+fn are_full<R: Rack>(rack: &mut R, words: &mut Words) -> bool {
+    let (vol, first) = (words.number_if_any(' '), words.number_if_any(' '));
+    let (count, byte) = (words.number_if_any(' '), words.byte_if_any(' '));
+    for block in first..first.saturating_add(count) {
+        if look(rack, vol, block) != [Some(byte), Some(byte)] {
+            return false;
+        }
     }
+    true
+}
+
+/// Makes a call, and tells whether it passed or what it told.
+pub fn make_call<R: Rack>(rack: &mut R, word: &str, words: &mut Words, told: &mut Told) {
+    match word {
+        "put" => push_whether(told, &[is_filled(rack, words)]),
+        "sync" => push_whether(told, &[sync(rack, words.number_if_any(' '))]),
+        "get" => push_whether(told, &[is_read(rack, words)]),
+        "full" => push_whether(told, &[are_full(rack, words)]),
+        "look" => push_halves(told, &look_by(rack, words)),
+        "counts" => push_numbers(told, &counts(rack, words.number_if_any(' '))),
+        "bytes" => push_bytes(rack, words, told),
+        _ => words.check(false),
+    }
+}
+
+/// Makes the call of a line, and tells whether it passed or what it told.
+pub fn tell_call<R: Rack>(rack: &mut R, line: &str, told: &mut Told) {
+    let mut words = Words::new(line);
+    let word = words.until(' ');
+    make_call(rack, word, &mut words, told);
+    told.check(words.is_right());
 }

@@ -1,13 +1,13 @@
 //! Racks of files of the operating system, in the folder in which the program runs.
 
-use crate::reading::{at, say_numbers, small};
+use crate::telling::push_numbers;
 use disk_label::OutOfMemory;
 use memory_disk::FileRack;
 use std::alloc::Global;
 use std::fs::{File, OpenOptions};
 use std::os::unix::fs::FileExt;
-use std::test::Fail;
 use std::{fs, io};
+use table_words::{Told, Words};
 
 /// A new file of so many pages of zeros.
 fn new_file(rt: &HostRuntime, path: &str, pages: u32) -> io::Result<File> {
@@ -34,20 +34,36 @@ fn rack_of(alloc: Global, first: File, second: File) -> Result<FileRack, OutOfMe
 
 /// A rack of two files of so many pages, of which the second can be written only if the last number
 /// is 1.
-pub fn files(rt: &HostRuntime, numbers: &[u64]) -> Result<FileRack, Fail> {
-    let first = new_file(rt, "first", small(numbers, 0))?;
-    let mut second = new_file(rt, "second", small(numbers, 1))?;
-    if at(numbers, 2) != 1 {
-        second = File::open(rt, "second")?;
+pub fn files(rt: &HostRuntime, words: &mut Words) -> Option<FileRack> {
+    let (first, second) = (words.number_if_any(' '), words.number_if_any(' '));
+    let first = new_file(rt, "first", first).ok()?;
+    let mut second = new_file(rt, "second", second).ok()?;
+    if words.long_if_any(' ') != 1 {
+        second = File::open(rt, "second").ok()?;
     }
-    Ok(rack_of(rt.alloc(), first, second)?)
+    rack_of(rt.alloc(), first, second).ok()
 }
 
-/// Four bytes of a rack's second file.
-pub fn bytes(rack: FileRack, from: u64, out: &mut String) -> Result<(), Fail> {
+/// The device that takes what is written and keeps nothing of it, and that cannot be synced.
+fn null(rt: &HostRuntime) -> io::Result<File> {
+    OpenOptions::new()
+        .read(true)
+        .write(true)
+        .open(rt, "/dev/null")
+}
+
+/// A rack of two of these devices.
+pub fn nulls(rt: &HostRuntime) -> Option<FileRack> {
+    let first = null(rt).ok()?;
+    let second = null(rt).ok()?;
+    rack_of(rt.alloc(), first, second).ok()
+}
+
+/// Tells four bytes of a rack's second file.
+pub fn tell_bytes(rack: FileRack, from: u64, told: &mut Told) {
     let mut bytes = [9; 4];
     if let Some(file) = rack.into_files().get(1) {
-        file.read_exact_at(&mut bytes, from)?;
+        told.check(file.read_exact_at(&mut bytes, from).is_ok());
     }
-    say_numbers(out, &bytes.map(u64::from))
+    push_numbers(told, &bytes.map(u64::from));
 }

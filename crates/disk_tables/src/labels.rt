@@ -1,8 +1,8 @@
 //! Labels of both versions, and where the first pages of a volume stand.
 
-use crate::reading::{say_numbers, small};
+use crate::telling::push_numbers;
 use disk_label::{FirstPages, Label, Rack, Version, VolIx, read_label, usable_pages, write_label};
-use std::test::Fail;
+use table_words::{Told, Words};
 
 fn version_of(number: u32) -> Version {
     if number == 3 {
@@ -27,15 +27,16 @@ fn labelled<R: Rack>(rack: &mut R, vol: u32, pages: u32, version: Version) -> Op
 
 /// Whether a label that numbers say is read again once it is written: the volume, its pages and the
 /// version.
-pub fn is_labelled<R: Rack>(rack: &mut R, numbers: &[u64]) -> bool {
-    let (vol, pages) = (small(numbers, 0), small(numbers, 1));
-    let version = version_of(small(numbers, 2));
+pub fn is_labelled<R: Rack>(rack: &mut R, words: &mut Words) -> bool {
+    let (vol, pages) = (words.number_if_any(' '), words.number_if_any(' '));
+    let version = version_of(words.number_if_any(' '));
     labelled(rack, vol, pages, version) == Some(Label { pages, version })
 }
 
-/// The first pages of a volume of a version that has so many pages.
-pub fn first_pages(numbers: &[u64], out: &mut String) -> Result<(), Fail> {
-    let first = FirstPages::of(version_of(small(numbers, 0)), small(numbers, 1));
+/// Tells the first pages of a volume of a version that has so many pages.
+pub fn first_pages(words: &mut Words, told: &mut Told) {
+    let version = version_of(words.number_if_any(' '));
+    let first = FirstPages::of(version, words.number_if_any(' '));
     let pages = [
         first.label,
         first.anchors,
@@ -44,5 +45,5 @@ pub fn first_pages(numbers: &[u64], out: &mut String) -> Result<(), Fail> {
         first.log,
         first.table,
     ];
-    say_numbers(out, &pages.map(u64::from))
+    push_numbers(told, &pages.map(u64::from));
 }

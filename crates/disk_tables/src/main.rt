@@ -10,22 +10,24 @@ mod files;
 mod labels;
 mod picks;
 mod racks;
-mod reading;
 mod renewals;
 mod scene;
+mod telling;
 mod texts;
 
-use scene::{Scene, answer};
-use std::test::Fail;
+use scene::{Scene, tell_lines};
+use std::io::{self, Lock};
+use std::process::ExitCode;
+use table_words::Told;
 
-fn main(rt: HostRuntime) -> Result<(), Fail> {
-    let mut scene = Scene::new(rt.alloc())?;
-    let mut out = String::new(rt.alloc());
-    for line in rt.lines(rt.alloc()) {
-        let line = line?;
-        answer(&rt, &mut scene, line.as_str(), &mut out)?;
-        out.push('\n')?;
-    }
-    print!(rt; "{out}")?;
-    Ok(())
+fn main(rt: HostRuntime) -> ExitCode {
+    let Ok(text) = io::read_to_string(rt.alloc(), rt.stdin().lock()) else {
+        return ExitCode::FAILURE;
+    };
+    let Ok(mut scene) = Scene::new(rt.alloc()) else {
+        return ExitCode::FAILURE;
+    };
+    let mut told = Told::new(rt.alloc());
+    tell_lines(&rt, &mut scene, text.as_str(), &mut told);
+    told.print(&rt)
 }

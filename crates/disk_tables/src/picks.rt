@@ -1,10 +1,11 @@
 //! What the picks of an image leave of calls that were not synced.
 
 use crate::calls::{Halves, image, look};
-use crate::reading::say_whether;
+use crate::telling::push_whether;
+use disk_label::OutOfMemory;
 use memory_disk::MemoryRack;
 use std::alloc::Global;
-use std::test::Fail;
+use table_words::Told;
 
 /// Halves that are full of these bytes.
 fn halves(first: u8, last: u8) -> Halves {
@@ -91,8 +92,13 @@ fn add(found: &mut [bool; 6], seen: [bool; 6]) {
     }
 }
 
-/// What one of the picks 2 to 65 shows at least, after a stop right after a call.
-pub fn shapes(rack: &MemoryRack, alloc: Global, call: u64, out: &mut String) -> Result<(), Fail> {
+/// Tells what one of the picks 2 to 65 shows at least, after a stop right after a call.
+pub fn shapes(
+    rack: &MemoryRack,
+    alloc: Global,
+    call: u64,
+    told: &mut Told,
+) -> Result<(), OutOfMemory> {
     let mut found = [false; 6];
     let mut odd = [false; 6];
     for pick in 2..66 {
@@ -100,8 +106,9 @@ pub fn shapes(rack: &MemoryRack, alloc: Global, call: u64, out: &mut String) -> 
         add(&mut found, lasting(&mut left));
         add(&mut odd, shows_odd(&mut left));
     }
-    say_whether(out, &found)?;
-    say_whether(out, &odd)
+    push_whether(told, &found);
+    push_whether(told, &odd);
+    Ok(())
 }
 
 /// Whether each of the first 16 blocks of volume 1 is full of ones.
@@ -115,7 +122,7 @@ fn lasted(left: &mut MemoryRack) -> [bool; 16] {
 
 /// How many of the picks 2 to 257 after the first call leave ones in each block, and how many leave
 /// them in a block and not in the one 8 further, or the other way round.
-fn lasting_picks(rack: &MemoryRack, alloc: Global) -> Result<([u32; 16], [u32; 8]), Fail> {
+fn lasting_picks(rack: &MemoryRack, alloc: Global) -> Result<([u32; 16], [u32; 8]), OutOfMemory> {
     let mut ones = [0_u32; 16];
     let mut unlike = [0_u32; 8];
     for pick in 2..258 {
@@ -131,17 +138,18 @@ fn lasting_picks(rack: &MemoryRack, alloc: Global) -> Result<([u32; 16], [u32; 8
     Ok((ones, unlike))
 }
 
-/// Says of each of 16 blocks whether it lasts in 84 to 144 of 256 picks, and of each of the first 8
+/// Tells of each of 16 blocks whether it lasts in 84 to 144 of 256 picks, and of each of the first 8
 /// whether it and the one 8 further are unlike in 12 to 60.
-pub fn even(rack: &MemoryRack, alloc: Global, out: &mut String) -> Result<(), Fail> {
+pub fn even(rack: &MemoryRack, alloc: Global, told: &mut Told) -> Result<(), OutOfMemory> {
     let (ones, unlike) = lasting_picks(rack, alloc)?;
-    say_whether(out, &ones.map(|n| 84 <= n && n <= 144))?;
-    say_whether(out, &unlike.map(|n| 12 <= n && n <= 60))
+    push_whether(told, &ones.map(|n| 84 <= n && n <= 144));
+    push_whether(told, &unlike.map(|n| 12 <= n && n <= 60));
+    Ok(())
 }
 
 /// Whether a write of ones to block 3 of a volume is torn by one of the picks 2 to 65, after a stop
 /// right after a call.
-pub fn is_torn(rack: &MemoryRack, alloc: Global, vol: u32, call: u64) -> Result<bool, Fail> {
+pub fn is_torn(rack: &MemoryRack, alloc: Global, vol: u32, call: u64) -> Result<bool, OutOfMemory> {
     for pick in 2..66 {
         let mut left = image(rack, alloc, call, pick)?;
         let seen = look(&mut left, vol, 3);

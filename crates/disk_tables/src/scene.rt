@@ -1,19 +1,19 @@
 //! The racks that lines speak of, and the calls that each word names.
 
-use crate::anchors::{closes, leaves, make_ready, number, reads, renewed_numbers, write};
-use crate::calls::{call, image};
-use crate::files::{bytes, files};
+use crate::anchors::{
+    anchor_of, closes, leaves, make_ready, number, reads, renewed_numbers, write,
+};
+use crate::calls::{image, make_call};
+use crate::files::{files, nulls, tell_bytes};
 use crate::labels::{first_pages, is_labelled};
 use crate::picks::{even, is_torn, shapes};
 use crate::racks::{fuse, stop};
-use crate::reading::{
-    all_small, at, numbers_of, rest_of, say_numbers, say_whether, small, word_of,
-};
+use crate::telling::{push_numbers, push_whether};
 use crate::texts::{of_anchors, of_slots};
-use disk_label::Rack;
+use disk_label::{OutOfMemory, Rack};
 use memory_disk::{FileRack, MemoryRack};
 use std::alloc::Global;
-use std::test::Fail;
+use table_words::{Told, Words};
 
 /// A rack in memory, the call at which a change of it began, the calls of the next one that fail,
 /// and a rack of files, if there is one.
@@ -25,70 +25,135 @@ pub struct Scene {
     files: Option<FileRack>,
 }
 
+/// The numbers that are left to read of a line.
+fn numbers_of(alloc: Global, words: &mut Words) -> Result<Vec<u64>, OutOfMemory> {
+    let mut numbers = Vec::new(alloc);
+    for _ in 0..words.rest().len() {
+        if words.is_at_end() {
+            break;
+        }
+        numbers.push(words.long_if_any(' '))?;
+    }
+    Ok(numbers)
+}
+
+/// The sizes of volumes that are left to read of a line.
+fn sizes_of(alloc: Global, words: &mut Words) -> Result<Vec<u32>, OutOfMemory> {
+    let mut sizes = Vec::new(alloc);
+    for _ in 0..words.rest().len() {
+        if words.is_at_end() {
+            break;
+        }
+        sizes.push(words.number_if_any(' '))?;
+    }
+    Ok(sizes)
+}
+
+/// A rack with volumes of the sizes that a line says, of which calls fail.
+fn rack_of(
+    alloc: Global,
+    words: &mut Words,
+    fails: &[u64],
+    keeps: bool,
+) -> Result<MemoryRack, OutOfMemory> {
+    let sizes = sizes_of(alloc, words)?;
+    MemoryRack::new(alloc, sizes.as_slice(), fails, keeps)
+}
+
 impl Scene {
     /// A rack without a volume, and no other.
-    pub fn new(alloc: Global) -> Result<Scene, Fail> {
+    pub fn new(alloc: Global) -> Result<Scene, OutOfMemory> {
+        let rack = MemoryRack::new(alloc, &[], &[], false)?;
         Ok(Scene {
-            rack: MemoryRack::new(alloc, &[], &[], false)?,
+            rack,
             start: 0,
             fails: Vec::new(alloc),
             files: None,
         })
     }
 
-    /// Begins anew with a rack of these sizes.
-    fn begin(&mut self, alloc: Global, sizes: &[u64], keeps: bool) -> Result<(), Fail> {
-        let sizes = all_small(alloc, sizes)?;
-        self.rack = MemoryRack::new(alloc, sizes.as_slice(), self.fails.as_slice(), keeps)?;
-        self.fails = Vec::new(alloc);
-        Ok(())
+    /// Begins anew with a rack of these sizes; whether memory sufficed.
+    fn begin(&mut self, alloc: Global, words: &mut Words, keeps: bool) -> bool {
+        match rack_of(alloc, words, self.fails.as_slice(), keeps) {
+            Ok(rack) => {
+                self.rack = rack;
+                self.fails = Vec::new(alloc);
+                true
+            }
+            Err(_) => false,
+        }
     }
-}
 
-/// Answers a line, which is said as it stands: one that begins with # is a heading.
-pub fn answer(
-    rt: &HostRuntime,
-    scene: &mut Scene,
-    line: &str,
-    out: &mut String,
-) -> Result<(), Fail> {
-    out.push_str(line)?;
-    match word_of(line) {
-        "" | "#" => Ok(()),
-        "file" => answer_of_files(rt, scene, rest_of(line), out),
-        "put" | "sync" | "get" | "look" | "counts" | "bytes" => call(
-            &mut scene.rack,
-            rt.alloc(),
-            line,
-            out,
-        ),
-        word => {
-            let numbers = numbers_of(rt.alloc(), line)?;
-            answer_of_racks(rt.alloc(), scene, word, numbers.as_slice(), out)
+    /// Says which calls of the next rack fail; whether memory sufficed.
+    fn fail(&mut self, alloc: Global, words: &mut Words) -> bool {
+        match numbers_of(alloc, words) {
+            Ok(fails) => {
+                self.fails = fails;
+                true
+            }
+            Err(_) => false,
+        }
+    }
+
+    /// Goes on with what a stop after a call leaves; whether memory sufficed.
+    fn stop(&mut self, alloc: Global, call: u64, pick: u64) -> bool {
+        match image(&self.rack, alloc, call, pick) {
+            Ok(rack) => {
+                self.rack = rack;
+                true
+            }
+            Err(_) => false,
         }
     }
 }
 
+/// Tells lines with what they answer, each as it stands: one that begins with # is a heading.
+pub fn tell_lines(rt: &HostRuntime, scene: &mut Scene, lines: &str, told: &mut Told) {
+    for line in lines.lines() {
+        let mut words = Words::new(line);
+        told.push(line);
+        answer(rt, scene, &mut words, told);
+        told.check(words.is_right());
+        told.push("\n");
+    }
+}
+
+/// Answers a line.
+fn answer(rt: &HostRuntime, scene: &mut Scene, words: &mut Words, told: &mut Told) {
+    match words.until(' ') {
+        "" | "#" => {}
+        "file" => answer_of_files(rt, scene, words, told),
+        word => answer_of_racks(rt.alloc(), scene, word, words, told),
+    }
+}
+
+/// Sets a rack of files, if there is one.
+fn is_set(scene: &mut Scene, rack: Option<FileRack>) -> bool {
+    scene.files = rack;
+    scene.files.is_some()
+}
+
 /// Answers a line of a rack of files.
-fn answer_of_files(
-    rt: &HostRuntime,
-    scene: &mut Scene,
-    line: &str,
-    out: &mut String,
-) -> Result<(), Fail> {
-    let numbers = numbers_of(rt.alloc(), line)?;
-    let numbers = numbers.as_slice();
-    if word_of(line) == "rack" {
-        scene.files = Some(files(rt, numbers)?);
-        return Ok(());
+fn answer_of_files(rt: &HostRuntime, scene: &mut Scene, words: &mut Words, told: &mut Told) {
+    match words.until(' ') {
+        "rack" => told.check(is_set(scene, files(rt, words))),
+        "nulls" => told.check(is_set(scene, nulls(rt))),
+        "second" => match scene.files.take() {
+            Some(rack) => tell_bytes(rack, words.long_if_any(' '), told),
+            None => told.check(false),
+        },
+        word => match &mut scene.files {
+            Some(rack) => make_call(rack, word, words, told),
+            None => told.check(false),
+        },
     }
-    if word_of(line) == "second" {
-        let rack = scene.files.take().ok_or("a rack of files")?;
-        return bytes(rack, at(numbers, 0), out);
-    }
-    match &mut scene.files {
-        Some(rack) => call(rack, rt.alloc(), line, out),
-        None => Err(Fail::new("no rack of files")),
+}
+
+/// Tells whether an answer is yes, if memory sufficed for it.
+fn push_answer(told: &mut Told, answer: Result<bool, OutOfMemory>) {
+    match answer {
+        Ok(is_so) => push_whether(told, &[is_so]),
+        Err(_) => told.check(false),
     }
 }
 
@@ -97,61 +162,78 @@ fn answer_of_racks(
     alloc: Global,
     scene: &mut Scene,
     word: &str,
-    numbers: &[u64],
-    out: &mut String,
-) -> Result<(), Fail> {
+    words: &mut Words,
+    told: &mut Told,
+) {
     match word {
-        "fails" => {
-            scene.fails = Vec::from_slice(alloc, numbers)?;
-            Ok(())
+        "fails" => told.check(scene.fail(alloc, words)),
+        "rack" => told.check(scene.begin(alloc, words, true)),
+        "rack-that-forgets" => told.check(scene.begin(alloc, words, false)),
+        "stop" => {
+            let (call, pick) = (words.long_if_any(' '), words.long_if_any(' '));
+            stop(&scene.rack, alloc, call, pick, told);
         }
-        "rack" => scene.begin(alloc, numbers, true),
-        "rack-that-forgets" => scene.begin(alloc, numbers, false),
-        "stop" => stop(&scene.rack, alloc, at(numbers, 0), at(numbers, 1), out),
         "again" => {
-            scene.rack = image(&scene.rack, alloc, at(numbers, 0), at(numbers, 1))?;
-            Ok(())
+            let (call, pick) = (words.long_if_any(' '), words.long_if_any(' '));
+            told.check(scene.stop(alloc, call, pick));
         }
-        "fuse" => fuse(alloc, at(numbers, 0), out),
-        "shapes" => shapes(&scene.rack, alloc, at(numbers, 0), out),
-        "even" => even(&scene.rack, alloc, out),
+        "fuse" => fuse(alloc, words.long_if_any(' '), told),
+        "shapes" => {
+            let is_told = shapes(&scene.rack, alloc, words.long_if_any(' '), told).is_ok();
+            told.check(is_told);
+        }
+        "even" => {
+            let is_told = even(&scene.rack, alloc, told).is_ok();
+            told.check(is_told);
+        }
         "torn" => {
-            let (vol, call) = (small(numbers, 0), at(numbers, 1));
-            say_whether(out, &[is_torn(&scene.rack, alloc, vol, call)?])
+            let (vol, call) = (words.number_if_any(' '), words.long_if_any(' '));
+            push_answer(told, is_torn(&scene.rack, alloc, vol, call));
         }
-        "label" => say_whether(out, &[is_labelled(&mut scene.rack, numbers)]),
-        "first-pages" => first_pages(numbers, out),
-        "errors-of-anchors" => of_anchors(out),
-        "errors-of-slots" => of_slots(out),
-        _ => answer_of_anchors(alloc, scene, word, numbers, out),
+        "label" => push_whether(told, &[is_labelled(&mut scene.rack, words)]),
+        "first-pages" => first_pages(words, told),
+        "errors-of-anchors" => of_anchors(told),
+        "errors-of-slots" => of_slots(told),
+        _ => answer_of_anchors(alloc, scene, word, words, told),
     }
 }
 
-/// Answers a line of the anchors of a rack in memory.
+/// Whether stops after calls leave one of the two anchors that a line says.
+fn leaves_said(
+    rack: &MemoryRack,
+    alloc: Global,
+    calls: (u64, u64),
+    words: &mut Words,
+) -> Result<bool, OutOfMemory> {
+    let wanted = [anchor_of(words), anchor_of(words)];
+    leaves(rack, alloc, calls, &wanted)
+}
+
+/// Answers a line of the anchors of a rack in memory, or another one of the rack.
 fn answer_of_anchors(
     alloc: Global,
     scene: &mut Scene,
     word: &str,
-    numbers: &[u64],
-    out: &mut String,
-) -> Result<(), Fail> {
+    words: &mut Words,
+    told: &mut Told,
+) {
     let rack = &mut scene.rack;
     let (start, end) = (scene.start, rack.calls());
     let last = end.saturating_add(1);
     match word {
-        "mark" => {
-            scene.start = end;
-            Ok(())
-        }
-        "calls" => say_numbers(out, &[end]),
-        "write" => say_whether(out, &[write(rack, numbers)]),
-        "during" => say_whether(out, &[leaves(rack, alloc, (start, end), numbers)?]),
-        "after" => say_whether(out, &[leaves(rack, alloc, (end, last), numbers)?]),
-        "number" => say_numbers(out, &[number(rack)]),
-        "reads" => say_numbers(out, &[reads(rack)]),
-        "ready" => say_whether(out, &[make_ready(rack)]),
-        "renew-twice" => say_numbers(out, &renewed_numbers(rack, alloc)?),
-        "close" => say_whether(out, &[closes(rack)]),
-        _ => Err(Fail::new("a line that is not known")),
+        "mark" => scene.start = end,
+        "calls" => push_numbers(told, &[end]),
+        "write" => push_whether(told, &[write(rack, words)]),
+        "during" => push_answer(told, leaves_said(rack, alloc, (start, end), words)),
+        "after" => push_answer(told, leaves_said(rack, alloc, (end, last), words)),
+        "number" => push_numbers(told, &[number(rack)]),
+        "reads" => push_numbers(told, &[reads(rack)]),
+        "ready" => push_whether(told, &[make_ready(rack)]),
+        "renew-twice" => match renewed_numbers(rack, alloc) {
+            Ok(numbers) => push_numbers(told, &numbers),
+            Err(_) => told.check(false),
+        },
+        "close" => push_whether(told, &[closes(rack)]),
+        _ => make_call(rack, word, words, told),
     }
 }

@@ -2,25 +2,28 @@
 
 use crate::renewals::RenewalFault;
 use disk_label::{AnchorFault, Failed, SlotFault, VolIx};
-use std::test::Fail;
+use table_words::Told;
 
-/// Says the errors of anchors, of volume 3 where they name one.
-pub fn of_anchors(out: &mut String) -> Result<(), Fail> {
-    let vol = VolIx::new(3).ok_or("a volume")?;
-    let none = AnchorFault::NoAnchor;
-    let read = AnchorFault::Fault { vol };
-    let no_renewal = RenewalFault::NoAnchor;
-    let call = RenewalFault::Fault { vol };
-    write!(out, ": {none}, {read}; {no_renewal}, {call}")?;
-    Ok(())
+/// Tells what errors of anchors say, of volume 3 where they name one.
+pub fn of_anchors(told: &mut Told) {
+    let vol = VolIx::new(3).unwrap();
+    told.push(": ");
+    told.push_shown(&AnchorFault::NoAnchor);
+    told.push(", ");
+    told.push_shown(&AnchorFault::Fault { vol });
+    told.push("; ");
+    told.push_shown(&RenewalFault::NoAnchor);
+    told.push(", ");
+    told.push_shown(&RenewalFault::Fault { vol });
 }
 
-/// Says the errors of slots and of calls, of volume 3 where they name one.
-pub fn of_slots(out: &mut String) -> Result<(), Fail> {
-    let vol = VolIx::new(3).ok_or("a volume")?;
-    let read = SlotFault::Read { vol };
-    let write = SlotFault::Write { vol };
-    let call = Failed;
-    write!(out, ": {read}, {write}, {call}")?;
-    Ok(())
+/// Tells what errors of slots and of calls say, of volume 3 where they name one.
+pub fn of_slots(told: &mut Told) {
+    let vol = VolIx::new(3).unwrap();
+    told.push(": ");
+    told.push_shown(&SlotFault::Read { vol });
+    told.push(", ");
+    told.push_shown(&SlotFault::Write { vol });
+    told.push(", ");
+    told.push_shown(&Failed);
 }
