@@ -208,7 +208,7 @@ fn is_a_miss(alloc: Global, set: &MemoryBitfiles, before: &str, misses: u64) -> 
     after.is_right() && after.text() == before && set.misses().saturating_sub(misses) == 1
 }
 
-/// Makes a call, and once more where it found no page; whether it was done.
+/// Makes a call, and once more if it found no page; whether it was done.
 fn is_done(alloc: Global, set: &mut MemoryBitfiles, line: &str) -> bool {
     let mut before = Told::new(alloc);
     push_all(&mut before, set);

@@ -50,8 +50,8 @@ pub fn is_idle(line: &str) -> bool {
     line.is_empty() || line.starts_with('#')
 }
 
-/// Tells a line and its answer, which stands below it, each line after two blanks, where it has
-/// lines of its own.
+/// Tells a line and its answer. An answer of several lines stands below it, each line after two
+/// blanks.
 pub fn push_answer(told: &mut Told, line: &str, answer: &Told) {
     told.push(line);
     let text = answer.text();

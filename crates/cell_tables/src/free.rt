@@ -116,7 +116,7 @@ fn write_limits(alloc: Global, pages: &mut MemoryPages, at: &CellAt) -> Result<(
     Ok(())
 }
 
-/// Takes a cell, of volume 1 where it has one, and writes it.
+/// Takes a cell, of volume 1 if it has a free one, and writes it.
 fn take_and_write(
     alloc: Global,
     pages: &mut MemoryPages,
@@ -241,7 +241,7 @@ fn read_second(alloc: Global, pages: &MemoryPages, cells: &mut FreeCells) -> Res
     cells.read_page(alloc, pages, second_home())
 }
 
-/// Tells the volume of a new cell, of volume 1 where that may be, or 0.
+/// Tells the volume of a new cell, which is volume 1 if that has a free one, or 0.
 fn push_next(cells: &mut FreeCells, told: &mut Told) {
     let vol = match cells.new_cell(first_home().vol) {
         Some(at) => at.vol.number(),
@@ -293,7 +293,7 @@ fn steps(alloc: Global, cells: &mut FreeCells, words: &Words, told: &mut Told) {
     tell_left(alloc, cells, told);
 }
 
-/// Tells what comes of a line, where the page of volume 1 was read: of a cell that comes and goes,
+/// Tells what comes of a line once the page of volume 1 was read: of a cell that comes and goes,
 /// of an added page, or of steps, once the page of volume 2 was read, too, for `both`.
 fn tell_read(
     alloc: Global,

@@ -79,8 +79,8 @@ fn change_marks(
     Ok(())
 }
 
-/// Whether a call on the pages answers as the plain list does, of which the mark is `plain`: it puts
-/// a mark, if one is given, and forgets the page otherwise.
+/// Whether a call on the pages answers as the plain list does, whose mark is `plain`: it puts a
+/// mark if one is given, and forgets the page otherwise.
 fn is_alike(
     alloc: Global,
     pages: &mut MemoryPages,
@@ -126,8 +126,8 @@ fn are_alike(pages: &MemoryPages, marks: &[(u32, u8)]) -> bool {
     true
 }
 
-/// Tells how many of so many random calls both answer alike before the first after which they
-/// differ. They are drawn by a rule that has no pattern.
+/// Tells how many of `calls` random calls both answer alike before they first differ. They are
+/// drawn by a rule that has no pattern.
 pub fn tell_random(alloc: Global, calls: u32, told: &mut Told) {
     let mut pages = MemoryPages::new(alloc);
     let mut marks = Vec::new(alloc);

@@ -134,7 +134,7 @@ fn kind_at(number: u32) -> CellKind {
     }
 }
 
-/// Writes a chain of so many cells, the first one last; whether each was written. Each cell has its
+/// Writes a chain of `cells` cells, the first one last; whether each was written. Each cell has its
 /// number for a user.
 fn is_chain_written(alloc: Global, pages: &mut MemoryPages, cells: u32) -> bool {
     let mut next = None;
@@ -176,8 +176,7 @@ fn tell_read(alloc: Global, pages: &MemoryPages, told: &mut Told) {
     }
 }
 
-/// Tells how many users the records of a chain of so many cells are of, in their order, once it was
-/// written.
+/// Writes a chain of `cells` cells, and tells how many users its records are of, in their order.
 pub fn tell_chain(alloc: Global, cells: u32, told: &mut Told) {
     let mut pages = MemoryPages::new(alloc);
     told.check(is_made(alloc, &mut pages));

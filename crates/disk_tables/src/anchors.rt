@@ -136,7 +136,7 @@ pub fn write(rack: &mut MemoryRack, words: &mut Words) -> bool {
     write_next(rack, &next)
 }
 
-/// Whether an anchor was found where one is wanted, and it is that.
+/// Whether the anchor that is wanted was found, or none if none is wanted.
 fn is_found(found: &Result<Anchor, AnchorFault>, wanted: &Option<Anchor>) -> bool {
     match found {
         Ok(anchor) => match wanted {
@@ -184,7 +184,7 @@ fn number_of(found: &Result<Anchor, AnchorFault>) -> u64 {
     }
 }
 
-/// The number of the rack's anchor, 0 where it has none.
+/// The number of the rack's anchor, 0 if it has none.
 pub fn number(rack: &mut MemoryRack) -> u64 {
     number_of(&read_anchor(rack))
 }

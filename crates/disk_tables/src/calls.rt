@@ -23,7 +23,7 @@ fn is_there<R: Rack>(rack: &R, vol: VolIx, block: u32, size: usize) -> bool
         && end <= 8_192 * rack.pages(vol) as u64
 }
 
-/// Puts bytes on a volume; false where that fails, or no such blocks are there.
+/// Puts bytes on a volume; false if that fails, or no such blocks are there.
 fn put<R: Rack>(rack: &mut R, vol: u32, block: u32, bytes: &[u8]) -> bool {
     let Some(vol) = VolIx::new(vol) else {
         return false;
@@ -31,7 +31,7 @@ fn put<R: Rack>(rack: &mut R, vol: u32, block: u32, bytes: &[u8]) -> bool {
     is_there(rack, vol, block, bytes.len()) && rack.write(vol, block, bytes).is_ok()
 }
 
-/// Syncs a volume; false where that fails, or it is not there.
+/// Syncs a volume; false if that fails, or it is not there.
 fn sync<R: Rack>(rack: &mut R, vol: u32) -> bool {
     let Some(vol) = VolIx::new(vol) else {
         return false;
@@ -39,7 +39,7 @@ fn sync<R: Rack>(rack: &mut R, vol: u32) -> bool {
     vol.number() <= rack.volumes() && rack.sync(vol).is_ok()
 }
 
-/// Reads a block; false where that fails, or no such block is there.
+/// Reads a block; false if that fails, or no such block is there.
 pub fn get<R: Rack>(rack: &mut R, vol: u32, block: u32, out: &mut [u8; 512]) -> bool {
     let Some(vol) = VolIx::new(vol) else {
         return false;
@@ -71,7 +71,7 @@ fn half(block: &[u8; 512], from: usize) -> Option<u8> {
     Some(byte)
 }
 
-/// What the halves of a block are full of; nothing where it cannot be read.
+/// What the halves of a block are full of; nothing if it cannot be read.
 pub fn look<R: Rack>(rack: &mut R, vol: u32, block: u32) -> Halves {
     let mut out = [0; 512];
     if !get(rack, vol, block, &mut out) {
@@ -80,7 +80,7 @@ pub fn look<R: Rack>(rack: &mut R, vol: u32, block: u32) -> Halves {
     [half(&out, 0), half(&out, 256)]
 }
 
-/// The rack after a stop; one without a volume where the rack does not tell that moment.
+/// The rack after a stop; one without a volume if the rack does not tell that moment.
 pub fn image(
     rack: &MemoryRack,
     alloc: Global,

@@ -9,7 +9,7 @@ use std::os::unix::fs::FileExt;
 use std::{fs, io};
 use table_words::{Told, Words};
 
-/// A new file of so many pages of zeros.
+/// A new file of `pages` pages of zeros.
 fn new_file(rt: &HostRuntime, path: &str, pages: u32) -> io::Result<File> {
     let _ = fs::remove_file(rt, path);
     let file = OpenOptions::new()
@@ -32,8 +32,8 @@ fn rack_of(alloc: Global, first: File, second: File) -> Result<FileRack, OutOfMe
     Ok(FileRack::new(files, sizes))
 }
 
-/// A rack of two files of so many pages, of which the second can be written only if the last number
-/// is 1.
+/// A rack of two files, whose numbers of pages words say. The second can be written only if the
+/// last number is 1.
 pub fn files(rt: &HostRuntime, words: &mut Words) -> Option<FileRack> {
     let (first, second) = (words.number_if_any(' '), words.number_if_any(' '));
     let first = new_file(rt, "first", first).ok()?;

@@ -12,7 +12,7 @@ fn version_of(number: u32) -> Version {
     }
 }
 
-/// Writes a label for so many pages where its conditions hold, and reads it.
+/// Writes a label for `pages` pages if its conditions hold, and reads it.
 fn labelled<R: Rack>(rack: &mut R, vol: u32, pages: u32, version: Version) -> Option<Label> {
     let vol = VolIx::new(vol)?;
     let most = usable_pages(rack, vol, version);
@@ -33,7 +33,7 @@ pub fn is_labelled<R: Rack>(rack: &mut R, words: &mut Words) -> bool {
     labelled(rack, vol, pages, version) == Some(Label { pages, version })
 }
 
-/// Tells the first pages of a volume of a version that has so many pages.
+/// Tells the first pages of a volume by its version and its number of pages.
 pub fn first_pages(words: &mut Words, told: &mut Told) {
     let version = version_of(words.number_if_any(' '));
     let first = FirstPages::of(version, words.number_if_any(' '));

@@ -1,7 +1,7 @@
 //! Racks in memory and racks of files, and labels and anchors on them: a program that makes the
-//! calls of the lines that it reads, and prints each line with its answer. What stands in its input
-//! is what no clause says; `renewals` is a caller of the anchors whose contract shows that theirs
-//! fit together.
+//! calls of the lines that it reads, and prints each line with its answer. Its input covers
+//! what no clause says; `renewals` is a caller of the anchors whose contract shows that the
+//! contracts of anchors fit together.
 #![tactic(auto)]
 
 mod anchors;

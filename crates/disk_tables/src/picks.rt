@@ -138,8 +138,8 @@ fn lasting_picks(rack: &MemoryRack, alloc: Global) -> Result<([u32; 16], [u32; 8
     Ok((ones, unlike))
 }
 
-/// Tells of each of 16 blocks whether it lasts in 84 to 144 of 256 picks, and of each of the first 8
-/// whether it and the one 8 further are unlike in 12 to 60.
+/// Tells of each of 16 blocks whether it lasts in 84 to 144 of 256 picks, and of each of the first
+/// 8 whether it and the one 8 further are unlike in 12 to 60.
 pub fn even(rack: &MemoryRack, alloc: Global, told: &mut Told) -> Result<(), OutOfMemory> {
     let (ones, unlike) = lasting_picks(rack, alloc)?;
     push_whether(told, &ones.map(|n| 84 <= n && n <= 144));

@@ -7,8 +7,8 @@ use table_words::Told;
 
 fn takes_send<T: Send>(_rack: &T) {}
 
-/// Tells calls on a rack by a fuse that passes so many calls: a put, a sync and a get, and then the
-/// counts of the rack in memory.
+/// Tells calls on a rack by a fuse that passes `passes` calls: a put, a sync and a get, and then
+/// the counts of the rack in memory.
 fn tell_fused(rack: MemoryRack, passes: u64, told: &mut Told) {
     takes_send(&rack);
     let mut fuse = FuseRack::new(rack, passes);

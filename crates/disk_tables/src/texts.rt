@@ -4,7 +4,7 @@ use crate::renewals::RenewalFault;
 use disk_label::{AnchorFault, Failed, SlotFault, VolIx};
 use table_words::Told;
 
-/// Tells what errors of anchors say, of volume 3 where they name one.
+/// Tells what errors of anchors say, of volume 3 if they name one.
 pub fn of_anchors(told: &mut Told) {
     let vol = VolIx::new(3).unwrap();
     told.push(": ");
@@ -17,7 +17,7 @@ pub fn of_anchors(told: &mut Told) {
     told.push_shown(&RenewalFault::Fault { vol });
 }
 
-/// Tells what errors of slots and of calls say, of volume 3 where they name one.
+/// Tells what errors of slots and of calls say, of volume 3 if they name one.
 pub fn of_slots(told: &mut Told) {
     let vol = VolIx::new(3).unwrap();
     told.push(": ");

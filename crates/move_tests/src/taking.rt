@@ -87,8 +87,8 @@ fn four_clients_at_once(rt: HostRuntime) {
     assert_eq!(rt; seen, Some(([200, 200, 4], true)));
 }
 
-/// One client adds fifty entries, while another, which never takes the turn, looks until it has seen
-/// them: how many entries there are then.
+/// One client adds fifty entries, while another, which never takes the turn, looks until it has
+/// seen them: how many entries there are then.
 fn watched<N: Named + Send + Sync, R: Threads + Wait + Sync>(
     rt: &R,
     alloc: Global,

@@ -4,7 +4,7 @@ use client_commands::{Attached, MakeFault, Rack, Version, make};
 use memory_disk::MemoryRack;
 use std::alloc::Global;
 
-/// A domain that is made on a rack of one volume of so many pages.
+/// A domain that is made on a rack of one volume of `pages` pages.
 pub fn made(
     alloc: Global,
     pages: u32,

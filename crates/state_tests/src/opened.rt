@@ -21,8 +21,8 @@ use std::test::Fail;
 
 /// What a domain tells of itself, asked by calls that change nothing: whether its history has room
 /// for some entries more, whether a job runs, whether a volume has panicked, and whether page 159
-/// of its volume is kept in memory; and whether its table names the fileset home, None where no
-/// page of a table is kept.
+/// of its volume is kept in memory; and whether its table names the fileset home, None if no page
+/// of a table is kept.
 type Looks = ([bool; 4], Option<bool>);
 
 /// Whether the page of a table names the fileset home.
@@ -31,7 +31,7 @@ fn names_home(alloc: Global, page: Option<&Page>) -> Option<bool> {
     Some(table.find(b"home").is_some())
 }
 
-/// What a domain tells of itself, and of room for so many entries.
+/// What a domain tells of itself, and of room for `room` entries.
 fn looks_of<R: Rack, O: Opening>(alloc: Global, domain: &Domain<R, O>, room: usize) -> Looks {
     let vol = VolIx::new(1).unwrap();
     let has_home = names_home(alloc, domain.read_page(Home { vol, page: 132 }));
@@ -75,7 +75,7 @@ fn history_of<R: Rack, O: Opening>(domain: &Domain<R, O>) -> History {
     }
 }
 
-/// The write of so many pages to the start of the file a of the fileset home.
+/// The write of `pages` pages to the start of the file a of the fileset home.
 fn write_of(alloc: Global, pages: usize) -> Option<Command> {
     let bytes = vec![in alloc; b'w'; pages.saturating_mul(PAGE_BYTES)].ok()?;
     match command_in(alloc, "write home:/a 0 00")? {
@@ -114,7 +114,7 @@ struct Seen<R: Rack> {
     rack: R,
 }
 
-/// Answers the commands of lines, and a write of so many pages.
+/// Answers the commands of lines, and a write of `pages` pages.
 fn seen_of<R: Rack + Drop, O: Opening>(
     domain: Domain<R, O>,
     alloc: Global,
@@ -135,7 +135,7 @@ fn seen_of<R: Rack + Drop, O: Opening>(
 }
 
 /// Begins the history of a domain with room for three entries, discards a change of nothing, and
-/// answers the commands of lines, and a write of so many pages.
+/// answers the commands of lines, and a write of `pages` pages.
 fn opened<R: Rack + Drop, O: Opening>(
     alloc: Global,
     attached: Attached<R>,
@@ -152,8 +152,8 @@ fn opened<R: Rack + Drop, O: Opening>(
     seen_of(domain, alloc, lines, pages)
 }
 
-/// What is seen of a domain that is made on a volume of so many pages, with these commands and that
-/// write.
+/// What is seen of a domain that is made on a volume of a size and a version, with these commands
+/// and that write.
 fn made_and_opened(
     alloc: Global,
     volume: (u32, Version),
@@ -170,9 +170,9 @@ fn found_table(alloc: Global, rack: &mut MemoryRack) -> Option<u32> {
     Some(redone.anchor.table?.page)
 }
 
-/// The numbers of entries of a domain that answered a sync; whether the stamp of the last one is how
-/// many calls the rack has had, at least one; and the page of the table of the domain that recovery
-/// finds on its rack.
+/// The numbers of entries of a domain that answered a sync; whether the stamp of the last one is
+/// how many calls the rack has had, at least one; and the page of the table of the domain that
+/// recovery finds on its rack.
 fn synced(
     alloc: Global,
     pages: u32,
@@ -212,7 +212,7 @@ fn a_domain_tells_of_its_room_and_of_pages_that_are_kept(rt: HostRuntime) {
     assert_eq!(rt; looks(rt.alloc()), Ok([told(false), told(true)]));
 }
 
-/// What the write of so many pages to a new file is answered in a new domain with 379 free pages.
+/// What the write of `pages` pages to a new file is answered in a new domain with 379 free pages.
 fn written(alloc: Global, pages: usize) -> Result<Result<u64, &'static str>, MakeFault> {
     let lines = ["mkfset home", "create home:/a 10 20"];
     let seen = made_and_opened(alloc, (512, Version::Four), &lines, pages)?;

@@ -23,7 +23,7 @@ fn free_page(map: &mut Bitmap, page: u32) {
     }
 }
 
-/// The first run of so many pages, from a page on where one is named.
+/// The first run of the number of pages that words say, from a page on if one is named.
 fn run(map: &Bitmap, words: &mut Words) -> Option<u32> {
     let count = words.number(':');
     if words.rest().is_empty() {

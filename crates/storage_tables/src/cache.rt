@@ -37,7 +37,7 @@ pub fn shown(cache: &mut PageCache, home: &Home) -> Option<u32> {
     }
 }
 
-/// A home, and up to two numbers more, zeros where they are not told.
+/// A home, and up to two numbers more, zeros if they are not told.
 #[derive(Clone, Copy)]
 struct Call {
     home: Home,
@@ -135,7 +135,7 @@ fn first_volume(page: u32) -> Home {
     }
 }
 
-/// Fills a cache with the pages of volume 1, of which the first so many are written once they are
+/// Fills a cache with the pages of volume 1, and writes the first `written` of them once they are
 /// kept; whether that passed.
 fn is_filled(alloc: Global, cache: &mut PageCache, written: u32) -> bool {
     for page in 0..1_024 {

@@ -51,7 +51,7 @@ fn make_change(space: &mut FreeSpace, vol: VolIx, letter: u8) -> Option<u32> {
 }
 
 /// Makes a step: a capital [K]eeps, takes back what was kept ([B]), or [P]asses what waits. Whether
-/// a page was free, where one is taken.
+/// a page was free, if one is taken.
 fn is_made(space: &mut FreeSpace, vol: VolIx, letter: u8) -> bool {
     match letter {
         b'K' => space.keep(),

@@ -1,5 +1,5 @@
 //! Records, bitmaps, free space, and pages that are kept in memory or staged, called by rows of
-//! words. Below a row stands what comes of it.
+//! words. The answer follows below each row.
 #![tactic(auto)]
 
 mod bitmaps;

@@ -50,8 +50,8 @@ pub fn tell_page(alloc: Global, words: &mut Words, told: &mut Told) {
     }
 }
 
-/// Tells the block of an open gate or of a closed one: whether it says that it is open, and its last
-/// byte.
+/// Tells the block of an open gate or of a closed one: whether it says that it is open, and its
+/// last byte.
 pub fn tell_block(word: &str, told: &mut Told) {
     let block = if word == "open" {
         gate::open_block()
@@ -67,8 +67,8 @@ pub fn tell_block(word: &str, told: &mut Told) {
     told.push(" at the end");
 }
 
-/// Tells how many pages a volume may have by a version, and how many its bitmap has where the
-/// volume has so many.
+/// Tells how many pages a volume may have by a version, and how many the bitmap of a volume has of
+/// the size that is said.
 pub fn tell_volume_pages(words: &mut Words, told: &mut Told) {
     let version = Version::from_number(words.number(' '));
     let pages = words.number(' ');

@@ -1,4 +1,4 @@
-//! Calls on a cache that are drawn without a pattern. Below a row stands what is seen of ten calls
+//! Calls on a cache that are drawn without a pattern. Below a row follows what is seen of ten calls
 //! at a time: the mark that was shown, or how many frames are dirty and which home is written next;
 //! and then the marks of all homes.
 ghost use Rattle.std.specs.Prelude.{◌<◌};
@@ -23,7 +23,7 @@ fn home_of(number: u32) -> Home {
     }
 }
 
-/// Keeps a page where no frame of the home is kept, unless all are dirty, and writes it otherwise;
+/// Keeps a page if no frame of the home is kept, unless all are dirty, and writes it otherwise;
 /// whether that passed.
 fn is_put(alloc: Global, cache: &mut PageCache, home: &Home, mark: u8, group: u64) -> bool {
     if cache.is_kept(*home) {
@@ -80,7 +80,7 @@ fn is_filled(alloc: Global, cache: &mut PageCache) -> bool {
     true
 }
 
-/// Tells what comes after a word, of which so many stand on a line.
+/// Tells what comes after a word, if `to_a_line` of them stand on a line.
 fn end_word(number: u32, to_a_line: u32, told: &mut Told)
     requires { 0 < to_a_line }
 {
@@ -88,7 +88,7 @@ fn end_word(number: u32, to_a_line: u32, told: &mut Told)
     told.push(if is_last { "\n" } else { " " });
 }
 
-/// Tells what is seen of so many calls, and the marks of all homes then.
+/// Tells what is seen of `calls` calls, and the marks of all homes then.
 fn tell_calls(alloc: Global, cache: &mut PageCache, calls: u32, told: &mut Told) {
     let mut drawn = 1u32;
     for number in 0..calls {
@@ -102,7 +102,7 @@ fn tell_calls(alloc: Global, cache: &mut PageCache, calls: u32, told: &mut Told)
     }
 }
 
-/// Tells what is seen of so many calls on a new cache that was filled.
+/// Tells what is seen of `calls` calls on a new cache that was filled.
 pub fn tell_random_cache(alloc: Global, calls: u32, told: &mut Told) {
     let Ok(mut cache) = PageCache::new(alloc) else {
         return told.check(false);

@@ -1,4 +1,4 @@
-//! Random steps on staged pages. Below a row stands what the three pages are after each step, five
+//! Random steps on staged pages. Below a row follows what the three pages are after each step, five
 //! steps to a line: the first byte now and the one before the change, with a mark where the change
 //! does not list the page once that is not what it was, and else once at most.
 ghost use Rattle.std.specs.Prelude.{◌<◌};

@@ -17,7 +17,7 @@ fn digits_of(alloc: Global, digits: &str) -> Option<Vec<u8>> {
     }
 }
 
-/// Adds so many zeros to bytes.
+/// Adds zeros to bytes.
 fn push_zeros(bytes: &mut Vec<u8>, zeros: u32) -> Result<(), OutOfMemory> {
     for _ in 0..zeros {
         bytes.push(0)?;

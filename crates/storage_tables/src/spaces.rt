@@ -7,7 +7,7 @@ use free_space::{Bitmap, FreeSpace, PageUse};
 use std::alloc::Global;
 use table_words::{Told, Words};
 
-/// A bitmap of so many pages, the first of which are used.
+/// A bitmap of `pages` pages, the first `used` of them used.
 fn used_below(alloc: Global, pages: u32, used: u32) -> Result<Bitmap, OutOfMemory>
     ensures { IfOk result (λ map. map.pages ≡ pages) }
 {
@@ -18,7 +18,7 @@ fn used_below(alloc: Global, pages: u32, used: u32) -> Result<Bitmap, OutOfMemor
     Ok(map)
 }
 
-/// The free space of one volume of so many pages, the first of which are used.
+/// The free space of one volume of `pages` pages, the first `used` of them used.
 pub fn one_volume(
     alloc: Global,
     vol: VolIx,
@@ -62,7 +62,7 @@ pub fn take(space: &mut FreeSpace, vol: VolIx) -> Option<u32> {
     Some(home.page)
 }
 
-/// Takes so many pages and frees each at once; the last of them.
+/// Takes `count` pages and frees each at once; the last of them.
 fn leave_all(space: &mut FreeSpace, vol: VolIx, count: u32) -> Option<u32> {
     let mut last = None;
     for _ in 0..count {

@@ -112,8 +112,8 @@ fn tell_page(pages: &StagedPages, page: u32, told: &mut Told) {
     told.push("\n");
 }
 
-/// Tells what the first three pages are once the steps are taken, where none was there: a line for
-/// each.
+/// Tells what the first three pages are once the steps are taken, none being there before: a line
+/// for each.
 pub fn tell_staged(alloc: Global, steps: &str, told: &mut Told) {
     let mut pages = StagedPages::new(alloc);
     for step in steps.split(' ') {
