@@ -2,7 +2,7 @@
 use crate::given::Given;
 use crate::tags;
 use image_lines::{
-    NotRead, holes_faults, leads_faults, limits_twice_faults, local_faults, pages_twice_faults,
+    holes_faults, leads_faults, limits_twice_faults, local_faults, pages_twice_faults,
     unchained_faults, unnamed_quota_faults,
 };
 use index_row_faults::{CellLinks, HomeSet, OutOfMemory, cells_faults, read_links, read_tables};
@@ -40,14 +40,13 @@ fn find_by_links(alloc: Global, asked: &str, given: &Given) -> Result<HomeSet, O
 }
 
 /// The pages at which a rule of cells, or another one, is broken.
-pub(crate) fn find(alloc: Global, asked: &str, given: &Given) -> Result<HomeSet, NotRead> {
-    let found = match asked {
+pub(crate) fn find(alloc: Global, asked: &str, given: &Given) -> Result<HomeSet, OutOfMemory> {
+    match asked {
         "one-cell" => local(alloc, given),
         "all-cells" => cells_faults(alloc, &given.image.pages, &given.frame, &given.table),
         "holes" | "leads" | "unchained" | "pages-twice" | "limits-twice" | "quota-cells" => {
             find_by_links(alloc, asked, given)
         }
-        _ => return tags::find(alloc, asked, given),
-    };
-    Ok(found?)
+        _ => tags::find(alloc, asked, given),
+    }
 }

@@ -1,7 +1,7 @@
 //! Files and directories that are said to be there.
 use crate::given::home;
-use image_lines::{NotRead, Words};
-use index_row_faults::{Attributes, CellAt, FileThere, Home, Kind, SeenPages, Tag};
+use image_lines::Words;
+use index_row_faults::{Attributes, CellAt, FileThere, Home, Kind, OutOfMemory, SeenPages, Tag};
 use std::alloc::Global;
 
 /// The kind that a word names, how many links it says, and whether it says a wrong size.
@@ -17,7 +17,7 @@ fn kind_of(word: &str) -> (Kind, u32, bool) {
 }
 
 /// The pages of volume 1 that are left to read, where 0 is none.
-fn homes_of(alloc: Global, words: &mut Words) -> Result<Vec<Option<Home>>, NotRead> {
+fn homes_of(alloc: Global, words: &mut Words) -> Result<Vec<Option<Home>>, OutOfMemory> {
     let mut homes = Vec::new(alloc);
     for _ in 0..words.rest().len() {
         if words.is_at_end() {
@@ -48,15 +48,16 @@ fn parent_of(kind: &mut Words) -> Option<Tag> {
 /// after an `@`, and the pages at which its pages stand. Its first cell stands on the page of its
 /// slot and 300 more. It has one link, or two if its kind is said with a 2, and a wrong size if its
 /// kind is said with a gap.
-pub(crate) fn file_of(alloc: Global, line: &str) -> Result<FileThere, NotRead> {
+pub(crate) fn file_of(alloc: Global, line: &str) -> Option<FileThere> {
     let mut words = Words::new(line);
     let slot = words.number(' ');
     let mut word = Words::new(words.until(' '));
     let (kind, links, has_wrong_size) = kind_of(word.until('@'));
     let parent = parent_of(&mut word);
-    let homes = homes_of(alloc, &mut words)?;
-    if !words.is_right() || !word.is_right() {
-        return Err(NotRead::Malformed);
+    words.check(word.is_right());
+    let homes = homes_of(alloc, &mut words).ok()?;
+    if !words.is_right() {
+        return None;
     }
     let is = Attributes {
         kind,
@@ -66,7 +67,7 @@ pub(crate) fn file_of(alloc: Global, line: &str) -> Result<FileThere, NotRead> {
         size: 0,
         links,
     };
-    Ok(FileThere {
+    Some(FileThere {
         tag: tag(slot),
         at: CellAt {
             vol: home(0).vol,

@@ -1,7 +1,9 @@
 //! What a row gives: a domain, and files and directories that are said to be there.
 use crate::files::file_of;
-use image_lines::{Image, NotRead, frame_of};
-use index_row_faults::{DomainFrame, FileThere, FilesetTable, Home, TableRead, VolIx, read_table};
+use image_lines::{Image, frame_of};
+use index_row_faults::{
+    DomainFrame, FileThere, FilesetTable, Home, OutOfMemory, TableRead, VolIx, read_table,
+};
 use std::alloc::Global;
 
 /// The pages of a domain, its anchor, what its fileset table says, and files and directories.
@@ -22,39 +24,50 @@ pub(crate) fn home(page: u32) -> Home {
 }
 
 /// The fileset table of an image, or one without filesets if it says none.
-fn table_of(alloc: Global, image: &Image) -> Result<FilesetTable, NotRead> {
+fn table_of(alloc: Global, image: &Image) -> Result<FilesetTable, OutOfMemory> {
     match read_table(alloc, &image.pages, &frame_of(image))? {
         TableRead::There { table } => Ok(table),
-        _ => Ok(FilesetTable::new(alloc)?),
+        _ => FilesetTable::new(alloc),
     }
 }
 
-/// Adds what a line tells: a file or directory, or something of the image.
-fn add(
-    alloc: Global,
-    line: &str,
-    image: &mut Image,
-    files: &mut Vec<FileThere>,
-) -> Result<(), NotRead> {
-    match line.strip_prefix("there ") {
-        Some(file) => Ok(files.push(file_of(alloc, file)?)?),
-        None => image.add(line),
+/// Adds a file or directory that a line tells; whether it is one, and memory sufficed.
+fn is_file_added(alloc: Global, line: &str, files: &mut Vec<FileThere>) -> bool {
+    match file_of(alloc, line) {
+        Some(file) => files.push(file).is_ok(),
+        None => false,
     }
 }
 
-/// What an image gives that is changed by lines with semicolons between them.
-pub(crate) fn read_given(alloc: Global, mut image: Image, lines: &str) -> Result<Given, NotRead> {
-    let mut files = Vec::new(alloc);
+/// Adds what lines tell that have semicolons between them: files and directories, or something of
+/// the image. Whether all was right.
+fn is_read(alloc: Global, lines: &str, image: &mut Image, files: &mut Vec<FileThere>) -> bool {
+    let mut is_right = true;
     for line in lines.split("; ") {
-        if !line.is_empty() {
-            add(alloc, line, &mut image, &mut files)?;
+        match line.strip_prefix("there ") {
+            Some(file) => is_right = is_file_added(alloc, file, files) && is_right,
+            None => image.add_parts(line),
         }
     }
-    let table = table_of(alloc, &image)?;
-    Ok(Given {
-        frame: frame_of(&image),
-        table,
-        image,
-        files,
-    })
+    is_right && image.is_right()
+}
+
+impl Given {
+    /// What an image gives that is changed by lines with semicolons between them; None if something
+    /// is wrong with them, or memory is short.
+    pub(crate) fn read(alloc: Global, mut image: Image, lines: &str) -> Option<Given> {
+        let mut files = Vec::new(alloc);
+        if !is_read(alloc, lines, &mut image, &mut files) {
+            return None;
+        }
+        match table_of(alloc, &image) {
+            Ok(table) => Some(Given {
+                frame: frame_of(&image),
+                table,
+                image,
+                files,
+            }),
+            Err(_) => None,
+        }
+    }
 }

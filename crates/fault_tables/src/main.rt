@@ -22,11 +22,5 @@ fn main(rt: HostRuntime) -> ExitCode {
     let Ok(table) = io::read_to_string(alloc, rt.stdin().lock()) else {
         return ExitCode::FAILURE;
     };
-    let Ok(told) = answers(alloc, &Faults, table.as_str()) else {
-        return ExitCode::FAILURE;
-    };
-    match rt.print(told) {
-        Ok(()) => ExitCode::SUCCESS,
-        Err(_) => ExitCode::FAILURE,
-    }
+    answers(alloc, &Faults, table.as_str()).print(&rt)
 }

@@ -1,7 +1,6 @@
 //! Rules of directories: of their rows, of what these lead to, and of indexes.
-use crate::cells;
 use crate::given::{Given, home};
-use image_lines::{NotRead, Words};
+use image_lines::Words;
 use index_row_faults::{
     HomeSet, IndexThere, OutOfMemory, Tag, insert_directory_faults, insert_few_rows,
     insert_lost_twice, insert_misplaced, insert_names_twice, insert_row_pages,
@@ -61,15 +60,33 @@ fn insert_by_rows(
     }
 }
 
-/// Adds the pages at which a rule of directories is broken, if that is asked. After a `clone` the
-/// files are those of a clone.
-fn is_inserted(
+/// Whether a rule of directories is asked.
+pub(crate) fn is_of_rows(asked: &str) -> bool {
+    matches!(
+        asked,
+        "row-pages"
+            | "sizes"
+            | "indexes"
+            | "all-rows"
+            | "names"
+            | "links"
+            | "lost"
+            | "parents"
+            | "rows"
+            | "few"
+            | "misplaced"
+    )
+}
+
+/// Adds the pages at which a rule of directories is broken. After a `clone` the files are those of a
+/// clone.
+pub(crate) fn insert(
     alloc: Global,
     asked: &str,
     words: &mut Words,
     given: &Given,
     found: &mut HomeSet,
-) -> Result<bool, OutOfMemory> {
+) -> Result<(), OutOfMemory> {
     let Given {
         image,
         frame,
@@ -77,31 +94,11 @@ fn is_inserted(
         ..
     } = given;
     let is_clone = words.rest() == "clone";
-    let inserted = match asked {
+    match asked {
         "row-pages" => insert_row_pages(&image.pages, frame, files, found),
         "sizes" => insert_wrong_sizes(files, found),
         "indexes" => insert_index(alloc, words, given, found),
         "all-rows" => insert_directory_faults(alloc, &image.pages, frame, files, is_clone, found),
-        "names" | "links" | "lost" | "parents" | "rows" | "few" | "misplaced" => {
-            insert_by_rows(alloc, asked, given, is_clone, found)
-        }
-        _ => return Ok(false),
-    };
-    inserted?;
-    Ok(true)
-}
-
-/// The pages at which a rule of directories is broken, or another one.
-pub(crate) fn find(
-    alloc: Global,
-    asked: &str,
-    words: &mut Words,
-    given: &Given,
-) -> Result<HomeSet, NotRead> {
-    let mut found = HomeSet::new(alloc);
-    if is_inserted(alloc, asked, words, given, &mut found)? {
-        Ok(found)
-    } else {
-        cells::find(alloc, asked, given)
+        _ => insert_by_rows(alloc, asked, given, is_clone, found),
     }
 }

@@ -1,6 +1,6 @@
 //! Rules of tag directories and of what they lead to, and of pages.
 use crate::given::Given;
-use image_lines::{NotRead, directory_faults, entry_faults};
+use image_lines::{directory_faults, entry_faults};
 use index_row_faults::{
     HomeSet, OutOfMemory, bitmap_faults, extent_faults, index_page_faults, read_links, read_tables,
     tags_faults,
@@ -21,21 +21,19 @@ fn entries(alloc: Global, given: &Given) -> Result<HomeSet, OutOfMemory> {
 }
 
 /// The pages at which a rule of tags or of pages is broken.
-pub(crate) fn find(alloc: Global, asked: &str, given: &Given) -> Result<HomeSet, NotRead> {
+pub(crate) fn find(alloc: Global, asked: &str, given: &Given) -> Result<HomeSet, OutOfMemory> {
     let Given {
         image,
         frame,
         table,
         ..
     } = given;
-    let found = match asked {
+    match asked {
         "tag-pages" => directory_faults(alloc, &image.pages, frame, table),
         "entries" => entries(alloc, given),
         "all-tags" => tags_faults(alloc, &image.pages, frame, table),
         "extents" => extent_faults(alloc, &image.pages, frame, table),
         "bitmaps" => bitmap_faults(alloc, &image.pages, frame, table),
-        "index-pages" => index_page_faults(alloc, &image.pages, frame),
-        _ => return Err(NotRead::Malformed),
-    };
-    Ok(found?)
+        _ => index_page_faults(alloc, &image.pages, frame),
+    }
 }

@@ -2,10 +2,10 @@
 use crate::pen::{put, put_number};
 use crate::records::put_record;
 use crate::words::Words;
-use hex::decode;
 use page_faults::Page;
 use page_faults::limits::PAGE_BYTES;
 use std::alloc::Global;
+use table_words::decode;
 
 /// The fileset table: how many clones were made.
 fn draw_table(words: &mut Words, page: &mut Page) {

@@ -1,38 +1,18 @@
 //! Images of domains, which lines tell one after another.
 use crate::drawing::{draw, draw_bitmap};
 use crate::words::Words;
-use page_faults::{
-    Anchor, Home, Member, MemoryPages, MetaPages, OutOfMemory, Page, Version, VolIx,
-};
-use std::alloc::{AllocFailed, Global};
+use page_faults::{Anchor, Home, Member, MemoryPages, MetaPages, Page, Version, VolIx};
+use std::alloc::Global;
 
-/// Why a line tells nothing.
-#[derive(Clone, Copy, Debug, PartialEq, Eq)]
-pub enum NotRead {
-    /// It is none of an image, or has a word too few or of another form.
-    Malformed,
-    OutOfMemory,
-}
-
-impl From<OutOfMemory> for NotRead {
-    fn from(_: OutOfMemory) -> NotRead {
-        NotRead::OutOfMemory
-    }
-}
-
-impl<T: Drop> From<AllocFailed<T>> for NotRead {
-    fn from(_: AllocFailed<T>) -> NotRead {
-        NotRead::OutOfMemory
-    }
-}
-
-/// An image that is written.
+/// An image that is written. It is not right any more after a line that tells nothing of an image,
+/// or has a word too few or of another form, and once memory is short.
 #[derive(Drop)]
 pub struct Image {
     alloc: Global,
     pub pages: MemoryPages,
     pub anchor: Anchor,
     pub version: Version,
+    is_right: bool,
 }
 
 /// The anchor of a domain of version 3 with no members, whose log stands on volume 1.
@@ -52,15 +32,6 @@ fn first_anchor() -> Anchor {
     }
 }
 
-/// Whether words are read to their end, and each was right.
-fn all_read(words: &Words) -> Result<(), NotRead> {
-    if words.is_right() && words.is_at_end() {
-        Ok(())
-    } else {
-        Err(NotRead::Malformed)
-    }
-}
-
 impl Image {
     /// An image of version 3 with no member, and no page.
     pub fn new(alloc: Global) -> Image {
@@ -69,22 +40,33 @@ impl Image {
             pages: MemoryPages::new(alloc),
             anchor: first_anchor(),
             version: Version::Three,
+            is_right: true,
         }
     }
 
+    /// Whether all lines told something, and memory sufficed.
+    pub fn is_right(&self) -> bool {
+        self.is_right
+    }
+
+    /// Says that something is wrong, unless this holds.
+    pub(crate) fn check(&mut self, holds: bool) {
+        self.is_right = self.is_right && holds;
+    }
+
     /// Adds what a line tells: a word that says its kind, and what belongs to that.
-    pub fn add(&mut self, line: &str) -> Result<(), NotRead> {
+    pub fn add(&mut self, line: &str) {
         let mut words = Words::new(line);
         match words.until(' ') {
             "version" => self.add_version(&mut words),
             "member" => {
                 let _ = self.add_member(&mut words);
             }
-            "volume" => self.add_volume(&mut words)?,
+            "volume" => self.add_volume(&mut words),
             "named" => self.anchor.table = words.home(' '),
-            kind => self.add_to_page(kind, &mut words)?,
+            kind => self.add_to_page(kind, &mut words),
         }
-        all_read(&words)
+        self.check(words.is_right() && words.is_at_end());
     }
 
     /// The version of the layout.
@@ -112,23 +94,25 @@ impl Image {
 
     /// A member all of whose pages are there, and the runs of pages that are used in its bitmap,
     /// which is page 2.
-    fn add_volume(&mut self, words: &mut Words) -> Result<(), NotRead> {
+    fn add_volume(&mut self, words: &mut Words) {
         let Some((vol, pages)) = self.add_member(words) else {
-            return Ok(());
+            return;
         };
         for page in 0..pages {
-            self.put(&Home { vol, page }, Page::zeros(self.alloc)?)?;
+            self.put_zeros(&Home { vol, page });
         }
-        let mut bits = Page::zeros(self.alloc)?;
+        let Ok(mut bits) = Page::zeros(self.alloc) else {
+            return self.check(false);
+        };
         draw_bitmap(pages, words, &mut bits);
-        self.put(&Home { vol, page: 2 }, bits)
+        self.put(&Home { vol, page: 2 }, bits);
     }
 
     /// What a line tells of a page, which is made if it is not there.
-    fn add_to_page(&mut self, kind: &str, words: &mut Words) -> Result<(), NotRead> {
+    fn add_to_page(&mut self, kind: &str, words: &mut Words) {
         match self.home_of(kind, words) {
             Some(home) => self.draw_on(&home, kind, words),
-            None => Err(NotRead::Malformed),
+            None => words.check(false),
         }
     }
 
@@ -147,32 +131,55 @@ impl Image {
     }
 
     /// Writes what a line of a kind tells on a page.
-    fn draw_on(&mut self, home: &Home, kind: &str, words: &mut Words) -> Result<(), NotRead> {
-        let mut page = self.page(home)?;
-        draw(self.alloc, kind, words, &mut page);
-        self.put(home, page)
+    fn draw_on(&mut self, home: &Home, kind: &str, words: &mut Words) {
+        match self.page(home) {
+            Some(mut page) => {
+                draw(self.alloc, kind, words, &mut page);
+                self.put(home, page);
+            }
+            None => self.check(false),
+        }
     }
 
-    /// The page that stands at a home, or one of zeros if there is none.
-    pub(crate) fn page(&self, home: &Home) -> Result<Page, NotRead> {
-        match self.pages.get(*home) {
-            Some(page) => Ok(page.copy(self.alloc)?),
-            None => Ok(Page::zeros(self.alloc)?),
-        }
+    /// The page that stands at a home, or one of zeros if there is none; None if memory is short.
+    pub(crate) fn page(&self, home: &Home) -> Option<Page> {
+        let page = match self.pages.get(*home) {
+            Some(page) => page.copy(self.alloc),
+            None => Page::zeros(self.alloc),
+        };
+        page.ok()
     }
 
     /// Puts a page at a home.
-    pub(crate) fn put(&mut self, home: &Home, page: Page) -> Result<(), NotRead> {
-        self.pages.reserve(self.alloc, 1)?;
-        self.pages.put(*home, page);
-        Ok(())
+    pub(crate) fn put(&mut self, home: &Home, page: Page) {
+        let is_reserved = self.pages.reserve(self.alloc, 1).is_ok();
+        if is_reserved {
+            self.pages.put(*home, page);
+        }
+        self.check(is_reserved);
+    }
+
+    /// Puts a page of zeros at a home.
+    fn put_zeros(&mut self, home: &Home) {
+        match Page::zeros(self.alloc) {
+            Ok(page) => self.put(home, page),
+            Err(_) => self.check(false),
+        }
     }
 
     /// Adds what several lines tell.
-    pub fn add_lines(&mut self, text: &str) -> Result<(), NotRead> {
+    pub fn add_lines(&mut self, text: &str) {
         for line in text.lines() {
-            self.add(line)?;
+            self.add(line);
         }
-        Ok(())
+    }
+
+    /// Adds what lines tell that have semicolons between them.
+    pub fn add_parts(&mut self, lines: &str) {
+        for line in lines.split("; ") {
+            if !line.is_empty() {
+                self.add(line);
+            }
+        }
     }
 }

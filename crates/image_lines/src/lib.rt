@@ -14,8 +14,8 @@ mod records;
 mod words;
 
 pub use asking::{Asking, answers, image_of};
-pub use image::{Image, NotRead};
-pub use racks::{empty_rack, frame_of, has_members, rack_of, write_volume, zeros};
+pub use image::Image;
+pub use racks::{empty_rack, frame_of, has_members, is_volume_written, rack_of, zeros};
 pub use words::Words;
 
 // What stands below and is named above.
@@ -26,3 +26,4 @@ pub use page_faults::{
     limits_twice_faults, local_faults, pages_twice_faults, read_pages, read_table, table_fault,
     unchained_faults, unnamed_quota_faults,
 };
+pub use table_words::Told;

@@ -5,11 +5,11 @@ ghost use Rattle.page_faults.specs.log_ring.Homes.{HasMembers};
 ghost use Rattle.image_lines.specs.Members.{HasMember};
 
 use crate::front::{draw_anchor, draw_label};
-use crate::image::{Image, NotRead};
+use crate::image::Image;
 use crate::words::Words;
 use memory_disk::MemoryRack;
 use page_faults::limits::{MAX_VOLUME_PAGES_4, MAX_VOLUMES};
-use page_faults::{Anchor, DomainFrame, Home, MetaPages, Rack, VolIx};
+use page_faults::{Anchor, DomainFrame, Home, MetaPages, OutOfMemory, Rack, VolIx};
 use std::alloc::Global;
 
 /// Whether a rack has a volume with the pages of a member, if it is one.
@@ -48,85 +48,99 @@ pub fn frame_of(image: &Image) -> DomainFrame {
 /// The blocks of a page.
 const PAGE_BLOCKS: u32 = 16;
 
-/// Writes a page of a rack.
-fn write_page<R: Rack>(rack: &mut R, home: &Home, bytes: &[u8]) -> Result<(), NotRead> {
+/// Writes a page of a rack; whether that passed.
+fn is_page_written<R: Rack>(rack: &mut R, home: &Home, bytes: &[u8]) -> bool {
     let vol = home.vol;
     let is_there = vol.number() <= rack.volumes() && home.page < rack.pages(vol);
     if !is_there || 1000 < home.page || bytes.len() != 8192 {
-        return Err(NotRead::Malformed);
+        return false;
     }
-    match rack.write(vol, PAGE_BLOCKS * home.page, bytes) {
-        Ok(()) => Ok(()),
-        Err(_) => Err(NotRead::Malformed),
-    }
+    rack.write(vol, PAGE_BLOCKS * home.page, bytes).is_ok()
 }
 
 /// Writes the label of a member.
-fn add_label(image: &mut Image, vol: VolIx) -> Result<(), NotRead> {
+fn add_label(image: &mut Image, vol: VolIx) {
     let home = Home { vol, page: 0 };
-    let mut page = image.page(&home)?;
     let pages = image.anchor.members[vol.index()].pages;
-    draw_label(image.version, vol, pages, &mut page);
-    image.put(&home, page)
+    match image.page(&home) {
+        Some(mut page) => {
+            draw_label(image.version, vol, pages, &mut page);
+            image.put(&home, page);
+        }
+        None => image.check(false),
+    }
 }
 
 /// Writes the anchor after an open gate.
-fn add_anchor(image: &mut Image) -> Result<(), NotRead> {
-    let vol = VolIx::new(image.anchor.log_vol).ok_or(NotRead::Malformed)?;
+fn add_anchor(image: &mut Image) {
+    let Some(vol) = VolIx::new(image.anchor.log_vol) else {
+        return image.check(false);
+    };
     let home = Home { vol, page: 1 };
-    let mut page = image.page(&home)?;
-    draw_anchor(&image.anchor, &mut page);
-    image.put(&home, page)
+    match image.page(&home) {
+        Some(mut page) => {
+            draw_anchor(&image.anchor, &mut page);
+            image.put(&home, page);
+        }
+        None => image.check(false),
+    }
 }
 
-/// Writes those pages of a volume that are there.
-pub fn write_volume(rack: &mut MemoryRack, image: &Image, vol: VolIx) -> Result<(), NotRead> {
+/// Writes those pages of a volume that are there; whether that passed.
+pub fn is_volume_written(rack: &mut MemoryRack, image: &Image, vol: VolIx) -> bool {
     for page in 0..image.anchor.members[vol.index()].pages {
         let home = Home { vol, page };
         if let Some(page) = image.pages.get(home) {
-            write_page(rack, &home, page.bytes())?;
+            if !is_page_written(rack, &home, page.bytes()) {
+                return false;
+            }
         }
     }
-    Ok(())
+    true
 }
 
 /// A rack of zeros that fails at these calls, with the volumes of an anchor.
-pub fn zeros(alloc: Global, anchor: &Anchor, fails: &[u64]) -> Result<MemoryRack, NotRead> {
-    let mut sizes = Vec::new(alloc);
-    for member in &anchor.members {
-        sizes.push(member.pages)?;
-    }
-    Ok(MemoryRack::new(alloc, &sizes, fails, false)?)
+pub fn zeros(alloc: Global, anchor: &Anchor, fails: &[u64]) -> Result<MemoryRack, OutOfMemory> {
+    let members = anchor.members;
+    let sizes = members.map(|member| member.pages);
+    MemoryRack::new(alloc, &sizes, fails, false)
 }
 
-/// A rack of zeros with volumes of so many pages.
-pub fn empty_rack(alloc: Global, words: &mut Words) -> Result<MemoryRack, NotRead> {
-    let mut sizes = Vec::new(alloc);
+/// The numbers that are left to read.
+fn numbers_of(alloc: Global, words: &mut Words) -> Result<Vec<u32>, OutOfMemory> {
+    let mut numbers = Vec::new(alloc);
     for _ in 0..words.rest().len() {
         if words.is_at_end() {
             break;
         }
-        sizes.push(words.number(' '))?;
+        numbers.push(words.number(' '))?;
     }
-    Ok(MemoryRack::new(alloc, &sizes, &[], false)?)
+    Ok(numbers)
+}
+
+/// A rack of zeros with volumes of so many pages.
+pub fn empty_rack(alloc: Global, words: &mut Words) -> Result<MemoryRack, OutOfMemory> {
+    let sizes = numbers_of(alloc, words)?;
+    MemoryRack::new(alloc, &sizes, &[], false)
 }
 
 /// Writes the labels of the members of an image, and their pages onto a rack.
-fn write_members(rack: &mut MemoryRack, image: &mut Image) -> Result<(), NotRead> {
+fn write_members(rack: &mut MemoryRack, image: &mut Image) {
     for number in 1..9 {
-        let vol = VolIx::new(number).ok_or(NotRead::Malformed)?;
-        if 0 < image.anchor.members[vol.index()].pages {
-            add_label(image, vol)?;
-            write_volume(rack, image, vol)?;
+        if let Some(vol) = VolIx::new(number) {
+            if 0 < image.anchor.members[vol.index()].pages {
+                add_label(image, vol);
+                let is_written = is_volume_written(rack, image, vol);
+                image.check(is_written);
+            }
         }
     }
-    Ok(())
 }
 
-/// A rack on which an image stands.
-pub fn rack_of(alloc: Global, image: &mut Image) -> Result<MemoryRack, NotRead> {
-    add_anchor(image)?;
-    let mut rack = zeros(alloc, &image.anchor, &[])?;
-    write_members(&mut rack, image)?;
-    Ok(rack)
+/// A rack on which an image stands; None if the image is not right, or memory is short.
+pub fn rack_of(alloc: Global, image: &mut Image) -> Option<MemoryRack> {
+    add_anchor(image);
+    let mut rack = zeros(alloc, &image.anchor, &[]).ok()?;
+    write_members(&mut rack, image);
+    if image.is_right() { Some(rack) } else { None }
 }

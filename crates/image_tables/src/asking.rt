@@ -1,61 +1,48 @@
 //! What a row asks: a word for what is asked, the name of an image of the table, and more words.
-use crate::attached::told_attached;
-use crate::brought::told_brought;
-use crate::faults::told_faults;
-use crate::fetched::{told_fetched, told_of_zeros};
-use crate::left::{told_left, told_quotas};
-use crate::meant::told_meaning;
-use image_lines::{Asking, Image, NotRead, Words, image_of};
+use crate::attached::tell_attached;
+use crate::brought::tell_brought;
+use crate::faults::tell_faults;
+use crate::fetched::{tell_fetched, tell_zeros};
+use crate::left::{tell_left, tell_quotas};
+use crate::meant::tell_meaning;
+use image_lines::{Asking, Image, Told, Words, image_of};
 use std::alloc::Global;
 
 /// Answers rows about whole images.
 pub(crate) struct Images;
 
-/// The faults of an image by all its pages and by those that are brought, which are the same.
-fn told_twice(alloc: Global, image: &mut Image) -> Result<String, NotRead> {
-    let told = told_faults(alloc, image)?;
-    let brought = told_brought(alloc, image)?;
-    if told.as_str() == brought.as_str() {
-        Ok(told)
-    } else {
-        Ok(format!(in alloc; "{}but brought\n{}", told.as_str(), brought.as_str())?)
+/// Tells the faults of an image by all its pages and by those that are brought, which are the same.
+fn tell_twice(alloc: Global, image: &mut Image, told: &mut Told) {
+    let mut brought = Told::new(alloc);
+    tell_brought(alloc, image, &mut brought);
+    tell_faults(alloc, image, told);
+    if told.text() != brought.text() {
+        told.push("but brought\n");
+        told.push(brought.text());
     }
+    told.check(brought.is_right());
 }
 
-/// What is asked of an image.
-fn tell(
-    alloc: Global,
-    asked: &str,
-    words: &mut Words,
-    image: &mut Image,
-) -> Result<String, NotRead> {
+/// Tells what is asked of an image.
+fn tell(alloc: Global, asked: &str, words: &mut Words, image: &mut Image, told: &mut Told) {
     match asked {
-        "faults" => told_twice(alloc, image),
-        "meaning" => told_meaning(alloc, image),
-        "domain" => told_fetched(alloc, image),
-        "domain-of-zeros" => told_of_zeros(alloc, words),
-        "attached" => told_attached(alloc, image),
-        "left" => told_left(alloc, image),
-        "quotas" => told_quotas(alloc, image),
-        _ => Err(NotRead::Malformed),
+        "faults" => tell_twice(alloc, image, told),
+        "meaning" => tell_meaning(alloc, image, told),
+        "domain" => tell_fetched(alloc, image, told),
+        "domain-of-zeros" => tell_zeros(alloc, words, told),
+        "attached" => tell_attached(alloc, image, told),
+        "left" => tell_left(alloc, image, told),
+        "quotas" => tell_quotas(alloc, image, told),
+        _ => told.check(false),
     }
 }
 
 impl Asking for Images {
-    fn tell(
-        &self,
-        alloc: Global,
-        table: &str,
-        front: &mut Words,
-        lines: &str,
-    ) -> Result<String, NotRead> {
+    fn tell(&self, alloc: Global, table: &str, front: &mut Words, lines: &str, told: &mut Told) {
         let asked = front.until(' ');
-        let mut image = image_of(alloc, table, front.until(' '))?;
-        for line in lines.split("; ") {
-            if !line.is_empty() {
-                image.add(line)?;
-            }
-        }
-        tell(alloc, asked, front, &mut image)
+        let mut image = image_of(alloc, table, front.until(' '));
+        image.add_parts(lines);
+        tell(alloc, asked, front, &mut image, told);
+        told.check(image.is_right());
     }
 }

@@ -1,65 +1,58 @@
 //! Domains that are attached from racks: what is kept in memory of them, or why they are not.
 use domain_attaching::{DomainMemory, Owner, SlotFiles, VolIx, attach, bring_memory};
-use image_lines::{Image, NotRead, rack_of};
+use image_lines::{Image, MemoryRack, Told, rack_of};
 use std::alloc::Global;
 
 /// Tells how many pages the tag directory of a slot has, the files and blocks of all users and of
 /// user 7, and the limits of user 7.
-fn push_slot(
-    alloc: Global,
-    number: usize,
-    slot: &SlotFiles,
-    told: &mut String,
-) -> Result<(), NotRead> {
+fn tell_slot(number: usize, slot: &SlotFiles, told: &mut Told) {
     let all = slot.book.usage(Owner::Fileset);
     let one = slot.book.usage(Owner::User(7));
     let most = slot.book.limits(Owner::User(7));
-    let used = format!(in alloc;
-        "{} {}, {} {}",
-        all.files, all.blocks, one.files, one.blocks
-    )?;
-    let line = format!(in alloc;
-        "slot {number}: {}, {}, {} {}\n",
-        slot.tag_pages,
-        used.as_str(),
-        most.files,
-        most.blocks
-    )?;
-    told.push_str(line.as_str())?;
-    Ok(())
+    told.push_pair("slot ", number as u64, ": ", slot.tag_pages as u64);
+    told.push_pair(", ", all.files, " ", all.blocks);
+    told.push_pair(", ", one.files, " ", one.blocks);
+    told.push_pair(", ", most.files, " ", most.blocks);
+    told.push("\n");
 }
 
 /// Tells how many pages of the first volume are used, whether something is to be let go of, and
 /// what is in the slots.
-fn push_memory(alloc: Global, memory: &DomainMemory, told: &mut String) -> Result<(), NotRead> {
-    let vol = VolIx::new(1).ok_or(NotRead::Malformed)?;
-    let line = format!(in alloc; "used {}\n", memory.space.used_on(vol))?;
-    told.push_str(line.as_str())?;
+fn tell_memory(memory: &DomainMemory, told: &mut Told) {
+    told.push("used ");
+    told.push_number(u64::from(memory.space.used_on(VolIx::new(1).unwrap())));
+    told.push("\n");
     if !memory.list.is_empty() {
-        told.push_str("to go\n")?;
+        told.push("to go\n");
     }
     for (number, slot) in memory.slots.iter().enumerate() {
         if let Some(slot) = slot {
-            push_slot(alloc, number, slot, told)?;
+            tell_slot(number, slot, told);
         }
     }
-    Ok(())
 }
 
-/// What is kept in memory of the domain of an image that is attached, by the rack that is given
-/// back unchanged; or why it is not attached.
-pub(crate) fn told_attached(alloc: Global, image: &mut Image) -> Result<String, NotRead> {
-    let rack = rack_of(alloc, image)?;
-    let mut told = String::new(alloc);
-    match attach(alloc, rack) {
-        Ok(attached) => {
-            let mut rack = attached.into_rack();
-            match bring_memory(alloc, &mut rack) {
-                Ok(found) => push_memory(alloc, &found.memory, &mut told)?,
-                Err(fault) => told.push_str(format!(in alloc; "{fault}")?.as_str())?,
-            }
-        }
-        Err((_rack, fault)) => told.push_str(format!(in alloc; "{fault}")?.as_str())?,
+/// Tells what is kept in memory of the domain on a rack.
+fn tell_brought(alloc: Global, rack: &mut MemoryRack, told: &mut Told) {
+    match bring_memory(alloc, rack) {
+        Ok(found) => tell_memory(&found.memory, told),
+        Err(fault) => told.push_shown(&fault),
     }
-    Ok(told)
+}
+
+/// Tells what is kept in memory of the domain on a rack that is attached, by the rack that is given
+/// back unchanged; or why it is not attached.
+fn tell_on(alloc: Global, rack: MemoryRack, told: &mut Told) {
+    match attach(alloc, rack) {
+        Ok(attached) => tell_brought(alloc, &mut attached.into_rack(), told),
+        Err((_rack, fault)) => told.push_shown(&fault),
+    }
+}
+
+/// Tells what is kept in memory of the domain of an image that is attached, or why it is not.
+pub(crate) fn tell_attached(alloc: Global, image: &mut Image, told: &mut Told) {
+    match rack_of(alloc, image) {
+        Some(rack) => tell_on(alloc, rack, told),
+        None => told.check(false),
+    }
 }

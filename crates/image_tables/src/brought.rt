@@ -3,9 +3,9 @@
 ghost use Rattle.std.specs.Prelude.{IsTrue};
 ghost use Rattle.domain_attaching.specs.filesets_reading.Good.{IsNamed};
 
-use crate::faults::push_rows;
-use domain_attaching::{DomainFrame, MemoryPages, Rack, faults, load};
-use image_lines::{Image, NotRead, frame_of, has_members, rack_of};
+use crate::faults::tell_on;
+use domain_attaching::{DomainFrame, MemoryPages, Rack, load};
+use image_lines::{Image, Told, frame_of, has_members, rack_of};
 use std::alloc::Global;
 
 /// Whether an anchor names a fileset table and says this version.
@@ -15,28 +15,26 @@ fn is_named(frame: &DomainFrame) -> bool
     frame.anchor.table.is_some() && frame.anchor.version == frame.version.number()
 }
 
-/// The pages of an image that are brought from a rack.
-fn bring<R: Rack>(
+/// Brings the pages of an image from a rack; whether that passed.
+fn is_brought<R: Rack>(
     alloc: Global,
     rack: &mut R,
     frame: &DomainFrame,
-) -> Result<MemoryPages, NotRead> {
-    let mut pages = MemoryPages::new(alloc);
+    pages: &mut MemoryPages,
+) -> bool {
     if !has_members(rack, &frame.anchor) || !is_named(frame) {
-        return Err(NotRead::Malformed);
+        return false;
     }
-    match load(alloc, rack, frame, &mut pages) {
-        Ok(()) => Ok(pages),
-        Err(_) => Err(NotRead::Malformed),
-    }
+    load(alloc, rack, frame, pages).is_ok()
 }
 
-/// The faults of an image by the pages that are brought.
-pub(crate) fn told_brought(alloc: Global, image: &mut Image) -> Result<String, NotRead> {
-    let mut rack = rack_of(alloc, image)?;
+/// Tells the faults of an image by the pages that are brought.
+pub(crate) fn tell_brought(alloc: Global, image: &mut Image, told: &mut Told) {
+    let Some(mut rack) = rack_of(alloc, image) else {
+        return told.check(false);
+    };
     let frame = frame_of(image);
-    let pages = bring(alloc, &mut rack, &frame)?;
-    let mut text = String::new(alloc);
-    push_rows(alloc, &mut text, &faults(alloc, &pages, &frame.anchor)?)?;
-    Ok(text)
+    let mut pages = MemoryPages::new(alloc);
+    told.check(is_brought(alloc, &mut rack, &frame, &mut pages));
+    tell_on(alloc, &pages, &frame.anchor, told);
 }

@@ -1,26 +1,26 @@
 //! The faults of images, by the codes and the pages of the rules that are broken.
-use domain_attaching::{FaultRow, faults};
-use image_lines::{Image, NotRead};
+use domain_attaching::{Anchor, FaultRow, MemoryPages, faults};
+use image_lines::{Image, Told};
 use std::alloc::Global;
 
-/// Appends faults to a text: a line with the code, the volume and the page of each.
-pub(crate) fn push_rows(
-    alloc: Global,
-    text: &mut String,
-    rows: &[FaultRow],
-) -> Result<(), NotRead> {
+/// Tells a line with the code, the volume and the page of each fault.
+pub(crate) fn tell_rows(rows: &[FaultRow], told: &mut Told) {
     for row in rows {
-        let (code, home) = (row.rule.code(), row.home);
-        let line = format!(in alloc; "{code} {}:{}\n", home.vol.number(), home.page)?;
-        text.push_str(line.as_str())?;
+        told.push_number(u64::from(row.rule.code()));
+        told.push_home(" ", &row.home);
+        told.push("\n");
     }
-    Ok(())
 }
 
-/// The faults of an image, in their order.
-pub(crate) fn told_faults(alloc: Global, image: &Image) -> Result<String, NotRead> {
-    let mut text = String::new(alloc);
-    let rows = faults(alloc, &image.pages, &image.anchor)?;
-    push_rows(alloc, &mut text, &rows)?;
-    Ok(text)
+/// Tells the faults on pages, in their order.
+pub(crate) fn tell_on(alloc: Global, pages: &MemoryPages, anchor: &Anchor, told: &mut Told) {
+    match faults(alloc, pages, anchor) {
+        Ok(rows) => tell_rows(&rows, told),
+        Err(_) => told.check(false),
+    }
+}
+
+/// Tells the faults of an image.
+pub(crate) fn tell_faults(alloc: Global, image: &Image, told: &mut Told) {
+    tell_on(alloc, &image.pages, &image.anchor, told);
 }

@@ -9,9 +9,9 @@ mod attached;
 mod brought;
 mod faults;
 mod fetched;
+mod filesets;
 mod left;
 mod meant;
-mod told;
 
 use asking::Images;
 use image_lines::answers;
@@ -23,11 +23,5 @@ fn main(rt: HostRuntime) -> ExitCode {
     let Ok(table) = io::read_to_string(alloc, rt.stdin().lock()) else {
         return ExitCode::FAILURE;
     };
-    let Ok(told) = answers(alloc, &Images, table.as_str()) else {
-        return ExitCode::FAILURE;
-    };
-    match rt.print(told) {
-        Ok(()) => ExitCode::SUCCESS,
-        Err(_) => ExitCode::FAILURE,
-    }
+    answers(alloc, &Images, table.as_str()).print(&rt)
 }

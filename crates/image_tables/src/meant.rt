@@ -1,24 +1,25 @@
 //! What images mean: each is written onto a rack, and told by what stands there.
-use crate::faults::push_rows;
-use crate::told::tell;
+use crate::faults::tell_rows;
+use crate::fetched::tell_none;
+use crate::filesets::tell;
 use domain_attaching::{Meaning, read_image};
-use image_lines::{Image, NotRead, rack_of};
+use image_lines::{Image, MemoryRack, Told, rack_of};
 use std::alloc::Global;
 
-/// What a rack with an image means.
-pub(crate) fn told_meaning(alloc: Global, image: &mut Image) -> Result<String, NotRead> {
-    let mut rack = rack_of(alloc, image)?;
-    let read = read_image(alloc, &mut rack);
-    let Ok(meaning) = read else {
-        return Err(NotRead::Malformed);
-    };
-    match meaning {
-        Meaning::NoDomain { vol, at } => Ok(format!(in alloc; "no domain {vol}:{at}\n")?),
-        Meaning::Faulty { rows } => {
-            let mut text = String::new(alloc);
-            push_rows(alloc, &mut text, &rows)?;
-            Ok(text)
-        }
-        Meaning::Filesets { all } => tell(alloc, &all),
+/// Tells what is read of a rack.
+fn tell_on(alloc: Global, rack: &mut MemoryRack, told: &mut Told) {
+    match read_image(alloc, rack) {
+        Ok(Meaning::NoDomain { vol, at }) => tell_none(vol, at, told),
+        Ok(Meaning::Faulty { rows }) => tell_rows(&rows, told),
+        Ok(Meaning::Filesets { all }) => tell(alloc, &all, told),
+        Err(_) => told.check(false),
+    }
+}
+
+/// Tells what a rack with an image means.
+pub(crate) fn tell_meaning(alloc: Global, image: &mut Image, told: &mut Told) {
+    match rack_of(alloc, image) {
+        Some(mut rack) => tell_on(alloc, &mut rack, told),
+        None => told.check(false),
     }
 }

@@ -1,6 +1,6 @@
 //! Pages of tables and indexes that are brought from a rack.
 use image_lines::{
-    Image, MemoryRack, NotRead, Words, frame_of, has_members, read_table, write_volume, zeros,
+    Image, MemoryRack, Told, Words, frame_of, has_members, is_volume_written, read_table, zeros,
 };
 use image_loading::{
     DomainFrame, Home, LoadFault, MemoryPages, MetaPages, Rack, TableRead, VolIx, load_bitmaps,
@@ -98,22 +98,16 @@ fn is_as_written(image: &Image, home: Home, bytes: &[u8]) -> bool {
 }
 
 /// Tells the pages of volume 1 that are there, with a mark at one that is not as it was written.
-fn push_pages(
-    alloc: Global,
-    image: &Image,
-    pages: &MemoryPages,
-    told: &mut String,
-) -> Result<(), NotRead> {
-    let vol = VolIx::new(1).ok_or(NotRead::Malformed)?;
+fn push_pages(image: &Image, vol: VolIx, pages: &MemoryPages, told: &mut Told) {
     for page in 0..image.anchor.members[vol.index()].pages {
         let home = Home { vol, page };
         if let Some(found) = pages.get(home) {
+            told.push(" ");
+            told.push_number(u64::from(page));
             let is_right = is_as_written(image, home, found.bytes());
-            let mark = if is_right { "" } else { " (held)" };
-            told.push_str(format!(in alloc; " {page}{mark}")?.as_str())?;
+            told.push(if is_right { "" } else { " (held)" });
         }
     }
-    Ok(())
 }
 
 /// How many pages of volume 1 an image has.
@@ -127,55 +121,74 @@ fn count_pages(image: &Image, vol: VolIx) -> u64 {
     count
 }
 
-/// A rack with the pages of an image on volume 1, of which the read with this number fails; none
-/// does for 0. Gives how many calls wrote the pages, too.
-fn rack_with(alloc: Global, image: &Image, failing: u64) -> Result<(MemoryRack, u64), NotRead> {
-    let vol = VolIx::new(1).ok_or(NotRead::Malformed)?;
-    let writes = count_pages(image, vol);
+/// A rack with the pages of an image on volume 1, of which the read with this number after so many
+/// writes fails; none does for 0.
+fn rack_with(
+    alloc: Global,
+    image: &Image,
+    vol: VolIx,
+    writes: u64,
+    failing: u64,
+) -> Option<MemoryRack> {
     let fails = if failing == 0 {
         0
     } else {
         writes.saturating_add(failing)
     };
-    let mut rack = zeros(alloc, &image.anchor, &[fails])?;
-    write_volume(&mut rack, image, vol)?;
-    Ok((rack, writes))
+    let mut rack = zeros(alloc, &image.anchor, &[fails]).ok()?;
+    if is_volume_written(&mut rack, image, vol) {
+        Some(rack)
+    } else {
+        None
+    }
+}
+
+/// Brings what a word names, and tells what comes of that.
+fn push_brought(
+    alloc: Global,
+    rack: &mut MemoryRack,
+    frame: &DomainFrame,
+    what: &str,
+    pages: &mut MemoryPages,
+    told: &mut Told,
+) {
+    told.push(what);
+    match bring(alloc, rack, frame, what, pages) {
+        Ok(more) => told.push(more),
+        Err(fault) => {
+            told.push(" (");
+            told.push_shown(&fault);
+            told.push(")");
+        }
+    }
+    told.push(":");
 }
 
 /// Tells how many reads there were, and how many of them failed.
-fn push_counts(
-    alloc: Global,
-    rack: &MemoryRack,
-    writes: u64,
-    told: &mut String,
-) -> Result<(), NotRead> {
-    let vol = VolIx::new(1).ok_or(NotRead::Malformed)?;
+fn push_counts(rack: &MemoryRack, vol: VolIx, writes: u64, told: &mut Told) {
     let reads = rack.calls().saturating_sub(writes);
-    let line = format!(in alloc; "; {reads} reads, {} failed\n", rack.read_faults(vol))?;
-    told.push_str(line.as_str())?;
-    Ok(())
+    told.push_pair("; ", reads, " reads, ", rack.read_faults(vol));
+    told.push(" failed\n");
 }
 
-/// What is brought, one after another, of what words name after the number of the read that fails:
-/// each time the pages that are there then, and how many reads there were.
-pub(crate) fn told_loaded(
+/// Tells what is brought, one after another, of what words name after the number of the read that
+/// fails: each time the pages that are there then, and how many reads there were.
+pub(crate) fn tell_loaded(
     alloc: Global,
     words: &mut Words,
     image: &Image,
     pages: &mut MemoryPages,
-) -> Result<String, NotRead> {
-    let (mut rack, writes) = rack_with(alloc, image, words.long(' '))?;
+    told: &mut Told,
+) {
+    let vol = VolIx::new(1).unwrap();
+    let writes = count_pages(image, vol);
     let frame = frame_of(image);
-    let mut told = String::new(alloc);
+    let Some(mut rack) = rack_with(alloc, image, vol, writes, words.long(' ')) else {
+        return told.check(false);
+    };
     for what in words.rest().split(' ') {
-        told.push_str(what)?;
-        match bring(alloc, &mut rack, &frame, what, pages) {
-            Ok(more) => told.push_str(more)?,
-            Err(fault) => told.push_str(format!(in alloc; " ({fault})")?.as_str())?,
-        }
-        told.push(':')?;
-        push_pages(alloc, image, pages, &mut told)?;
-        push_counts(alloc, &rack, writes, &mut told)?;
+        push_brought(alloc, &mut rack, &frame, what, pages, told);
+        push_pages(image, vol, pages, told);
+        push_counts(&rack, vol, writes, told);
     }
-    Ok(told)
 }
