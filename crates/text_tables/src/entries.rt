@@ -1,131 +1,159 @@
 //! Lines of histories that are read back.
 
-use crate::scripts::shown_fault;
-use anyhow::{Result, bail};
+use crate::scripts::push_fault;
 use history_reading::{Command, Entry, FilesetItem, Place, Reply, history_line, read_line};
 use std::alloc::Global;
 use std::str::from_utf8;
 
-/// Whether an entry that was read has stamp 0, and is written as the line whatever its stamp.
-fn is_written(alloc: Global, mut entry: Entry, line: &[u8]) -> Result<bool> {
-    let is_new = entry.stamp == 0;
-    entry.stamp = 7;
-    let written = history_line(alloc, &entry)?;
-    Ok(is_new && written.as_slice() == line)
-}
-
-/// Whether a line is read and written again as it was, or what is wrong with it.
-pub fn line(alloc: Global, text: &[u8]) -> Result<String> {
-    let entry = match read_line(alloc, text) {
-        Ok(entry) => entry,
-        Err(fault) => return shown_fault(alloc, fault),
-    };
-    let is_same = is_written(alloc, entry, text)?;
-    let answer = if is_same {
+/// Says whether an entry is new and written as the line that it was read from.
+fn push_written(
+    alloc: Global,
+    entry: &Entry,
+    is_new: bool,
+    line: &[u8],
+    out: &mut String,
+) -> Option<()> {
+    let written = history_line(alloc, entry).ok()?;
+    out.push_str(if is_new && written.as_slice() == line {
         "written again"
     } else {
         "written otherwise"
-    };
-    Ok(String::from_str(alloc, answer)?)
+    })
+    .ok()
+}
+
+/// Says whether an entry that was read has stamp 0, and is written as the line whatever its stamp.
+fn write_again(alloc: Global, mut entry: Entry, line: &[u8], out: &mut String) -> Option<()> {
+    let is_new = entry.stamp == 0;
+    entry.stamp = 7;
+    push_written(alloc, &entry, is_new, line, out)
+}
+
+/// Says whether a line is read and written again as it was, or what is wrong with it.
+pub fn line(alloc: Global, text: &[u8], out: &mut String) -> Option<()> {
+    match read_line(alloc, text) {
+        Ok(entry) => write_again(alloc, entry, text, out),
+        Err(fault) => push_fault(fault, out),
+    }
 }
 
 /// A place, its names' bytes as characters.
-fn shown_place(alloc: Global, place: &Place) -> Result<String> {
-    let mut text = String::from_str(alloc, from_utf8(place.fileset.as_slice())?)?;
+fn push_place(place: &Place, out: &mut String) -> Option<()> {
+    out.push_str(from_utf8(place.fileset.as_slice()).ok()?)
+        .ok()?;
     for name in place.path.as_slice() {
-        let name = from_utf8(name.as_slice())?;
-        text.push_str(format!(in alloc; ", {name:?}")?.as_str())?;
+        let name = from_utf8(name.as_slice()).ok()?;
+        write!(out, ", {name:?}").ok()?;
     }
-    Ok(text)
+    Some(())
 }
 
-/// Who gives the command of a line, and its parts.
-pub fn command(alloc: Global, text: &[u8]) -> Result<String> {
-    let entry = read_line(alloc, text)?;
-    let actor = entry.actor;
-    match &entry.command {
+/// A read of bytes of a place.
+fn push_read(place: &Place, offset: u64, count: u32, out: &mut String) -> Option<()> {
+    out.push_str("read ").ok()?;
+    push_place(place, out)?;
+    write!(out, ", {offset}, {count}").ok()
+}
+
+fn push_stat(place: &Place, out: &mut String) -> Option<()> {
+    out.push_str("stat ").ok()?;
+    push_place(place, out)
+}
+
+/// The parts of a command.
+fn push_command(command: &Command, out: &mut String) -> Option<()> {
+    match command {
         Command::Read {
             place,
             offset,
             count,
-        } => {
-            let place = shown_place(alloc, place)?;
-            Ok(format!(in alloc; "{actor:?}: read {place}, {offset}, {count}")?)
-        }
-        Command::Stat { place } => {
-            let place = shown_place(alloc, place)?;
-            Ok(format!(in alloc; "{actor:?}: stat {place}")?)
-        }
+        } => push_read(place, *offset, *count, out),
+        Command::Stat { place } => push_stat(place, out),
         Command::Setquota {
             fileset,
             who,
             files,
             blocks,
         } => {
-            let fileset = from_utf8(fileset.as_slice())?;
-            Ok(format!(in alloc; "{actor:?}: setquota {fileset}, {who:?}, {files}, {blocks}")?)
+            let fileset = from_utf8(fileset.as_slice()).ok()?;
+            write!(out, "setquota {fileset}, {who:?}, {files}, {blocks}").ok()
         }
-        _ => bail!("another command"),
+        _ => None,
     }
+}
+
+/// Who gives a command, and its parts.
+fn push_given(entry: &Entry, out: &mut String) -> Option<()> {
+    write!(out, "{:?}: ", entry.actor).ok()?;
+    push_command(&entry.command, out)
+}
+
+/// Says who gives the command of a line, and its parts.
+pub fn command(alloc: Global, text: &[u8], out: &mut String) -> Option<()> {
+    let entry = read_line(alloc, text).ok()?;
+    push_given(&entry, out)
 }
 
 /// A fileset and its original.
-fn shown_fileset(alloc: Global, item: &FilesetItem) -> Result<String> {
-    let fileset = from_utf8(item.fileset.as_slice())?;
-    match &item.original {
-        Some(original) => {
-            let original = from_utf8(original.as_slice())?;
-            Ok(format!(in alloc; "{fileset} of {original}\n")?)
-        }
-        None => Ok(format!(in alloc; "{fileset}\n")?),
+fn push_fileset(item: &FilesetItem, out: &mut String) -> Option<()> {
+    out.push_str(from_utf8(item.fileset.as_slice()).ok()?).ok()?;
+    if let Some(original) = &item.original {
+        let original = from_utf8(original.as_slice()).ok()?;
+        write!(out, " of {original}").ok()?;
     }
+    out.push('\n').ok()
 }
 
-/// Adds a line for each volume: its number, pages, used and free ones, whether it has the log and
+fn push_filesets(filesets: &[FilesetItem], out: &mut String) -> Option<()> {
+    for item in filesets {
+        push_fileset(item, out)?;
+    }
+    Some(())
+}
+
+/// A line for each volume: its number, its pages, used and free ones, whether it has the log, and
 /// whether it is closed.
-fn push_volumes(alloc: Global, text: &mut String, reply: &Reply) -> Result<()> {
+fn push_volumes(reply: &Reply, out: &mut String) -> Option<()> {
     let Reply::Volumes(volumes) = reply else {
-        return Ok(());
+        return None;
     };
     for item in volumes.as_slice() {
-        let pages = format!(in alloc; "{}, {}, {}", item.pages, item.used, item.free)?;
-        let marks = format!(in alloc; "{}, {}", item.has_log, item.closed)?;
-        text.push_str(format!(in alloc; "{}, {pages}, {marks}\n", item.vol)?.as_str())?;
+        write!(out, "{}, {}, {}, ", item.vol, item.pages, item.used).ok()?;
+        writeln!(out, "{}, {}, {}", item.free, item.has_log, item.closed).ok()?;
     }
-    Ok(())
+    Some(())
 }
 
-/// What the reply of a line has: bytes that were read, a refusal, or what is shown.
-pub fn reply(alloc: Global, text: &[u8]) -> Result<String> {
-    let entry = read_line(alloc, text)?;
-    match &entry.reply {
-        Reply::Read(bytes) => Ok(format!(in alloc; "{:?}", from_utf8(bytes.as_slice())?)?),
-        Reply::Refused(refusal) => Ok(format!(in alloc; "{refusal:?}")?),
+/// Bytes that were read, as characters.
+fn push_text(bytes: &[u8], out: &mut String) -> Option<()> {
+    write!(out, "{:?}", from_utf8(bytes).ok()?).ok()
+}
+
+/// What a reply has: bytes that were read, a refusal, or what is shown.
+fn push_reply(reply: &Reply, out: &mut String) -> Option<()> {
+    match reply {
+        Reply::Read(bytes) => push_text(bytes.as_slice(), out),
+        Reply::Refused(refusal) => write!(out, "{refusal:?}").ok(),
         Reply::FileStat {
             uid,
             gid,
             size,
             pages,
             logged,
-        } => Ok(format!(in alloc; "{uid}, {gid}, {size}, {pages}, {logged}")?),
+        } => write!(out, "{uid}, {gid}, {size}, {pages}, {logged}").ok(),
         Reply::Quota {
             files,
             files_limit,
             blocks,
             blocks_limit,
-        } => Ok(format!(in alloc; "{files}, {files_limit}, {blocks}, {blocks_limit}")?),
-        Reply::Filesets(filesets) => {
-            let mut text = String::new(alloc);
-            for item in filesets.as_slice() {
-                text.push_str(shown_fileset(alloc, item)?.as_str())?;
-            }
-            Ok(text)
-        }
-        Reply::Volumes(_) => {
-            let mut text = String::new(alloc);
-            push_volumes(alloc, &mut text, &entry.reply)?;
-            Ok(text)
-        }
-        _ => bail!("another reply"),
+        } => write!(out, "{files}, {files_limit}, {blocks}, {blocks_limit}").ok(),
+        Reply::Filesets(filesets) => push_filesets(filesets.as_slice(), out),
+        _ => push_volumes(reply, out),
     }
+}
+
+/// Says what the reply of a line has.
+pub fn reply(alloc: Global, text: &[u8], out: &mut String) -> Option<()> {
+    let entry = read_line(alloc, text).ok()?;
+    push_reply(&entry.reply, out)
 }

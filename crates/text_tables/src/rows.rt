@@ -3,31 +3,39 @@
 use crate::entries::{command, line, reply};
 use crate::scripts::{read, script, sections};
 use crate::spelling::spelled;
-use anyhow::{Context, Result, bail};
-use std::alloc::Global;
+use std::alloc::{AllocError, Global};
 
-/// What comes of a text.
-fn answer(alloc: Global, word: &str, text: &[u8]) -> Result<String> {
+/// Says what comes of a text.
+fn answer(alloc: Global, word: &str, text: &[u8], out: &mut String) -> Option<()> {
     match word {
-        "script" => script(alloc, text),
-        "read" => read(alloc, text),
-        "sections" => sections(alloc, text),
-        "line" => line(alloc, text),
-        "command" => command(alloc, text),
-        "reply" => reply(alloc, text),
-        _ => bail!("no such word"),
+        "script" => script(alloc, text, out),
+        "read" => read(alloc, text, out),
+        "sections" => sections(alloc, text, out),
+        "line" => line(alloc, text, out),
+        "command" => command(alloc, text, out),
+        "reply" => reply(alloc, text, out),
+        _ => None,
     }
 }
 
-/// What comes of a row.
-fn row_answer(alloc: Global, row: &str) -> Result<String> {
+/// Says what comes of a row.
+fn answer_row(alloc: Global, row: &str, out: &mut String) -> Option<()> {
     let (word, text) = row.split_once(' ').unwrap_or((row, ""));
     let text = spelled(alloc, text)?;
-    answer(alloc, word, text.as_slice())
+    answer(alloc, word, text.as_slice(), out)
+}
+
+/// What comes of a row; a row that cannot be read is reported.
+fn row_answer(alloc: Global, row: &str) -> Result<String, AllocError> {
+    let mut out = String::new(alloc);
+    if answer_row(alloc, row, &mut out).is_none() {
+        out.push_str("a row that is not read")?;
+    }
+    Ok(out)
 }
 
 /// Adds lines, each after two blanks.
-fn push_below(answers: &mut String, lines: &str) -> Result<()> {
+fn push_below(answers: &mut String, lines: &str) -> Result<(), AllocError> {
     for line in lines.lines() {
         answers.push_str("  ")?;
         answers.push_str(line)?;
@@ -37,12 +45,11 @@ fn push_below(answers: &mut String, lines: &str) -> Result<()> {
 }
 
 /// Adds a row, and below it what comes of it. A comment and an empty row stand for themselves.
-pub fn push_row(alloc: Global, answers: &mut String, row: &str) -> Result<()> {
+pub fn push_row(alloc: Global, answers: &mut String, row: &str) -> Result<(), AllocError> {
     answers.push_str(row)?;
     answers.push('\n')?;
     if row.is_empty() || row.starts_with('#') {
         return Ok(());
     }
-    let answer = row_answer(alloc, row).context(row)?;
-    push_below(answers, answer.as_str())
+    push_below(answers, row_answer(alloc, row)?.as_str())
 }

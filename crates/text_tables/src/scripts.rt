@@ -1,82 +1,72 @@
 //! What scripts say, and the first bad line of bad ones.
 
-use anyhow::{Result, bail};
-use history_reading::{
-    Actor, Command, Entry, OutOfMemory, Reply, ScriptFault, history_line, read_script,
-};
+use history_reading::{Actor, Command, Entry, Reply, ScriptFault, history_line, read_script};
 use std::alloc::Global;
 use std::str::from_utf8;
 
-/// What is wrong with a text.
-pub fn shown_fault(alloc: Global, fault: ScriptFault) -> Result<String> {
+/// Says what is wrong with a text.
+pub fn push_fault(fault: ScriptFault, out: &mut String) -> Option<()> {
     match fault {
-        ScriptFault::Bad { line, kind } => Ok(format!(in alloc; "line {line}: {kind:?}")?),
-        ScriptFault::OutOfMemory => bail!("out of memory"),
+        ScriptFault::Bad { line, kind } => write!(out, "line {line}: {kind:?}").ok(),
+        ScriptFault::OutOfMemory => None,
     }
 }
 
-/// Adds the line of a client's command that is done.
-fn push_done(
-    alloc: Global,
-    history: &mut Vec<u8>,
-    number: u8,
-    command: Command,
-) -> Result<(), OutOfMemory> {
+/// The line that a history has of an entry.
+fn push_line(alloc: Global, entry: &Entry, out: &mut String) -> Option<()> {
+    let line = history_line(alloc, entry).ok()?;
+    out.push_str(from_utf8(line.as_slice()).ok()?).ok()
+}
+
+/// The line of a client's command that is done.
+fn push_done(alloc: Global, number: u8, command: Command, out: &mut String) -> Option<()> {
     let entry = Entry {
         actor: Actor::Client(number),
         command,
         reply: Reply::Done,
         stamp: 0,
     };
-    let line = history_line(alloc, &entry)?;
-    history.extend_from_slice(line.as_slice())
+    push_line(alloc, &entry, out)
 }
 
-/// Adds the lines of a client's commands that are all done.
-fn push_all(
-    alloc: Global,
-    history: &mut Vec<u8>,
-    number: u8,
-    commands: Vec<Command>,
-) -> Result<(), OutOfMemory> {
+/// The lines of a client's commands that are all done.
+fn push_all(alloc: Global, number: u8, commands: Vec<Command>, out: &mut String) -> Option<()> {
     for command in commands {
-        push_done(alloc, history, number, command)?;
+        push_done(alloc, number, command, out)?;
     }
-    Ok(())
+    Some(())
 }
 
-/// The commands of a script as a history has them, where all are done, or its first bad line.
-pub fn script(alloc: Global, text: &[u8]) -> Result<String> {
-    let script = match read_script(alloc, text) {
-        Ok(script) => script,
-        Err(fault) => return shown_fault(alloc, fault),
+/// Says the commands of a script as a history has them, where all are done, or its first bad line.
+pub fn script(alloc: Global, text: &[u8], out: &mut String) -> Option<()> {
+    let clients = match read_script(alloc, text) {
+        Ok(script) => script.clients.into_vec(),
+        Err(fault) => return push_fault(fault, out),
     };
-    let mut history = Vec::new(alloc);
-    for section in script.clients.into_vec() {
-        let number = section.number;
-        push_all(alloc, &mut history, number, section.commands.into_vec())?;
+    for section in clients {
+        push_all(alloc, section.number, section.commands.into_vec(), out)?;
     }
-    if history.is_empty() {
-        return Ok(String::from_str(alloc, "no command")?);
+    if out.is_empty() {
+        out.push_str("no command").ok()?;
     }
-    Ok(String::from_str(alloc, from_utf8(history.as_slice())?)?)
+    Some(())
 }
 
-/// Whether a text is read as a script, or its first bad line.
-pub fn read(alloc: Global, text: &[u8]) -> Result<String> {
+/// Says whether a text is read as a script, or its first bad line.
+pub fn read(alloc: Global, text: &[u8], out: &mut String) -> Option<()> {
     match read_script(alloc, text) {
-        Ok(_) => Ok(String::from_str(alloc, "read")?),
-        Err(fault) => shown_fault(alloc, fault),
+        Ok(_) => out.push_str("read").ok(),
+        Err(fault) => push_fault(fault, out),
     }
 }
 
-/// The clients of a script in the order of their sections, and whether the mover has one.
-pub fn sections(alloc: Global, text: &[u8]) -> Result<String> {
-    let script = read_script(alloc, text)?;
-    let mut numbers = String::from_str(alloc, "clients")?;
+/// Says the clients of a script in the order of their sections, and whether the mover has one.
+pub fn sections(alloc: Global, text: &[u8], out: &mut String) -> Option<()> {
+    let script = read_script(alloc, text).ok()?;
+    out.push_str("clients").ok()?;
     for section in script.clients.as_slice() {
-        numbers.push_str(format!(in alloc; " {}", section.number)?.as_str())?;
+        write!(out, " {}", section.number).ok()?;
     }
     let mover = if script.mover.is_some() { "a" } else { "no" };
-    Ok(format!(in alloc; "{numbers}, {mover} mover")?)
+    write!(out, ", {mover} mover").ok()
 }

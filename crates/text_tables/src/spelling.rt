@@ -1,62 +1,61 @@
 //! Texts as rows spell them. After a backslash stands `n`, `r` or `t` for the end of a line, a
 //! carriage return or a tab, or `x` and two digits for another byte. `{33 /a}` is `/a` 33 times.
 
-use anyhow::{Context, Result, bail};
-use std::alloc::{AllocError, Global};
+use std::alloc::Global;
+
+/// The byte that two digits say, and what follows them.
+fn digits(part: &str) -> Option<(u8, &str)> {
+    let (digits, rest) = part.split_at_checked(2)?;
+    Some((u8::from_str_radix(digits, 16).ok()?, rest))
+}
 
 /// The byte that a part after a backslash begins with, and what follows it.
-fn escaped(part: &str) -> Result<(u8, &str)> {
-    let (letter, rest) = part.split_at_checked(1).context("a letter")?;
+fn escaped(part: &str) -> Option<(u8, &str)> {
+    let (letter, rest) = part.split_at_checked(1)?;
     match letter {
-        "n" => Ok((b'\n', rest)),
-        "r" => Ok((b'\r', rest)),
-        "t" => Ok((b'\t', rest)),
-        "x" => {
-            let (digits, rest) = rest.split_at_checked(2).context("two digits")?;
-            Ok((u8::from_str_radix(digits, 16)?, rest))
-        }
-        _ => bail!("no such letter"),
+        "n" => Some((b'\n', rest)),
+        "r" => Some((b'\r', rest)),
+        "t" => Some((b'\t', rest)),
+        "x" => digits(rest),
+        _ => None,
     }
+}
+
+/// Adds a part after a backslash.
+fn push_escaped(bytes: &mut Vec<u8>, part: &str) -> Option<()> {
+    let (byte, rest) = escaped(part)?;
+    bytes.push(byte).ok()?;
+    bytes.extend_from_slice(rest.as_bytes()).ok()
 }
 
 /// Adds a text without repeated parts.
-fn push_plain(bytes: &mut Vec<u8>, text: &str) -> Result<()> {
+fn push_plain(bytes: &mut Vec<u8>, text: &str) -> Option<()> {
     let mut parts = text.split('\\');
     let first = parts.next().unwrap_or("");
-    bytes.extend_from_slice(first.as_bytes())?;
+    bytes.extend_from_slice(first.as_bytes()).ok()?;
     for part in parts {
-        let (byte, rest) = escaped(part)?;
-        bytes.push(byte)?;
-        bytes.extend_from_slice(rest.as_bytes())?;
+        push_escaped(bytes, part)?;
     }
-    Ok(())
-}
-
-/// Adds bytes so many times.
-fn push_often(bytes: &mut Vec<u8>, times: u32, part: &[u8]) -> Result<(), AllocError> {
-    for _ in 0..times {
-        bytes.extend_from_slice(part)?;
-    }
-    Ok(())
+    Some(())
 }
 
 /// Adds a part that is repeated, and what follows it.
-fn push_repeated(alloc: Global, bytes: &mut Vec<u8>, text: &str) -> Result<()> {
-    let (repeated, rest) = text.split_once('}').context("a closing brace")?;
-    let (times, part) = repeated.split_once(' ').context("how often")?;
-    let mut once = Vec::new(alloc);
-    push_plain(&mut once, part)?;
-    push_often(bytes, times.parse()?, once.as_slice())?;
+fn push_repeated(bytes: &mut Vec<u8>, text: &str) -> Option<()> {
+    let (repeated, rest) = text.split_once('}')?;
+    let (times, part) = repeated.split_once(' ')?;
+    for _ in 0..times.parse::<u32>().ok()? {
+        push_plain(bytes, part)?;
+    }
     push_plain(bytes, rest)
 }
 
 /// The bytes that a text spells.
-pub fn spelled(alloc: Global, text: &str) -> Result<Vec<u8>> {
+pub fn spelled(alloc: Global, text: &str) -> Option<Vec<u8>> {
     let mut bytes = Vec::new(alloc);
     let mut parts = text.split('{');
     push_plain(&mut bytes, parts.next().unwrap_or(""))?;
     for part in parts {
-        push_repeated(alloc, &mut bytes, part)?;
+        push_repeated(&mut bytes, part)?;
     }
-    Ok(bytes)
+    Some(bytes)
 }
