@@ -2,89 +2,88 @@
 //! refunded, l limits a user, k keeps the book, and b takes it back. After them stands what three
 //! users, three groups and the fileset use then, each with its limit.
 
-use crate::quotas::{all_have, charge, refund};
+use crate::quotas::{charge, refund};
 use crate::random::{Random, two_numbers};
-use anyhow::Result;
-use fileset_table::{Limits, Owner, Usage};
+use fileset_table::{Limits, OutOfMemory, Owner, Usage};
 use quota_book::QuotaBook;
 use std::alloc::Global;
 
-/// Refunds where all whose that is use so much.
-fn refund_or_not(book: &mut QuotaBook, uid: u32, gid: u32, part: &Usage) -> Result<char> {
-    if !all_have(book, uid, gid, part) {
-        return Ok('x');
-    }
-    refund(book, uid, gid, part)?;
-    Ok('r')
-}
-
 /// Limits a user.
-fn limit(book: &mut QuotaBook, uid: u32, numbers: &Usage) -> Result<char> {
+fn limit(book: &mut QuotaBook, uid: u32, numbers: &Usage) -> Option<()> {
     let limits = Limits {
         files: numbers.files,
         blocks: numbers.blocks,
     };
-    book.set_limits(Owner::User(uid), limits)?;
-    Ok('l')
+    book.set_limits(Owner::User(uid), limits).ok()
 }
 
 /// A random call, and the letter for it.
-fn step(random: &mut Random, book: &mut QuotaBook) -> Result<char> {
+fn step(random: &mut Random, book: &mut QuotaBook) -> Option<char> {
     let (uid, gid) = (random.next() % 3, random.next() % 3);
     let numbers = Usage {
         files: (random.next() % 3) as u64,
         blocks: (random.next() % 3 * 16) as u64,
     };
     match random.next() % 8 {
-        0 | 1 | 2 => charge(book, uid, gid, &numbers)?,
-        3 | 4 => return refund_or_not(book, uid, gid, &numbers),
-        5 => return limit(book, uid, &numbers),
+        0 | 1 | 2 => charge(book, uid, gid, &numbers).map(|_| 'c'),
+        3 | 4 => Some(refund(book, uid, gid, &numbers).map_or('x', |_| 'r')),
+        5 => limit(book, uid, &numbers).map(|_| 'l'),
         6 => {
             book.keep();
-            return Ok('k');
+            Some('k')
         }
         _ => {
             book.take_back();
-            return Ok('b');
+            Some('b')
         }
     }
-    Ok('c')
+}
+
+/// The first three are users, the next three groups, and the others the fileset.
+fn owner_at(number: u32) -> Owner {
+    match number {
+        0..=2 => Owner::User(number),
+        3..=5 => Owner::Group(number - 3),
+        _ => Owner::Fileset,
+    }
 }
 
 /// Adds what an owner uses, each with its limit.
-fn push_owner(alloc: Global, text: &mut String, book: &QuotaBook, who: Owner) -> Result<()> {
+fn push_owner(book: &QuotaBook, who: Owner, out: &mut String) -> Result<(), OutOfMemory> {
     let usage = book.usage(who);
     let limits = book.limits(who);
-    let files = format!(in alloc; "{}/{}", usage.files, limits.files)?;
-    let blocks = format!(in alloc; "{}/{}", usage.blocks, limits.blocks)?;
-    text.push_str(format!(in alloc; " {files} {blocks},")?.as_str())?;
-    Ok(())
+    write!(out, " {}/{}", usage.files, limits.files)?;
+    write!(out, " {}/{},", usage.blocks, limits.blocks)
 }
 
 /// Adds what all owners use.
-fn push_owners(alloc: Global, text: &mut String, book: &QuotaBook) -> Result<()> {
-    for id in 0..3 {
-        push_owner(alloc, text, book, Owner::User(id))?;
+fn push_owners(book: &QuotaBook, out: &mut String) -> Result<(), OutOfMemory> {
+    for number in 0..7 {
+        push_owner(book, owner_at(number), out)?;
     }
-    for id in 0..3 {
-        push_owner(alloc, text, book, Owner::Group(id))?;
-    }
-    push_owner(alloc, text, book, Owner::Fileset)?;
-    text.push('\n')?;
-    Ok(())
+    out.push('\n')
 }
 
-/// What random calls of a book leave: a line has the seed and the number of calls.
-pub fn random_books(alloc: Global, line: &str) -> Result<String> {
+/// Makes so many calls, and says what they leave.
+fn push_calls(
+    random: &mut Random,
+    book: &mut QuotaBook,
+    calls: u32,
+    out: &mut String,
+) -> Option<()> {
+    for call in 0..calls {
+        out.push(step(random, book)?).ok()?;
+        if call % 20 == 19 {
+            push_owners(book, out).ok()?;
+        }
+    }
+    Some(())
+}
+
+/// Says what random calls of a book leave: a line has the seed and the number of calls.
+pub fn random_books(alloc: Global, line: &str, out: &mut String) -> Option<()> {
     let (seed, calls) = two_numbers(line)?;
     let mut random = Random { state: seed };
     let mut book = QuotaBook::new(alloc);
-    let mut text = String::new(alloc);
-    for call in 0..calls {
-        text.push(step(&mut random, &mut book)?)?;
-        if call % 20 == 19 {
-            push_owners(alloc, &mut text, &book)?;
-        }
-    }
-    Ok(text)
+    push_calls(&mut random, &mut book, calls, out)
 }

@@ -1,132 +1,153 @@
 //! Pages and tables as lines of text. A line of a page has a place and bytes in hexadecimal digits;
 //! what no line says is zeros. A line of a table has a slot that is not free, and what it has.
-use anyhow::{Context, Result, bail};
 use fileset_table::limits::{FILESET_SLOTS, PAGE_BYTES};
 use fileset_table::{
-    CellAt, FilesetEntry, FilesetNo, FilesetTable, Home, OutOfMemory, Page, SlotItem, TableFault,
+    CellAt, FilesetEntry, FilesetNo, FilesetTable, Home, OutOfMemory, Page, SlotItem,
 };
-use hex::{decode, encode};
+use hex::decode;
 use std::alloc::Global;
 
-/// Puts bytes on a page.
-fn put_bytes(page: &mut Page, at: usize, bytes: &[u8]) -> Result<()> {
+/// Puts bytes on a page, and tells where they end.
+fn put_bytes(page: &mut Page, at: usize, bytes: &[u8]) -> Option<usize> {
     if PAGE_BYTES < at || PAGE_BYTES - at < bytes.len() {
-        bail!("bytes of a page");
+        return None;
     }
     page.set(at, bytes);
-    Ok(())
+    Some(at + bytes.len())
 }
 
-/// Puts a place's bytes on a page.
-fn put_place(alloc: Global, page: &mut Page, text: &str) -> Result<()> {
-    let mut words = text.split(' ');
-    let at = words.next().context("a place")?.parse()?;
-    let mut bytes = Vec::new(alloc);
-    for word in words {
-        bytes.extend_from_slice(&decode(alloc, word)?)?;
-    }
+/// Puts the bytes of a word on a page, and tells where they end.
+fn put_word(alloc: Global, page: &mut Page, at: usize, word: &str) -> Option<usize> {
+    let bytes = decode(alloc, word).ok()?;
     put_bytes(page, at, &bytes)
 }
 
+/// Puts a place's bytes on a page.
+fn put_place(alloc: Global, page: &mut Page, text: &str) -> Option<()> {
+    let (place, words) = text.split_once(' ')?;
+    let mut at = place.parse().ok()?;
+    for word in words.split(' ') {
+        at = put_word(alloc, page, at, word)?;
+    }
+    Some(())
+}
+
 /// Does what one line says: it has places with a comma between two of them.
-pub fn put_line(alloc: Global, page: &mut Page, line: &str) -> Result<()> {
+pub fn put_line(alloc: Global, page: &mut Page, line: &str) -> Option<()> {
     for text in line.split(", ") {
         put_place(alloc, page, text)?;
+    }
+    Some(())
+}
+
+fn push_home(home: &Option<Home>, out: &mut String) -> Result<(), OutOfMemory> {
+    match home {
+        Some(home) => write!(out, "{}.{}", home.vol.number(), home.page),
+        None => out.push('-'),
+    }
+}
+
+/// Adds the cell as a text, or `-`.
+pub fn push_cell(at: &Option<CellAt>, out: &mut String) -> Result<(), OutOfMemory> {
+    match at {
+        Some(at) => write!(out, "{}.{}.{}", at.vol.number(), at.page, at.cell),
+        None => out.push('-'),
+    }
+}
+
+/// Adds a name, whose bytes are characters.
+fn push_name(bytes: &[u8], out: &mut String) -> Result<(), OutOfMemory> {
+    for byte in bytes {
+        out.push(char::from(*byte))?;
     }
     Ok(())
 }
 
-fn shown_home(alloc: Global, home: &Option<Home>) -> Result<String, OutOfMemory> {
-    match home {
-        Some(home) => format!(in alloc; "{}.{}", home.vol.number(), home.page),
-        None => String::from_str(alloc, "-"),
-    }
+/// Adds the name of a fileset, its first tag page, its limits and its first quota cell.
+fn push_entry(entry: &FilesetEntry, out: &mut String) -> Result<(), OutOfMemory> {
+    push_name(entry.name.as_slice(), out)?;
+    out.push_str(" first ")?;
+    push_home(&Some(entry.first_tag), out)?;
+    write!(
+        out,
+        " limits {} {} quota ",
+        entry.files_limit, entry.blocks_limit
+    )?;
+    push_cell(&entry.quota, out)
 }
 
-/// The cell as a text, or `-`.
-pub fn shown_cell(alloc: Global, at: &Option<CellAt>) -> Result<String, OutOfMemory> {
-    match at {
-        Some(at) => format!(in alloc; "{}.{}.{}", at.vol.number(), at.page, at.cell),
-        None => String::from_str(alloc, "-"),
-    }
+/// Adds what is to be released of a fileset.
+fn push_removed(
+    first: &Option<Home>,
+    quota: &Option<CellAt>,
+    out: &mut String,
+) -> Result<(), OutOfMemory> {
+    out.push_str("removed first ")?;
+    push_home(first, out)?;
+    out.push_str(" quota ")?;
+    push_cell(quota, out)
 }
 
-/// A name, whose bytes are characters.
-fn shown_name(alloc: Global, bytes: &[u8]) -> Result<String, OutOfMemory> {
-    let mut text = String::new(alloc);
-    for byte in bytes {
-        text.push(char::from(*byte))?;
-    }
-    Ok(text)
-}
-
-/// The name of a fileset, its first tag page, its limits and its first quota cell.
-fn shown_entry(alloc: Global, entry: &FilesetEntry) -> Result<String, OutOfMemory> {
-    let name = shown_name(alloc, entry.name.as_slice())?;
-    let first = shown_home(alloc, &Some(entry.first_tag))?;
-    let quota = shown_cell(alloc, &entry.quota)?;
-    let (files, blocks) = (entry.files_limit, entry.blocks_limit);
-    format!(in alloc; "{name} first {first} limits {files} {blocks} quota {quota}")
-}
-
-/// What a slot has in words, if it is not free.
-fn shown_slot(alloc: Global, item: &SlotItem) -> Result<Option<String>, OutOfMemory> {
+/// Adds what a slot has in words.
+fn push_item(item: &SlotItem, out: &mut String) -> Result<(), OutOfMemory> {
     match item {
-        SlotItem::Free => Ok(None),
+        SlotItem::Free => Ok(()),
         SlotItem::Original { entry } => {
-            let entry = shown_entry(alloc, entry)?;
-            Ok(Some(format!(in alloc; "original {entry}")?))
+            out.push_str("original ")?;
+            push_entry(entry, out)
         }
         SlotItem::Clone {
             original,
             number,
             entry,
         } => {
-            let entry = shown_entry(alloc, entry)?;
-            let original = original.number();
-            Ok(Some(format!(in alloc; "clone {number} of {original} {entry}")?))
+            write!(out, "clone {number} of {} ", original.number())?;
+            push_entry(entry, out)
         }
-        SlotItem::Removed { first_tag, quota } => {
-            let first = shown_home(alloc, first_tag)?;
-            let quota = shown_cell(alloc, quota)?;
-            Ok(Some(format!(in alloc; "removed first {first} quota {quota}")?))
-        }
+        SlotItem::Removed { first_tag, quota } => push_removed(first_tag, quota, out),
     }
 }
 
-/// A table in lines.
-pub fn shown_table(alloc: Global, table: &FilesetTable) -> Result<String, OutOfMemory> {
-    let mut text = format!(in alloc; "made {}\n", table.made())?;
+/// Adds the line of a slot, if it is not free.
+fn push_slot(number: FilesetNo, item: &SlotItem, out: &mut String) -> Result<(), OutOfMemory> {
+    if let SlotItem::Free = item {
+        return Ok(());
+    }
+    write!(out, "{} ", number.number())?;
+    push_item(item, out)?;
+    out.push('\n')
+}
+
+/// Adds a table in lines.
+pub fn push_table(table: &FilesetTable, out: &mut String) -> Result<(), OutOfMemory> {
+    writeln!(out, "made {}", table.made())?;
     for n in 0..FILESET_SLOTS {
         if let Some(number) = FilesetNo::new(n) {
-            if let Some(slot) = shown_slot(alloc, table.slot(number))? {
-                text.push_str(format!(in alloc; "{n} {slot}\n")?.as_str())?;
-            }
+            push_slot(number, table.slot(number), out)?;
         }
     }
-    Ok(text)
+    Ok(())
 }
 
-/// What reading a page gives: the lines of its table, or `bad`.
-pub fn reading(alloc: Global, page: &Page) -> Result<String> {
-    match FilesetTable::read(alloc, page) {
-        Ok(table) => Ok(shown_table(alloc, &table)?),
-        Err(TableFault::Bad) => Ok(String::from_str(alloc, "bad")?),
-        Err(TableFault::OutOfMemory) => bail!("out of memory"),
+/// Adds a group of bytes: its number, and its digits.
+fn push_group(number: usize, group: &[u8], out: &mut String) -> Result<(), OutOfMemory> {
+    if !out.is_empty() {
+        out.push(' ')?;
     }
+    write!(out, "{number}:")?;
+    for byte in group {
+        write!(out, "{byte:02x}")?;
+    }
+    Ok(())
 }
 
-/// The bytes of a page in groups of eight: the number of each group that is not zeros, and its
+/// Adds the bytes of a page in groups of eight: the number of each group that is not zeros, and its
 /// digits.
-pub fn shown_bytes(alloc: Global, bytes: &[u8]) -> Result<String> {
-    let mut text = String::new(alloc);
+pub fn push_bytes(bytes: &[u8], out: &mut String) -> Result<(), OutOfMemory> {
     for (number, group) in bytes.chunks(8).enumerate() {
         if group.iter().any(|byte| *byte != 0) {
-            let digits = encode(alloc, group)?;
-            let space = if text.is_empty() { "" } else { " " };
-            let word = format!(in alloc; "{space}{number}:{}", digits.as_str())?;
-            text.push_str(word.as_str())?;
+            push_group(number, group, out)?;
         }
     }
-    Ok(text)
+    Ok(())
 }

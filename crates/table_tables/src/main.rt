@@ -12,11 +12,10 @@ mod tag_random;
 mod tags;
 mod trial;
 
-use anyhow::Result;
 use blocks::push_block;
 use std::io;
 
-fn main(rt: HostRuntime) -> Result<()> {
+fn main(rt: HostRuntime) -> io::Result<()> {
     let text = io::read_to_string(rt.alloc(), rt.reader())?;
     let mut answers = String::new(rt.alloc());
     for block in text.as_str().split_inclusive("\n\n") {

@@ -5,7 +5,6 @@ ghost use Rattle.std.specs.Prelude.{IsTrue};
 ghost use Rattle.quota_book.specs.Book.{FitsAll, HasAll, IsBelow, IsWithin, used};
 
 use crate::blocks::{is_idle, push_answer};
-use anyhow::{Context, Result, bail};
 use fileset_table::{Limits, OutOfMemory, Owner, Record, Refusal, Usage};
 use quota_book::{QuotaBook, are_once, read_limits};
 use std::alloc::Global;
@@ -34,7 +33,7 @@ fn all_fit(book: &QuotaBook, uid: u32, gid: u32, more: &Usage) -> bool
         && fits(book, Owner::Fileset, more)
 }
 
-pub(crate) fn all_have(book: &QuotaBook, uid: u32, gid: u32, part: &Usage) -> bool
+fn all_have(book: &QuotaBook, uid: u32, gid: u32, part: &Usage) -> bool
     ensures { IsTrue result → HasAll uid gid part.now.files part.now.blocks (used book.now.book) }
 {
     has(book, Owner::User(uid), part)
@@ -42,40 +41,32 @@ pub(crate) fn all_have(book: &QuotaBook, uid: u32, gid: u32, part: &Usage) -> bo
         && has(book, Owner::Fileset, part)
 }
 
-pub(crate) fn charge(book: &mut QuotaBook, uid: u32, gid: u32, more: &Usage) -> Result<()> {
+/// Charges, where all whose that is use so much less than 2^64.
+pub(crate) fn charge(book: &mut QuotaBook, uid: u32, gid: u32, more: &Usage) -> Option<()> {
     if !all_fit(book, uid, gid, more) {
-        bail!("a call that may not be made");
+        return None;
     }
-    book.charge(uid, gid, more.files, more.blocks)?;
-    Ok(())
+    book.charge(uid, gid, more.files, more.blocks).ok()
 }
 
-pub(crate) fn refund(book: &mut QuotaBook, uid: u32, gid: u32, part: &Usage) -> Result<()> {
+/// Refunds, where all whose that is use so much.
+pub(crate) fn refund(book: &mut QuotaBook, uid: u32, gid: u32, part: &Usage) -> Option<()> {
     if !all_have(book, uid, gid, part) {
-        bail!("a call that may not be made");
+        return None;
     }
     book.refund(uid, gid, part.files, part.blocks);
-    Ok(())
+    Some(())
 }
 
-/// A word and what follows it.
-fn word_of(text: &str) -> Result<(&str, &str)> {
-    Ok(text.split_once(' ').context("a word")?)
-}
-
-/// An id and what follows it.
-fn id_of(text: &str) -> Result<(u32, &str)> {
-    let (id, rest) = word_of(text)?;
-    Ok((id.parse()?, rest))
-}
-
-/// Numbers of files and of blocks.
-fn usage_of(text: &str) -> Result<Usage> {
-    let (files, blocks) = word_of(text)?;
-    Ok(Usage {
-        files: files.parse()?,
-        blocks: blocks.parse()?,
-    })
+/// An id, and numbers of files and of blocks.
+fn id_and_usage(text: &str) -> Option<(u32, Usage)> {
+    let (id, rest) = text.split_once(' ')?;
+    let (files, blocks) = rest.split_once(' ')?;
+    let usage = Usage {
+        files: files.parse().ok()?,
+        blocks: blocks.parse().ok()?,
+    };
+    Some((id.parse().ok()?, usage))
 }
 
 fn owner_of(kind: &str, id: u32) -> Owner {
@@ -86,36 +77,35 @@ fn owner_of(kind: &str, id: u32) -> Owner {
     }
 }
 
-fn shown_refusal(alloc: Global, refusal: &Option<Refusal>) -> Result<String, OutOfMemory> {
+fn push_refusal(refusal: &Option<Refusal>, out: &mut String) -> Result<(), OutOfMemory> {
     match refusal {
-        Some(Refusal::QuotaFiles { limit, used }) => format!(in alloc; "files {limit} {used}"),
+        Some(Refusal::QuotaFiles { limit, used }) => write!(out, "files {limit} {used}"),
         Some(Refusal::QuotaBlocks { limit, used, asked }) => {
-            format!(in alloc; "blocks {limit} {used} {asked}")
+            write!(out, "blocks {limit} {used} {asked}")
         }
-        Some(_) => String::from_str(alloc, "another"),
-        None => String::from_str(alloc, "none"),
+        Some(_) => out.push_str("another"),
+        None => out.push_str("none"),
     }
 }
 
-/// What an owner uses, and their limits.
-fn shown_owner(alloc: Global, book: &QuotaBook, who: Owner) -> Result<String, OutOfMemory> {
+/// Adds what an owner uses, and their limits.
+fn push_owner(book: &QuotaBook, who: Owner, out: &mut String) -> Result<(), OutOfMemory> {
     let usage = book.usage(who);
     let limits = book.limits(who);
-    let (files, blocks) = (usage.files, usage.blocks);
-    format!(in alloc; "{files} {} {blocks} {}", limits.files, limits.blocks)
+    write!(out, "{} {} ", usage.files, limits.files)?;
+    write!(out, "{} {}", usage.blocks, limits.blocks)
 }
 
-/// What the book answers of an owner.
+/// Says what the book answers of an owner.
 fn answer(
-    alloc: Global,
     book: &mut QuotaBook,
     call: &str,
     who: Owner,
     numbers: &Usage,
-) -> Result<String> {
+    out: &mut String,
+) -> Result<(), OutOfMemory> {
     if call == "ask" {
-        let refusal = book.ask(who, numbers.files, numbers.blocks);
-        return Ok(shown_refusal(alloc, &refusal)?);
+        return push_refusal(&book.ask(who, numbers.files, numbers.blocks), out);
     }
     if call == "limit" {
         let limits = Limits {
@@ -124,33 +114,31 @@ fn answer(
         };
         book.set_limits(who, limits)?;
     }
-    Ok(shown_owner(alloc, book, who)?)
+    push_owner(book, who, out)
 }
 
-/// What comes of a line without its arrow.
-fn done(alloc: Global, book: &mut QuotaBook, line: &str) -> Result<String> {
-    let (call, rest) = word_of(line)?;
-    let (first, rest) = word_of(rest)?;
-    let (id, rest) = id_of(rest)?;
-    let numbers = usage_of(rest)?;
+/// Says what comes of a call: a line has its word, an owner or a user, an id, and two numbers.
+fn done(book: &mut QuotaBook, line: &str, out: &mut String) -> Option<()> {
+    let (call, rest) = line.split_once(' ')?;
+    let (first, rest) = rest.split_once(' ')?;
+    let (id, numbers) = id_and_usage(rest)?;
     match call {
-        "charge" => charge(book, first.parse()?, id, &numbers)?,
-        "refund" => refund(book, first.parse()?, id, &numbers)?,
+        "charge" => charge(book, first.parse().ok()?, id, &numbers)?,
+        "refund" => refund(book, first.parse().ok()?, id, &numbers)?,
         "keep" => book.keep(),
         "back" => book.take_back(),
-        _ => return answer(alloc, book, call, owner_of(first, id), &numbers),
+        _ => return answer(book, call, owner_of(first, id), &numbers, out).ok(),
     }
-    Ok(String::from_str(alloc, "done")?)
+    out.push_str("done").ok()
 }
 
 /// The record that a line tells: the kind of its owner, an id, and limits of files and of blocks.
-fn record_of(line: &str) -> Result<Record> {
-    let (kind, rest) = word_of(line)?;
-    let (id, rest) = id_of(rest)?;
-    let Usage { files, blocks } = usage_of(rest)?;
+fn record_of(line: &str) -> Option<Record> {
+    let (kind, rest) = line.split_once(' ')?;
+    let (id, Usage { files, blocks }) = id_and_usage(rest)?;
     match kind {
-        "user" => Ok(Record::UserQuota { id, files, blocks }),
-        _ => Ok(Record::GroupQuota { id, files, blocks }),
+        "user" => Some(Record::UserQuota { id, files, blocks }),
+        _ => Some(Record::GroupQuota { id, files, blocks }),
     }
 }
 
@@ -162,39 +150,49 @@ struct Desk {
 }
 
 /// Makes a book of the records, if they say nothing of an owner twice.
-fn read(alloc: Global, desk: &mut Desk) -> Result<String> {
+fn read(alloc: Global, desk: &mut Desk, out: &mut String) -> Result<(), OutOfMemory> {
     if !are_once(alloc, &desk.records)? {
-        return Ok(String::from_str(alloc, "an owner twice")?);
+        return out.push_str("an owner twice");
     }
     desk.book = read_limits(alloc, &desk.records)?;
-    Ok(String::from_str(alloc, "each owner once")?)
+    out.push_str("each owner once")
 }
 
 /// Does what a line says.
-fn call(alloc: Global, desk: &mut Desk, line: &str) -> Result<String> {
+fn call(alloc: Global, desk: &mut Desk, line: &str, out: &mut String) -> Option<()> {
     if line == "read" {
-        return read(alloc, desk);
+        return read(alloc, desk, out).ok();
     }
-    if let Some(text) = line.strip_prefix("record ") {
-        desk.records.push(record_of(text)?)?;
-        return Ok(String::new(alloc));
+    match line.strip_prefix("record ") {
+        Some(text) => desk.records.push(record_of(text)?).ok(),
+        None => done(&mut desk.book, line, out),
     }
-    done(alloc, &mut desk.book, line)
+}
+
+/// Adds a line with what it answers.
+fn push_line(
+    alloc: Global,
+    answers: &mut String,
+    desk: &mut Desk,
+    line: &str,
+) -> Result<(), OutOfMemory> {
+    let mut out = String::new(alloc);
+    let is_read = is_idle(line) || call(alloc, desk, line, &mut out).is_some();
+    push_answer(answers, line, is_read, out.as_str())
 }
 
 /// Adds the lines of a new book, with what they answer.
-pub(crate) fn push_quotas(alloc: Global, answers: &mut String, lines: &str) -> Result<()> {
+pub(crate) fn push_quotas(
+    alloc: Global,
+    answers: &mut String,
+    lines: &str,
+) -> Result<(), OutOfMemory> {
     let mut desk = Desk {
         book: QuotaBook::new(alloc),
         records: Vec::new(alloc),
     };
     for line in lines.lines() {
-        if is_idle(line) {
-            push_answer(answers, line, "")?;
-        } else {
-            let answer = call(alloc, &mut desk, line).context(line)?;
-            push_answer(answers, line, answer.as_str())?;
-        }
+        push_line(alloc, answers, &mut desk, line)?;
     }
     Ok(())
 }

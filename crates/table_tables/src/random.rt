@@ -2,13 +2,14 @@
 //! first free slot, the states of all, and the names that are found.
 ghost use Rattle.std.specs.Prelude.{◌<◌};
 
-use anyhow::{Context, Result};
 use fileset_table::limits::FILESET_SLOTS;
-use fileset_table::{FilesetEntry, FilesetName, FilesetNo, FilesetTable, Home, SlotItem, VolIx};
+use fileset_table::{
+    FilesetEntry, FilesetName, FilesetNo, FilesetTable, Home, OutOfMemory, SlotItem, VolIx,
+};
 use std::alloc::Global;
 
 /// Numbers that are always the same ones.
-#[derive(Drop)]
+#[derive(Clone, Copy)]
 pub(crate) struct Random {
     pub(crate) state: u64,
 }
@@ -24,44 +25,50 @@ impl Random {
     }
 }
 
-/// What a table has where a slot is drawn: one of eight numbers for its state, the one letter of
-/// its name, and the original that it names.
-fn item_of(alloc: Global, state: u32, letter: u8, original: u32) -> Result<SlotItem> {
-    let first_tag = Home {
-        vol: VolIx::new(1).context("a volume")?,
-        page: 200,
-    };
-    let entry = FilesetEntry {
-        name: FilesetName::from_vec(Vec::from_slice(alloc, &[letter])?),
+/// What is said of a fileset with a name of one letter.
+fn entry_of(alloc: Global, letter: u8, first_tag: Home) -> Option<FilesetEntry> {
+    Some(FilesetEntry {
+        name: FilesetName::from_vec(Vec::from_slice(alloc, &[letter]).ok()?),
         first_tag,
         files_limit: 0,
         blocks_limit: 0,
         quota: None,
+    })
+}
+
+/// What a table has where a slot is drawn: one of eight numbers for its state, the one letter of
+/// its name, and the original that it names.
+fn item_of(alloc: Global, state: u32, letter: u8, original: FilesetNo) -> Option<SlotItem> {
+    let first_tag = Home {
+        vol: VolIx::new(1)?,
+        page: 200,
     };
-    let original = FilesetNo::new(original).context("a slot")?;
-    Ok(match state {
-        0 => SlotItem::Free,
-        1 => SlotItem::Removed {
+    match state {
+        0 => Some(SlotItem::Free),
+        1 => Some(SlotItem::Removed {
             first_tag: Some(first_tag),
             quota: None,
-        },
-        2 | 3 | 4 => SlotItem::Clone {
+        }),
+        2 | 3 | 4 => Some(SlotItem::Clone {
             original,
             number: 1,
-            entry,
-        },
-        _ => SlotItem::Original { entry },
-    })
+            entry: entry_of(alloc, letter, first_tag)?,
+        }),
+        _ => Some(SlotItem::Original {
+            entry: entry_of(alloc, letter, first_tag)?,
+        }),
+    }
 }
 
 /// Puts a random slot of any state, one of twenty names and any original, and tells whether that
 /// was done.
-fn step(alloc: Global, random: &mut Random, table: &mut FilesetTable) -> Result<bool> {
-    let number = FilesetNo::new(random.next() % 24).context("a slot")?;
+fn step(alloc: Global, random: &mut Random, table: &mut FilesetTable) -> Option<bool> {
+    let number = FilesetNo::new(random.next() % 24)?;
     let state = random.next() % 8;
     let letter = b'a' + (random.next() % 20) as u8;
-    let item = item_of(alloc, state, letter, random.next() % FILESET_SLOTS)?;
-    Ok(table.try_set_slot(number, item).is_ok())
+    let original = FilesetNo::new(random.next() % FILESET_SLOTS)?;
+    let item = item_of(alloc, state, letter, original)?;
+    Some(table.try_set_slot(number, item).is_ok())
 }
 
 /// The letter for a slot's state.
@@ -75,56 +82,64 @@ fn state_of(item: &SlotItem) -> char {
 }
 
 /// Adds the states of all slots.
-fn push_states(text: &mut String, table: &FilesetTable) -> Result<()> {
+fn push_states(table: &FilesetTable, out: &mut String) -> Result<(), OutOfMemory> {
     for number in 0..FILESET_SLOTS {
         if let Some(number) = FilesetNo::new(number) {
-            text.push(state_of(table.slot(number)))?;
+            out.push(state_of(table.slot(number)))?;
         }
     }
     Ok(())
 }
 
 /// Adds the names that are found, each with its slot.
-fn push_found(alloc: Global, text: &mut String, table: &FilesetTable) -> Result<()> {
+fn push_found(table: &FilesetTable, out: &mut String) -> Result<(), OutOfMemory> {
     for letter in b'a'..b'a' + 21 {
         if let Some(number) = table.find(&[letter]) {
-            let letter = char::from(letter);
-            text.push_str(format!(in alloc; " {letter}{}", number.number())?.as_str())?;
+            write!(out, " {}{}", char::from(letter), number.number())?;
         }
     }
     Ok(())
 }
 
 /// Adds the first free slot, the states of all, and the names that are found.
-fn push_table(alloc: Global, text: &mut String, table: &FilesetTable) -> Result<()> {
+fn push_table(table: &FilesetTable, out: &mut String) -> Result<(), OutOfMemory> {
     match table.free_slot() {
-        Some(number) => text.push_str(format!(in alloc; " {} ", number.number())?.as_str())?,
-        None => text.push_str(" none ")?,
+        Some(number) => write!(out, " {} ", number.number())?,
+        None => out.push_str(" none ")?,
     }
-    push_states(text, table)?;
-    push_found(alloc, text, table)?;
-    text.push('\n')?;
-    Ok(())
+    push_states(table, out)?;
+    push_found(table, out)?;
+    out.push('\n')
 }
 
 /// Two numbers with a blank between them.
-pub fn two_numbers(line: &str) -> Result<(u64, u32)> {
-    let (seed, count) = line.split_once(' ').context("two numbers")?;
-    Ok((seed.parse()?, count.parse()?))
+pub fn two_numbers(line: &str) -> Option<(u64, u32)> {
+    let (seed, count) = line.split_once(' ')?;
+    Some((seed.parse().ok()?, count.parse().ok()?))
 }
 
-/// What random slots leave that are put into a new table: a line has the seed and how many.
-pub fn random_tables(alloc: Global, line: &str) -> Result<String> {
-    let (seed, count) = two_numbers(line)?;
-    let mut random = Random { state: seed };
-    let mut table = FilesetTable::new(alloc)?;
-    let mut text = String::new(alloc);
+/// Puts so many random slots, and says what they leave.
+fn push_steps(
+    alloc: Global,
+    random: &mut Random,
+    table: &mut FilesetTable,
+    count: u32,
+    out: &mut String,
+) -> Option<()> {
     for number in 0..count {
-        let is_put = step(alloc, &mut random, &mut table)?;
-        text.push(if is_put { '+' } else { '-' })?;
+        let is_put = step(alloc, random, table)?;
+        out.push(if is_put { '+' } else { '-' }).ok()?;
         if number % 20 == 19 {
-            push_table(alloc, &mut text, &table)?;
+            push_table(table, out).ok()?;
         }
     }
-    Ok(text)
+    Some(())
+}
+
+/// Says what random slots leave that are put into a new table: a line has the seed and how many.
+pub fn random_tables(alloc: Global, line: &str, out: &mut String) -> Option<()> {
+    let (seed, count) = two_numbers(line)?;
+    let mut random = Random { state: seed };
+    let mut table = FilesetTable::new(alloc).ok()?;
+    push_steps(alloc, &mut random, &mut table, count, out)
 }

@@ -3,9 +3,11 @@
 //! or change.
 
 use crate::blocks::{is_idle, push_answer};
-use crate::lines::{put_line, reading, shown_bytes, shown_cell, shown_table};
-use anyhow::{Context, Result, bail};
-use fileset_table::{FilesetNo, FilesetTable, Page, SlotItem, a_fileset_changes, written_and_read};
+use crate::lines::{push_bytes, push_cell, push_table, put_line};
+use fileset_table::{
+    CellAt, FilesetNo, FilesetTable, OutOfMemory, Page, SlotItem, TableFault, a_fileset_changes,
+    written_and_read,
+};
 use std::alloc::Global;
 
 /// How often clones are made at most.
@@ -18,31 +20,38 @@ struct Desk {
     table: FilesetTable,
 }
 
-/// Takes the table of the page.
-fn read(alloc: Global, desk: &mut Desk) -> Result<String> {
-    if let Ok(table) = FilesetTable::read(alloc, &desk.page) {
-        desk.table = table;
+/// Takes the table of the page, and says it.
+fn read(alloc: Global, desk: &mut Desk, out: &mut String) -> Option<()> {
+    match FilesetTable::read(alloc, &desk.page) {
+        Ok(table) => {
+            desk.table = table;
+            push_table(&desk.table, out).ok()
+        }
+        Err(TableFault::Bad) => out.push_str("bad").ok(),
+        Err(TableFault::OutOfMemory) => None,
     }
-    reading(alloc, &desk.page)
 }
 
-/// Whether the page is bad once it has other bytes besides.
-fn with(alloc: Global, page: &Page, change: &str) -> Result<String> {
-    let mut page = page.copy(alloc)?;
-    put_line(alloc, &mut page, change)?;
-    let reading = reading(alloc, &page)?;
-    let word = if reading.as_str() == "bad" {
-        "bad"
-    } else {
-        "a table"
-    };
-    Ok(String::from_str(alloc, word)?)
+/// Says whether a page is bad once it has other bytes besides.
+fn push_with(alloc: Global, page: &mut Page, change: &str, out: &mut String) -> Option<()> {
+    put_line(alloc, page, change)?;
+    match FilesetTable::read(alloc, page) {
+        Ok(_) => out.push_str("a table").ok(),
+        Err(TableFault::Bad) => out.push_str("bad").ok(),
+        Err(TableFault::OutOfMemory) => None,
+    }
 }
 
-fn shown_slot(alloc: Global, slot: Option<FilesetNo>) -> Result<String> {
+/// Says whether the page is bad once it has other bytes besides; it stays as it is.
+fn with(alloc: Global, page: &Page, change: &str, out: &mut String) -> Option<()> {
+    let mut page = page.copy(alloc).ok()?;
+    push_with(alloc, &mut page, change, out)
+}
+
+fn push_slot(slot: Option<FilesetNo>, out: &mut String) -> Result<(), OutOfMemory> {
     match slot {
-        Some(number) => Ok(format!(in alloc; "{}", number.number())?),
-        None => Ok(String::from_str(alloc, "none")?),
+        Some(number) => write!(out, "{}", number.number()),
+        None => out.push_str("none"),
     }
 }
 
@@ -71,92 +80,117 @@ fn replaced(table: &mut FilesetTable, number: FilesetNo) -> Option<SlotItem> {
     None
 }
 
-/// The slot that a word names.
-fn slot_of(word: &str) -> Result<FilesetNo> {
-    FilesetNo::new(word.parse()?).context("a slot")
-}
-
-/// The table after a slot was set.
-fn set_slot(alloc: Global, table: &mut FilesetTable, word: &str) -> Result<String> {
-    forget(table, slot_of(word)?);
-    Ok(shown_table(alloc, table)?)
-}
-
-/// The quota cell that a slot had, and the table after it was replaced.
-fn replace_slot(alloc: Global, table: &mut FilesetTable, word: &str) -> Result<String> {
-    let had = replaced(table, slot_of(word)?);
-    let quota = match &had {
+/// The quota cell of a fileset that is being removed.
+fn quota_in(item: &Option<SlotItem>) -> Option<CellAt> {
+    match item {
         Some(SlotItem::Removed { quota, .. }) => *quota,
         _ => None,
-    };
-    let quota = shown_cell(alloc, &quota)?;
-    let table = shown_table(alloc, table)?;
-    Ok(format!(in alloc; "had quota {quota}\n{table}")?)
+    }
 }
 
-/// The table with another count, as it is read after it was written over another page.
-fn again(alloc: Global, table: &mut FilesetTable, made: &str) -> Result<String> {
-    let made: u64 = made.parse()?;
+/// The slot that a word names.
+fn slot_of(word: &str) -> Option<FilesetNo> {
+    FilesetNo::new(word.parse().ok()?)
+}
+
+/// Says the table after a slot was set.
+fn set_slot(table: &mut FilesetTable, word: &str, out: &mut String) -> Option<()> {
+    forget(table, slot_of(word)?);
+    push_table(table, out).ok()
+}
+
+/// Says the quota cell that a slot had, and the table after it was replaced.
+fn replace_slot(table: &mut FilesetTable, word: &str, out: &mut String) -> Option<()> {
+    let number = slot_of(word)?;
+    let quota = quota_in(&replaced(table, number));
+    out.push_str("had quota ").ok()?;
+    push_cell(&quota, out).ok()?;
+    out.push('\n').ok()?;
+    push_table(table, out).ok()
+}
+
+/// Says the table as it is read after it was written over a page.
+fn push_again(
+    alloc: Global,
+    table: &FilesetTable,
+    page: &mut Page,
+    out: &mut String,
+) -> Option<()> {
+    put_line(alloc, page, "0 ffffffff, 16 ffffffff, 144 01")?;
+    match written_and_read(alloc, table, page) {
+        Ok(again) => push_table(&again, out).ok(),
+        Err(_) => None,
+    }
+}
+
+/// Says the table with another count, as it is read after it was written over another page.
+fn again(alloc: Global, table: &mut FilesetTable, made: &str, out: &mut String) -> Option<()> {
+    let made: u64 = made.parse().ok()?;
     if MOST_MADE < made {
-        bail!("a count that no table has");
+        return None;
     }
     table.set_made(made);
-    let mut page = Page::zeros(alloc)?;
-    put_line(alloc, &mut page, "0 ffffffff, 16 ffffffff, 144 01")?;
-    match written_and_read(alloc, table, &mut page) {
-        Ok(again) => Ok(shown_table(alloc, &again)?),
-        Err(_) => bail!("no table"),
-    }
+    let mut page = Page::zeros(alloc).ok()?;
+    push_again(alloc, table, &mut page, out)
 }
 
-/// The bytes of a page whose first 4,200 bytes were 255, after the table was written over it.
-fn written(alloc: Global, table: &FilesetTable) -> Result<String> {
+/// Says the bytes of a page whose first 4,200 bytes were 255, after the table was written over it.
+fn written(alloc: Global, table: &FilesetTable, out: &mut String) -> Result<(), OutOfMemory> {
     let mut page = Page::zeros(alloc)?;
     page.set(0, &[255; 4200]);
     table.write(&mut page);
-    shown_bytes(alloc, page.bytes())
+    push_bytes(page.bytes(), out)
 }
 
-/// What a call on the table answers.
-fn ask(alloc: Global, table: &mut FilesetTable, word: &str, rest: &str) -> Result<String> {
+/// Says what a call on the table answers.
+fn ask(
+    alloc: Global,
+    table: &mut FilesetTable,
+    word: &str,
+    rest: &str,
+    out: &mut String,
+) -> Option<()> {
     match word {
-        "find" => shown_slot(alloc, table.find(rest.as_bytes())),
-        "free" => shown_slot(alloc, table.free_slot()),
-        "set" => set_slot(alloc, table, rest),
-        "replace" => replace_slot(alloc, table, rest),
-        "again" => again(alloc, table, rest),
-        "write" => written(alloc, table),
-        _ => bail!("no such call"),
+        "find" => push_slot(table.find(rest.as_bytes()), out).ok(),
+        "free" => push_slot(table.free_slot(), out).ok(),
+        "set" => set_slot(table, rest, out),
+        "replace" => replace_slot(table, rest, out),
+        "again" => again(alloc, table, rest, out),
+        "write" => written(alloc, table, out).ok(),
+        _ => None,
     }
 }
 
 /// Does what a line says.
-fn call(alloc: Global, desk: &mut Desk, line: &str) -> Result<String> {
+fn call(alloc: Global, desk: &mut Desk, line: &str, out: &mut String) -> Option<()> {
     let (word, rest) = line.split_once(' ').unwrap_or((line, ""));
     match word {
-        "page" => {
-            put_line(alloc, &mut desk.page, rest)?;
-            Ok(String::new(alloc))
-        }
-        "with" => with(alloc, &desk.page, rest),
-        "read" => read(alloc, desk),
-        _ => ask(alloc, &mut desk.table, word, rest),
+        "page" => put_line(alloc, &mut desk.page, rest),
+        "with" => with(alloc, &desk.page, rest, out),
+        "read" => read(alloc, desk, out),
+        _ => ask(alloc, &mut desk.table, word, rest, out),
     }
 }
 
+/// Adds a line with what it answers.
+fn push_line(
+    alloc: Global,
+    answers: &mut String,
+    desk: &mut Desk,
+    line: &str,
+) -> Result<(), OutOfMemory> {
+    let mut out = String::new(alloc);
+    let is_read = is_idle(line) || call(alloc, desk, line, &mut out).is_some();
+    push_answer(answers, line, is_read, out.as_str())
+}
+
 /// Adds the lines of a page of zeros and a new table, with what they answer.
-pub fn push_table(alloc: Global, answers: &mut String, lines: &str) -> Result<()> {
-    let mut desk = Desk {
-        page: Page::zeros(alloc)?,
-        table: FilesetTable::new(alloc)?,
-    };
+pub fn push_tables(alloc: Global, answers: &mut String, lines: &str) -> Result<(), OutOfMemory> {
+    let page = Page::zeros(alloc)?;
+    let table = FilesetTable::new(alloc)?;
+    let mut desk = Desk { page, table };
     for line in lines.lines() {
-        if is_idle(line) {
-            push_answer(answers, line, "")?;
-        } else {
-            let answer = call(alloc, &mut desk, line).context(line)?;
-            push_answer(answers, line, answer.as_str())?;
-        }
+        push_line(alloc, answers, &mut desk, line)?;
     }
     Ok(())
 }

@@ -1,15 +1,14 @@
 //! Random calls on a directory and on a plain list of tags, side by side.
-ghost use Rattle.std.specs.Prelude.{◌<◌, IfOk};
+ghost use Rattle.std.specs.Prelude.{◌<◌};
 ghost use Rattle.table_tables.specs.Trial.{IsTrial};
 
 use crate::random::{Random, two_numbers};
 use crate::trial::Trial;
-use anyhow::{Context, Result};
 use fileset_table::Tag;
 use std::alloc::Global;
 
 /// A tag that was ever in use, and the page of the cell that it leads to.
-#[derive(Clone, Copy, Debug)]
+#[derive(Clone, Copy)]
 struct Entry {
     tag: Tag,
     page: Option<u32>,
@@ -36,18 +35,21 @@ fn is_next(list: &[Entry], tag: Tag) -> bool {
     tag.slot != 0 && !is_used(list, tag.slot) && next == Some(tag.seq)
 }
 
+/// Adds a tag that leads to the cell of that page.
+fn add(list: &mut Vec<Entry>, tag: Tag, page: u32) -> Option<()> {
+    let page = Some(page);
+    list.push(Entry { tag, page }).ok()
+}
+
 /// Enters a cell, and tells whether the tag is one that could be taken.
-fn enter(trial: &mut Trial, list: &mut Vec<Entry>, page: u32) -> Result<bool>
+fn enter(trial: &mut Trial, list: &mut Vec<Entry>, page: u32) -> Option<bool>
     requires { IsTrial trial.old.pages trial.old.dir trial.old.last }
     ensures { IsTrial trial.new.pages trial.new.dir trial.new.last }
 {
-    let tag = trial.enter(page).context("a free entry")?;
+    let tag = trial.enter(page)?;
     let next = is_next(list, tag);
-    list.push(Entry {
-        tag,
-        page: Some(page),
-    })?;
-    Ok(next)
+    add(list, tag, page)?;
+    Some(next)
 }
 
 /// Enters a cell as a tag of a slot that was never used, and tells whether that was done exactly
@@ -57,7 +59,7 @@ fn enter_as(
     trial: &mut Trial,
     list: &mut Vec<Entry>,
     page: u32,
-) -> Result<bool>
+) -> Option<bool>
     requires { IsTrial trial.old.pages trial.old.dir trial.old.last }
     ensures { IsTrial trial.new.pages trial.new.dir trial.new.last }
 {
@@ -66,41 +68,45 @@ fn enter_as(
     let tag = Tag { slot, seq };
     let is_done = trial.enter_as(tag, page)?;
     if is_done {
-        list.push(Entry {
-            tag,
-            page: Some(page),
-        })?;
+        add(list, tag, page)?;
     }
-    Ok(is_done == matches!(slot / 1_022, 0 | 3 | 7))
+    Some(is_done == matches!(slot / 1_022, 0 | 3 | 7))
 }
 
 /// Makes a tag that is in use lead to another cell, or to none.
-fn change(
+fn change(trial: &mut Trial, entry: &mut Entry, page: Option<u32>) -> Option<bool>
+    requires { IsTrial trial.old.pages trial.old.dir trial.old.last }
+    ensures { IsTrial trial.new.pages trial.new.dir trial.new.last }
+{
+    if entry.page.is_none() {
+        return Some(true);
+    }
+    entry.page = page;
+    match page {
+        Some(page) => trial.switch(entry.tag, page),
+        None => trial.drop_tag(entry.tag),
+    }
+}
+
+/// Makes a random tag of the list lead to another cell, or to none, if it is in use.
+fn change_one(
     random: &mut Random,
     trial: &mut Trial,
     list: &mut [Entry],
     page: Option<u32>,
-) -> Result<()>
+) -> Option<bool>
     requires { IsTrial trial.old.pages trial.old.dir trial.old.last }
     ensures { IsTrial trial.new.pages trial.new.dir trial.new.last }
 {
     if list.is_empty() {
-        return Ok(());
+        return Some(true);
     }
     let place = random.next() as usize % list.len();
-    if list[place].page.is_none() {
-        return Ok(());
-    }
-    match page {
-        Some(page) => trial.switch(list[place].tag, page)?,
-        None => trial.drop_tag(list[place].tag)?,
-    }
-    list[place].page = page;
-    Ok(())
+    change(trial, &mut list[place], page)
 }
 
 /// One call on both, and whether what it answered may be.
-fn step(random: &mut Random, trial: &mut Trial, list: &mut Vec<Entry>) -> Result<bool>
+fn step(random: &mut Random, trial: &mut Trial, list: &mut Vec<Entry>) -> Option<bool>
     requires { IsTrial trial.old.pages trial.old.dir trial.old.last }
     ensures { IsTrial trial.new.pages trial.new.dir trial.new.last }
 {
@@ -108,8 +114,8 @@ fn step(random: &mut Random, trial: &mut Trial, list: &mut Vec<Entry>) -> Result
     match random.next() % 16 {
         0..=4 => enter(trial, list, page),
         5..=6 => enter_as(random, trial, list, page),
-        7..=9 => change(random, trial, list, Some(page)).map(|_| true),
-        _ => change(random, trial, list, None).map(|_| true),
+        7..=9 => change_one(random, trial, list, Some(page)),
+        _ => change_one(random, trial, list, None),
     }
 }
 
@@ -120,36 +126,37 @@ fn is_same(trial: &Trial, list: &[Entry]) -> bool
     list.iter().all(|entry| trial.look(entry.tag) == entry.page)
 }
 
-/// A directory of pages with the indexes 0, 7 and 3.
-fn three_pages(alloc: Global) -> Result<Trial>
-    ensures { IfOk result (λ trial. IsTrial trial.pages trial.dir trial.last) }
+/// How many of the calls come before the first after which the two are not the same. The directory
+/// has pages with the indexes 0, 7 and 3.
+fn same_calls(
+    alloc: Global,
+    random: &mut Random,
+    trial: &mut Trial,
+    list: &mut Vec<Entry>,
+    calls: u32,
+) -> Option<u32>
+    requires { IsTrial trial.old.pages trial.old.dir trial.old.last }
 {
-    let mut trial = Trial::new(alloc);
     trial.add(alloc, 0)?;
     trial.add(alloc, 7)?;
     trial.add(alloc, 3)?;
-    Ok(trial)
-}
-
-/// How many of the calls come before the first after which the two are not the same.
-fn same_calls(alloc: Global, seed: u64, calls: u32) -> Result<u32> {
-    let mut random = Random { state: seed };
-    let mut trial = three_pages(alloc)?;
-    let mut list = Vec::new(alloc);
     for call in 0..calls {
-        if !step(&mut random, &mut trial, &mut list)? || !is_same(&trial, &list) {
-            return Ok(call);
+        if !step(random, trial, list)? || !is_same(trial, list) {
+            return Some(call);
         }
         if call % 64 == 63 && !trial.reopen(alloc)? {
-            return Ok(call);
+            return Some(call);
         }
     }
-    Ok(calls)
+    Some(calls)
 }
 
-/// How many calls both answer alike: a line has the seed and the number of calls.
-pub fn random_tags(alloc: Global, line: &str) -> Result<String> {
+/// Says how many calls both answer alike: a line has the seed and the number of calls.
+pub fn random_tags(alloc: Global, line: &str, out: &mut String) -> Option<()> {
     let (seed, calls) = two_numbers(line)?;
-    let same = same_calls(alloc, seed, calls)?;
-    Ok(format!(in alloc; "{same} alike")?)
+    let mut random = Random { state: seed };
+    let mut trial = Trial::new(alloc);
+    let mut list = Vec::new(alloc);
+    let same = same_calls(alloc, &mut random, &mut trial, &mut list, calls)?;
+    write!(out, "{same} alike").ok()
 }

@@ -3,7 +3,6 @@ ghost use Rattle.std.specs.Prelude.{◌≡◌, ◌==◌, ◌||◌, ◌<◌};
 ghost use Rattle.fileset_table.specs.page_store.Pages.{same_home};
 ghost use Rattle.table_tables.specs.Trial.{IsTrial, has_either};
 
-use anyhow::{Context, Result, bail};
 use fileset_table::{CellAt, Home, MemoryPages, MetaPages, Tag, VolIx};
 use std::alloc::Global;
 use tag_dirs::{TagDir, TagPlace, unlink_page};
@@ -67,33 +66,38 @@ impl Trial {
         }
     }
 
-    /// Adds a page with this index, at page 100 of volume 1 or the one after the last.
-    pub fn add(&mut self, alloc: Global, index: u32) -> Result<()>
+    /// Adds a page with this index, at page 100 of volume 1 or the one after the last, if that may be
+    /// done.
+    pub fn add(&mut self, alloc: Global, index: u32) -> Option<bool>
         requires { IsTrial self.old.pages self.old.dir self.old.last }
         ensures { IsTrial self.new.pages self.new.dir self.new.last }
     {
         let places = self.dir.places();
         let home = home(100 + (places.len() % 100) as u32);
         if is_taken(places, index, &home) || 4_202_512 <= index {
-            bail!("a call that may not be made");
+            return None;
         }
         if places.is_empty() && index != 0 {
-            bail!("a call that may not be made");
+            return None;
         }
-        self.dir.add_page(alloc, &mut self.pages, index, home)?;
-        Ok(())
+        self.dir.add_page(alloc, &mut self.pages, index, home).ok()?;
+        Some(true)
     }
 
     /// Reads the directory from its first page, and tells whether its places are as before.
-    pub fn reopen(&mut self, alloc: Global) -> Result<bool>
+    pub fn reopen(&mut self, alloc: Global) -> Option<bool>
         requires { IsTrial self.old.pages self.old.dir self.old.last }
         ensures { IsTrial self.new.pages self.new.dir self.new.last }
     {
-        let first = self.dir.places().first().context("a page")?.home;
-        let dir = TagDir::read(alloc, &self.pages, first)?;
-        let same = are_same(self.dir.places(), dir.places());
-        self.dir = dir;
-        Ok(same)
+        let first = self.dir.places().first()?.home;
+        match TagDir::read(alloc, &self.pages, first) {
+            Ok(dir) => {
+                let same = are_same(self.dir.places(), dir.places());
+                self.dir = dir;
+                Some(same)
+            }
+            Err(_) => None,
+        }
     }
 
     /// Enters a cell of that page.
@@ -107,40 +111,40 @@ impl Trial {
     }
 
     /// Enters a cell of that page as a tag of a slot above the last one.
-    pub fn enter_as(&mut self, tag: Tag, page: u32) -> Result<bool>
+    pub fn enter_as(&mut self, tag: Tag, page: u32) -> Option<bool>
         requires { IsTrial self.old.pages self.old.dir self.old.last }
         ensures { IsTrial self.new.pages self.new.dir self.new.last }
     {
         if tag.slot <= self.last || tag.seq == 0 {
-            bail!("a call that may not be made");
+            return None;
         }
         let done = self.dir.enter_as(&mut self.pages, tag, cell(page));
         self.last = tag.slot;
-        Ok(done)
+        Some(done)
     }
 
     /// Makes a tag lead to a cell of that page.
-    pub fn switch(&mut self, tag: Tag, page: u32) -> Result<()>
+    pub fn switch(&mut self, tag: Tag, page: u32) -> Option<bool>
         requires { IsTrial self.old.pages self.old.dir self.old.last }
         ensures { IsTrial self.new.pages self.new.dir self.new.last }
     {
         if self.dir.look(&self.pages, tag).is_none() {
-            bail!("a call that may not be made");
+            return None;
         }
         self.dir.switch(&mut self.pages, tag, cell(page));
-        Ok(())
+        Some(true)
     }
 
     /// Takes a tag out of use.
-    pub fn drop_tag(&mut self, tag: Tag) -> Result<()>
+    pub fn drop_tag(&mut self, tag: Tag) -> Option<bool>
         requires { IsTrial self.old.pages self.old.dir self.old.last }
         ensures { IsTrial self.new.pages self.new.dir self.new.last }
     {
         if self.dir.look(&self.pages, tag).is_none() {
-            bail!("a call that may not be made");
+            return None;
         }
         self.dir.drop_tag(&mut self.pages, tag);
-        Ok(())
+        Some(true)
     }
 
     /// The page of the cell that a tag leads to, if it leads to one of cell 5 of volume 1.
