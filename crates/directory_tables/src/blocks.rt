@@ -2,49 +2,61 @@
 
 use crate::indexes::{hash, missed_entry, push_index};
 use crate::names::name_form;
-use crate::pages::{fault, push_page};
+use crate::pages::{fault, push_pages};
 use crate::random::random_rows;
 use crate::rows::{missed_row, push_rows};
-use anyhow::{Context, Result, bail};
+use directory_rows::{OutOfMemory, StoreFault};
 use std::alloc::Global;
 
-/// What a line answers by itself.
-fn answer(alloc: Global, kind: &str, line: &str) -> Result<String> {
+/// Says what a line answers by itself.
+fn answer(alloc: Global, kind: &str, line: &str, out: &mut String) -> Option<()> {
     match kind {
-        "names" => name_form(alloc, line),
-        "faults" => fault(alloc, line),
-        "hashes" => hash(alloc, line),
-        "missed row" => missed_row(alloc, line.parse()?),
-        "missed entry" => missed_entry(alloc, line.parse()?),
-        "random rows" => random_rows(alloc, line),
-        _ => bail!("no such block"),
+        "names" => name_form(alloc, line, out),
+        "faults" => fault(line, out),
+        "hashes" => hash(alloc, line, out),
+        "missed row" => missed_row(alloc, line.parse().ok()?, out).ok(),
+        "missed entry" => missed_entry(alloc, line.parse().ok()?, out).ok(),
+        "random rows" => random_rows(alloc, line, out),
+        _ => None,
     }
 }
 
+/// Adds a line that stands alone, with what it answers.
+fn push_single(
+    alloc: Global,
+    answers: &mut String,
+    kind: &str,
+    line: &str,
+) -> Result<(), StoreFault> {
+    let mut out = String::new(alloc);
+    let is_read = is_idle(line) || answer(alloc, kind, line, &mut out).is_some();
+    push_answer(answers, line, is_read, out.as_str())
+}
+
 /// Adds lines that stand alone, each with what it answers.
-fn push_single(alloc: Global, answers: &mut String, kind: &str, lines: &str) -> Result<()> {
+fn push_singles(
+    alloc: Global,
+    answers: &mut String,
+    kind: &str,
+    lines: &str,
+) -> Result<(), StoreFault> {
     for line in lines.lines() {
-        if is_idle(line) {
-            push_answer(answers, line, "")?;
-        } else {
-            let answer = answer(alloc, kind, line).context(line)?;
-            push_answer(answers, line, answer.as_str())?;
-        }
+        push_single(alloc, answers, kind, line)?;
     }
     Ok(())
 }
 
-/// Adds a block with what it answers.
-pub fn push_block(alloc: Global, answers: &mut String, block: &str) -> Result<()> {
-    let (head, lines) = block.split_once('\n').context("a first line")?;
-    let (kind, _) = head.split_once(": ").context("a kind of block")?;
+/// Adds a block with what it answers. Its first line begins with its kind and a colon.
+pub fn push_block(alloc: Global, answers: &mut String, block: &str) -> Result<(), StoreFault> {
+    let (head, lines) = block.split_once('\n').unwrap_or((block, ""));
+    let (kind, _) = head.split_once(": ").unwrap_or((head, ""));
     answers.push_str(head)?;
     answers.push('\n')?;
     match kind {
-        "page" => push_page(alloc, answers, lines),
+        "page" => push_pages(alloc, answers, lines),
         "rows" => push_rows(alloc, answers, lines),
         "index" => push_index(alloc, answers, lines),
-        _ => push_single(alloc, answers, kind, lines),
+        _ => push_singles(alloc, answers, kind, lines),
     }
 }
 
@@ -53,13 +65,24 @@ pub fn is_idle(line: &str) -> bool {
     line.is_empty() || line.starts_with('#')
 }
 
-/// Adds a line and its answer.
-pub fn push_answer(answers: &mut String, line: &str, answer: &str) -> Result<()> {
+/// Adds a line, and its answer after an arrow.
+fn push_told(answers: &mut String, line: &str, answer: &str) -> Result<(), OutOfMemory> {
     answers.push_str(line)?;
     if !answer.is_empty() {
         answers.push_str(" -> ")?;
         answers.push_str(answer)?;
     }
-    answers.push('\n')?;
+    answers.push('\n')
+}
+
+/// Adds a line and its answer, if it has one; a line that is not read is reported.
+pub fn push_answer(
+    answers: &mut String,
+    line: &str,
+    is_read: bool,
+    answer: &str,
+) -> Result<(), StoreFault> {
+    let answer = if is_read { answer } else { "not read" };
+    push_told(answers, line, answer)?;
     Ok(())
 }

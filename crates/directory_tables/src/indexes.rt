@@ -7,30 +7,29 @@ use crate::blocks::{is_idle, push_answer};
 use crate::index_steps::{
     ROOT, add, add_all, count_found, indexed, indexed_missing, page_of, remove, remove_odd, rising,
 };
-use crate::names::name_of;
-use anyhow::{Context, Result, bail};
+use crate::names::name_or_none;
+use crate::text::push_digits;
 use directory_rows::{BitfileSet, IndexEntry, MemoryBitfiles, StoreFault, name_hash};
-use hex::encode;
 use page_looks::Looks;
 use std::alloc::Global;
 
-/// The hash of a name; a dash is the empty one.
-pub fn hash(alloc: Global, text: &str) -> Result<String> {
-    let name = name_of(alloc, if text == "-" { "" } else { text })?;
-    Ok(format!(in alloc; "{}", name_hash(&name))?)
+/// Says the hash of a name; a dash is the empty one.
+pub fn hash(alloc: Global, text: &str, out: &mut String) -> Option<()> {
+    let name = name_or_none(alloc, text)?;
+    write!(out, "{}", name_hash(&name)).ok()
 }
 
 /// The entry that a word tells: its hash and its page.
-fn entry_of(word: &str) -> Result<IndexEntry> {
-    let (hash, page) = word.split_once(':').context("a hash and a page")?;
-    Ok(IndexEntry {
-        hash: hash.parse()?,
-        page: page.parse()?,
+fn entry_of(word: &str) -> Option<IndexEntry> {
+    let (hash, page) = word.split_once(':')?;
+    Some(IndexEntry {
+        hash: hash.parse().ok()?,
+        page: page.parse().ok()?,
     })
 }
 
 /// Hash 5 on pages 1 and 3, and hash 9 on page 0.
-fn three_apart(alloc: Global) -> Result<MemoryBitfiles>
+fn three_apart(alloc: Global) -> Result<MemoryBitfiles, StoreFault>
     ensures { IfOk result (λ set. HasIndex ROOT (⟦<MemoryBitfiles as BitfileSet>⟧.files set)) }
 {
     let entries = [
@@ -38,11 +37,11 @@ fn three_apart(alloc: Global) -> Result<MemoryBitfiles>
         IndexEntry { hash: 5, page: 3 },
         IndexEntry { hash: 9, page: 0 },
     ];
-    Ok(indexed(alloc, &entries)?)
+    indexed(alloc, &entries)
 }
 
 /// Hash 5 twice on page 1, and hash 9 on page 0.
-fn two_equal(alloc: Global) -> Result<MemoryBitfiles>
+fn two_equal(alloc: Global) -> Result<MemoryBitfiles, StoreFault>
     ensures { IfOk result (λ set. HasIndex ROOT (⟦<MemoryBitfiles as BitfileSet>⟧.files set)) }
 {
     let entries = [
@@ -50,27 +49,27 @@ fn two_equal(alloc: Global) -> Result<MemoryBitfiles>
         IndexEntry { hash: 5, page: 1 },
         IndexEntry { hash: 9, page: 0 },
     ];
-    Ok(indexed(alloc, &entries)?)
+    indexed(alloc, &entries)
 }
 
 /// So many entries of page 0, with the hashes from 0 on.
-fn rising_index(alloc: Global, count: u32) -> Result<MemoryBitfiles>
+fn rising_index(alloc: Global, count: u32) -> Result<MemoryBitfiles, StoreFault>
     ensures { IfOk result (λ set. HasIndex ROOT (⟦<MemoryBitfiles as BitfileSet>⟧.files set)) }
 {
     let entries = rising(alloc, count)?;
-    Ok(indexed(alloc, entries.as_slice())?)
+    indexed(alloc, entries.as_slice())
 }
 
-/// The index that the first line of a block tells.
-fn index_of(alloc: Global, line: &str) -> Result<MemoryBitfiles>
+/// The index that the first line of a block tells; one of any other line has no entry.
+fn index_of(alloc: Global, line: &str) -> Result<MemoryBitfiles, StoreFault>
     ensures { IfOk result (λ set. HasIndex ROOT (⟦<MemoryBitfiles as BitfileSet>⟧.files set)) }
 {
     match line {
         "entries 5:1 5:3 9:0" => three_apart(alloc),
         "entries 5:1 5:1 9:0" => two_equal(alloc),
         _ => {
-            let count = line.strip_prefix("rising ").context("how many")?;
-            rising_index(alloc, count.parse()?)
+            let count = line.strip_prefix("rising ").unwrap_or("");
+            rising_index(alloc, count.parse().unwrap_or(0))
         }
     }
 }
@@ -84,88 +83,100 @@ fn looks_for<S: BitfileSet>(set: &S, hash: u32) -> u32
     looks.taken()[1]
 }
 
-/// The first bytes of the root's first index page.
-fn first_bytes(alloc: Global, set: &MemoryBitfiles, count: usize) -> Result<String> {
-    let page = set.index_page(ROOT, 0).context("a page")?;
-    let (bytes, _) = page.bytes().split_at_checked(count).context("bytes")?;
-    Ok(encode(alloc, bytes)?)
+/// Says the first bytes of the root's first index page.
+fn push_bytes(set: &MemoryBitfiles, count: usize, out: &mut String) -> Option<()> {
+    let page = set.index_page(ROOT, 0)?;
+    let (bytes, _) = page.bytes().split_at_checked(count)?;
+    push_digits(bytes, out).ok()
 }
 
-/// The page of a hash, from a page on.
-fn page_told(alloc: Global, set: &MemoryBitfiles, rest: &str) -> Result<String>
+/// Says the page of a hash, from a page on.
+fn push_page(set: &MemoryBitfiles, rest: &str, out: &mut String) -> Option<()>
     requires { HasIndex ROOT (⟦<MemoryBitfiles as BitfileSet>⟧.files set.now) }
 {
-    let (hash, from) = rest.split_once(' ').context("a hash and a page")?;
-    match page_of(set, ROOT, hash.parse()?, from.parse()?) {
-        999 => Ok(String::from_str(alloc, "none")?),
-        page => Ok(format!(in alloc; "{page}")?),
+    let (hash, from) = rest.split_once(' ')?;
+    match page_of(set, ROOT, hash.parse().ok()?, from.parse().ok()?) {
+        999 => out.push_str("none").ok(),
+        page => write!(out, "{page}").ok(),
     }
 }
 
-/// What the index answers.
-fn ask(alloc: Global, set: &MemoryBitfiles, word: &str, rest: &str) -> Result<String>
+/// Says what the index answers.
+fn ask(set: &MemoryBitfiles, word: &str, rest: &str, out: &mut String) -> Option<()>
     requires { HasIndex ROOT (⟦<MemoryBitfiles as BitfileSet>⟧.files set.now) }
 {
     match word {
-        "page" => page_told(alloc, set, rest),
-        "bytes" => first_bytes(alloc, set, rest.parse()?),
-        "pages" => Ok(format!(in alloc; "{}", set.index_pages(ROOT))?),
-        "found" => Ok(format!(in alloc; "{}", count_found(set, ROOT, rest.parse()?))?),
-        "looks" => Ok(format!(in alloc; "{}", looks_for(set, rest.parse()?))?),
-        _ => bail!("no such call"),
+        "page" => push_page(set, rest, out),
+        "bytes" => push_bytes(set, rest.parse().ok()?, out),
+        "pages" => write!(out, "{}", set.index_pages(ROOT)).ok(),
+        "found" => write!(out, "{}", count_found(set, ROOT, rest.parse().ok()?)).ok(),
+        "looks" => write!(out, "{}", looks_for(set, rest.parse().ok()?)).ok(),
+        _ => None,
     }
 }
 
-/// Adds an entry.
-fn add_told(alloc: Global, set: &mut MemoryBitfiles, word: &str) -> Result<String>
+/// Adds an entry, or removes one and says whether it was there. It answers whether the line is one.
+fn change(
+    alloc: Global,
+    set: &mut MemoryBitfiles,
+    is_added: bool,
+    rest: &str,
+    out: &mut String,
+) -> Result<bool, StoreFault>
     requires { HasIndex ROOT (⟦<MemoryBitfiles as BitfileSet>⟧.files set.old) }
     ensures { OnOk result (HasIndex ROOT (⟦<MemoryBitfiles as BitfileSet>⟧.files set.new)) }
 {
-    let entry = entry_of(word)?;
-    add(set, alloc, ROOT, entry)?;
-    Ok(String::new(alloc))
+    let Some(entry) = entry_of(rest) else {
+        return Ok(false);
+    };
+    if is_added {
+        add(set, alloc, ROOT, entry)?;
+    } else {
+        let was_there = remove(set, alloc, ROOT, entry)?;
+        out.push_str(if was_there { "there" } else { "not there" })?;
+    }
+    Ok(true)
 }
 
-/// Removes an entry, and tells whether it was there.
-fn remove_told(alloc: Global, set: &mut MemoryBitfiles, word: &str) -> Result<String>
+/// Adds the entries of so many numbers, or removes those of the odd ones and says how many there
+/// were. It answers whether the line is one.
+fn change_many(
+    alloc: Global,
+    set: &mut MemoryBitfiles,
+    is_added: bool,
+    rest: &str,
+    out: &mut String,
+) -> Result<bool, StoreFault>
     requires { HasIndex ROOT (⟦<MemoryBitfiles as BitfileSet>⟧.files set.old) }
     ensures { OnOk result (HasIndex ROOT (⟦<MemoryBitfiles as BitfileSet>⟧.files set.new)) }
 {
-    let entry = entry_of(word)?;
-    let was_there = remove(set, alloc, ROOT, entry)?;
-    Ok(String::from_str(alloc, if was_there { "there" } else { "not there" })?)
+    let Ok(count) = rest.parse() else {
+        return Ok(false);
+    };
+    if is_added {
+        add_all(set, alloc, ROOT, count)?;
+    } else {
+        let removed = remove_odd(set, alloc, ROOT, count)?;
+        write!(out, "{removed}")?;
+    }
+    Ok(true)
 }
 
-/// Adds the entries of so many numbers.
-fn add_all_told(alloc: Global, set: &mut MemoryBitfiles, count: u32) -> Result<String>
-    requires { HasIndex ROOT (⟦<MemoryBitfiles as BitfileSet>⟧.files set.old) }
-    ensures { OnOk result (HasIndex ROOT (⟦<MemoryBitfiles as BitfileSet>⟧.files set.new)) }
-{
-    add_all(set, alloc, ROOT, count)?;
-    Ok(String::new(alloc))
-}
-
-/// Removes the entries of the odd ones of so many numbers, and tells how many there were.
-fn remove_odd_told(alloc: Global, set: &mut MemoryBitfiles, count: u32) -> Result<String>
-    requires { HasIndex ROOT (⟦<MemoryBitfiles as BitfileSet>⟧.files set.old) }
-    ensures { OnOk result (HasIndex ROOT (⟦<MemoryBitfiles as BitfileSet>⟧.files set.new)) }
-{
-    let removed = remove_odd(set, alloc, ROOT, count)?;
-    Ok(format!(in alloc; "{removed}")?)
-}
-
-/// Does what a line says.
-fn call(alloc: Global, set: &mut MemoryBitfiles, line: &str) -> Result<String>
+/// Does what a line says. It answers whether the line is one.
+fn call(
+    alloc: Global,
+    set: &mut MemoryBitfiles,
+    line: &str,
+    out: &mut String,
+) -> Result<bool, StoreFault>
     requires { HasIndex ROOT (⟦<MemoryBitfiles as BitfileSet>⟧.files set.old) }
     ensures { OnOk result (HasIndex ROOT (⟦<MemoryBitfiles as BitfileSet>⟧.files set.new)) }
 {
     let (word, rest) = line.split_once(' ').unwrap_or((line, ""));
     match word {
-        "add" => add_told(alloc, set, rest),
-        "remove" => remove_told(alloc, set, rest),
-        "add-all" => add_all_told(alloc, set, rest.parse()?),
-        "remove-odd" => remove_odd_told(alloc, set, rest.parse()?),
-        _ => ask(alloc, set, word, rest),
+        "add" | "remove" => change(alloc, set, word == "add", rest, out),
+        "add-all" | "remove-odd" => change_many(alloc, set, word == "add-all", rest, out),
+        _ => Ok(ask(set, word, rest, out).is_some()),
     }
 }
 
@@ -175,21 +186,22 @@ fn push_line(
     answers: &mut String,
     set: &mut MemoryBitfiles,
     line: &str,
-) -> Result<()>
+) -> Result<(), StoreFault>
     requires { HasIndex ROOT (⟦<MemoryBitfiles as BitfileSet>⟧.files set.old) }
     ensures { OnOk result (HasIndex ROOT (⟦<MemoryBitfiles as BitfileSet>⟧.files set.new)) }
 {
     if is_idle(line) {
-        return push_answer(answers, line, "");
+        return push_answer(answers, line, true, "");
     }
-    let answer = call(alloc, set, line)?;
-    push_answer(answers, line, answer.as_str())
+    let mut out = String::new(alloc);
+    let is_read = call(alloc, set, line, &mut out)?;
+    push_answer(answers, line, is_read, out.as_str())
 }
 
 /// Adds the lines of an index, with what they answer.
-pub fn push_index(alloc: Global, answers: &mut String, lines: &str) -> Result<()> {
-    let (first, lines) = lines.split_once('\n').context("entries")?;
-    push_answer(answers, first, "")?;
+pub fn push_index(alloc: Global, answers: &mut String, lines: &str) -> Result<(), StoreFault> {
+    let (first, lines) = lines.split_once('\n').unwrap_or((lines, ""));
+    push_answer(answers, first, true, "")?;
     let mut set = index_of(alloc, first)?;
     for line in lines.lines() {
         push_line(alloc, answers, &mut set, line)?;
@@ -197,17 +209,24 @@ pub fn push_index(alloc: Global, answers: &mut String, lines: &str) -> Result<()
     Ok(())
 }
 
-/// What the addition of an entry to a full page answers where one changing call finds no page, how
-/// many misses there were, and how many pages the index has.
-pub fn missed_entry(alloc: Global, call: u64) -> Result<String> {
-    let misses = vec![in alloc; call]?;
+/// A full page of an index, where this changing call finds no page.
+fn full_page(alloc: Global, call: u64) -> Result<MemoryBitfiles, StoreFault>
+    ensures { IfOk result (λ set. HasIndex ROOT (⟦<MemoryBitfiles as BitfileSet>⟧.files set)) }
+{
     let entries = rising(alloc, 1_022)?;
-    let mut set = indexed_missing(alloc, misses, entries.as_slice())?;
+    indexed_missing(alloc, vec![in alloc; call]?, entries.as_slice())
+}
+
+/// Says what the addition of an entry to a full page answers where one changing call finds no page,
+/// how many misses there were, and how many pages the index has.
+pub fn missed_entry(alloc: Global, call: u64, out: &mut String) -> Result<(), StoreFault> {
+    let mut set = full_page(alloc, call)?;
     let answer = match add(&mut set, alloc, ROOT, IndexEntry { hash: 500, page: 1 }) {
         Ok(()) => "done",
         Err(StoreFault::NoPage) => "no page",
-        Err(StoreFault::OutOfMemory) => bail!("out of memory"),
+        Err(StoreFault::OutOfMemory) => "out of memory",
     };
     let pages = set.index_pages(ROOT);
-    Ok(format!(in alloc; "{answer}, {} misses, {pages} pages", set.misses())?)
+    write!(out, "{answer}, {} misses, {pages} pages", set.misses())?;
+    Ok(())
 }

@@ -13,11 +13,11 @@ mod row_steps;
 mod rows;
 mod text;
 
-use anyhow::Result;
 use blocks::push_block;
 use std::io;
+use std::test::Fail;
 
-fn main(rt: HostRuntime) -> Result<()> {
+fn main(rt: HostRuntime) -> Result<(), Fail> {
     let text = io::read_to_string(rt.alloc(), rt.reader())?;
     let mut answers = String::new(rt.alloc());
     for block in text.as_str().split_inclusive("\n\n") {

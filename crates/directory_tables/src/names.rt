@@ -2,52 +2,71 @@
 //! byte 255 so many times. `wide 7` and `long 7` are those that blocks of rows are filled with.
 
 use crate::row_steps::{long_name, wide_name};
-use anyhow::{Context, Result};
 use directory_rows::is_row_name;
 use hex::decode;
-use std::alloc::{AllocError, Global};
+use std::alloc::Global;
 
 /// Adds bytes so many times.
-fn push_often(name: &mut Vec<u8>, times: u32, part: &[u8]) -> Result<(), AllocError> {
+fn push_often(name: &mut Vec<u8>, times: u32, part: &[u8]) -> Option<()> {
     for _ in 0..times {
-        name.extend_from_slice(part)?;
+        name.extend_from_slice(part).ok()?;
     }
-    Ok(())
+    Some(())
+}
+
+/// Adds the bytes of hexadecimal digits so many times.
+fn push_digits(alloc: Global, name: &mut Vec<u8>, times: u32, digits: &str) -> Option<()> {
+    let bytes = decode(alloc, digits).ok()?;
+    push_often(name, times, &bytes)
 }
 
 /// Adds a part of a name.
-fn push_part(alloc: Global, name: &mut Vec<u8>, part: &str) -> Result<()> {
+fn push_part(alloc: Global, name: &mut Vec<u8>, part: &str) -> Option<()> {
     let (text, times) = part.split_once('*').unwrap_or((part, "1"));
-    let times: u32 = times.parse()?;
+    let times: u32 = times.parse().ok()?;
     match text.strip_prefix("x:") {
-        Some(digits) => push_often(name, times, &decode(alloc, digits)?)?,
-        None => push_often(name, times, text.as_bytes())?,
+        Some(digits) => push_digits(alloc, name, times, digits),
+        None => push_often(name, times, text.as_bytes()),
     }
-    Ok(())
+}
+
+/// Adds the name that a text spells.
+fn push_name(alloc: Global, name: &mut Vec<u8>, text: &str) -> Option<()> {
+    if let Some(number) = text.strip_prefix("wide ") {
+        return name
+            .extend_from_slice(&wide_name(number.parse().ok()?))
+            .ok();
+    }
+    if let Some(number) = text.strip_prefix("long ") {
+        return name
+            .extend_from_slice(&long_name(number.parse().ok()?))
+            .ok();
+    }
+    for part in text.split('+') {
+        push_part(alloc, name, part)?;
+    }
+    Some(())
 }
 
 /// The name that a text spells.
-pub fn name_of(alloc: Global, text: &str) -> Result<Vec<u8>> {
-    if let Some(number) = text.strip_prefix("wide ") {
-        return Ok(Vec::from_slice(alloc, &wide_name(number.parse()?))?);
-    }
-    if let Some(number) = text.strip_prefix("long ") {
-        return Ok(Vec::from_slice(alloc, &long_name(number.parse()?))?);
-    }
+pub fn name_of(alloc: Global, text: &str) -> Option<Vec<u8>> {
     let mut name = Vec::new(alloc);
-    for part in text.split('+') {
-        push_part(alloc, &mut name, part)?;
-    }
-    Ok(name)
+    push_name(alloc, &mut name, text)?;
+    Some(name)
 }
 
-/// Whether a row may have the name; a dash is the empty one.
-pub fn name_form(alloc: Global, text: &str) -> Result<String> {
-    let name = name_of(alloc, if text == "-" { "" } else { text })?;
-    let word = if is_row_name(&name) {
+/// The name that a text spells, or the empty one for a dash.
+pub fn name_or_none(alloc: Global, text: &str) -> Option<Vec<u8>> {
+    name_of(alloc, if text == "-" { "" } else { text })
+}
+
+/// Says whether a row may have the name; a dash is the empty one.
+pub fn name_form(alloc: Global, text: &str, out: &mut String) -> Option<()> {
+    let name = name_or_none(alloc, text)?;
+    out.push_str(if is_row_name(&name) {
         "a name"
     } else {
         "no name"
-    };
-    Ok(String::from_str(alloc, word).context("memory")?)
+    })
+    .ok()
 }

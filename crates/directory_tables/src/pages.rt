@@ -4,14 +4,12 @@
 
 use crate::blocks::{is_idle, push_answer};
 use crate::names::name_of;
-use crate::text::{change, letter, shown, shown_bytes};
-use anyhow::{Context, Result, bail};
+use crate::text::{change, letter, push_bytes, push_digits, shown};
 use directory_rows::from_directory_pages::{add_row, find_row, remove_row};
 use directory_rows::{
-    Kind, OutOfMemory, Page, RowsFault, Tag, clear_rows, count_rows, has_room, is_row_name,
-    is_row_page,
+    Kind, OutOfMemory, Page, RowsFault, StoreFault, Tag, clear_rows, count_rows, has_room,
+    is_row_name, is_row_page,
 };
-use hex::encode;
 use std::alloc::Global;
 
 /// A page, and one that was kept.
@@ -68,112 +66,145 @@ fn rows(page: &Page) -> u32 {
     }
 }
 
-fn shown_found(alloc: Global, found: Option<(Tag, Kind)>) -> Result<String> {
+fn push_found(found: Option<(Tag, Kind)>, out: &mut String) -> Option<()> {
     match found {
-        Some((tag, kind)) => Ok(format!(in alloc; "{}.{} {}", tag.slot, tag.seq, letter(kind))?),
-        None => Ok(String::from_str(alloc, "none")?),
+        Some((tag, kind)) => write!(out, "{}.{} {}", tag.slot, tag.seq, letter(kind)).ok(),
+        None => out.push_str("none").ok(),
     }
 }
 
-/// Yes or no.
-fn yes(alloc: Global, is_so: bool) -> Result<String> {
-    Ok(String::from_str(alloc, if is_so { "yes" } else { "no" })?)
+/// Says yes or no.
+fn push_yes(is_so: bool, out: &mut String) -> Option<()> {
+    out.push_str(if is_so { "yes" } else { "no" }).ok()
+}
+
+/// The kind of a letter.
+fn kind_of(letter: &str) -> Option<Kind> {
+    match letter {
+        "f" => Some(Kind::File),
+        "d" => Some(Kind::Directory),
+        _ => None,
+    }
 }
 
 /// Adds the row that a line tells: a slot, the letter of a kind, and a name.
-fn add_told(alloc: Global, page: &mut Page, rest: &str) -> Result<String> {
-    let (slot, rest) = rest.split_once(' ').context("a slot")?;
-    let (kind, name) = rest.split_once(' ').context("a kind")?;
-    let kind = match kind {
-        "f" => Kind::File,
-        "d" => Kind::Directory,
-        _ => bail!("no such kind"),
-    };
+fn add_told(alloc: Global, page: &mut Page, rest: &str, out: &mut String) -> Option<()> {
+    let (slot, rest) = rest.split_once(' ')?;
+    let (kind, name) = rest.split_once(' ')?;
+    let slot = slot.parse().ok()?;
+    let kind = kind_of(kind)?;
     let name = name_of(alloc, name)?;
-    let is_added = add(page, slot.parse()?, kind, &name);
-    yes(alloc, is_added)
+    push_yes(add(page, slot, kind, &name), out)
 }
 
-/// So many bytes from a place on.
-fn bytes(alloc: Global, page: &Page, rest: &str) -> Result<String> {
-    let (at, count) = rest.split_once(' ').context("a place and a number")?;
-    let (_, after) = page
-        .bytes()
-        .split_at_checked(at.parse()?)
-        .context("a place")?;
-    let (bytes, _) = after.split_at_checked(count.parse()?).context("bytes")?;
-    Ok(encode(alloc, bytes)?)
+/// Removes the row of a name, and says whether there was one.
+fn remove_told(alloc: Global, page: &mut Page, name: &str, out: &mut String) -> Option<()> {
+    let name = name_of(alloc, name)?;
+    push_yes(remove(page, &name), out)
 }
 
-/// How the page is read with other bytes besides.
-fn with(alloc: Global, page: &Page, line: &str) -> Result<String> {
-    let mut page = page.copy(alloc)?;
-    change(alloc, &mut page, line)?;
-    shown(alloc, &page)
+/// Says so many bytes from a place on.
+fn bytes(page: &Page, rest: &str, out: &mut String) -> Option<()> {
+    let (at, count) = rest.split_once(' ')?;
+    let (_, after) = page.bytes().split_at_checked(at.parse().ok()?)?;
+    let (bytes, _) = after.split_at_checked(count.parse().ok()?)?;
+    push_digits(bytes, out).ok()
 }
 
-/// What the page answers.
-fn ask(alloc: Global, desk: &Desk, word: &str, rest: &str) -> Result<String> {
+/// Says how a page is read once it has other bytes besides.
+fn push_with(alloc: Global, page: &mut Page, line: &str, out: &mut String) -> Option<()> {
+    change(alloc, page, line)?;
+    shown(alloc, page, out)
+}
+
+/// Says how the page is read with other bytes besides; it stays as it is.
+fn with(alloc: Global, page: &Page, line: &str, out: &mut String) -> Option<()> {
+    let mut page = page.copy(alloc).ok()?;
+    push_with(alloc, &mut page, line, out)
+}
+
+/// Says what the page answers of a name.
+fn ask_name(page: &Page, word: &str, name: &[u8], out: &mut String) -> Option<()> {
     match word {
-        "rows" => shown(alloc, &desk.page),
-        "all" => shown_bytes(alloc, desk.page.bytes()),
-        "bytes" => bytes(alloc, &desk.page, rest),
-        "with" => with(alloc, &desk.page, rest),
-        "count" => Ok(format!(in alloc; "{}", rows(&desk.page))?),
-        "find" => shown_found(alloc, found(&desk.page, &name_of(alloc, rest)?)),
-        "room" => yes(alloc, fits(&desk.page, &name_of(alloc, rest)?)),
-        "same" => yes(alloc, desk.page.bytes() == desk.kept.bytes()),
-        _ => bail!("no such call"),
+        "find" => push_found(found(page, name), out),
+        _ => push_yes(fits(page, name), out),
+    }
+}
+
+/// Says what the page answers.
+fn ask(alloc: Global, desk: &Desk, word: &str, rest: &str, out: &mut String) -> Option<()> {
+    match word {
+        "rows" => shown(alloc, &desk.page, out),
+        "all" => push_bytes(desk.page.bytes(), out),
+        "bytes" => bytes(&desk.page, rest, out),
+        "with" => with(alloc, &desk.page, rest, out),
+        "count" => write!(out, "{}", rows(&desk.page)).ok(),
+        "find" | "room" => ask_name(&desk.page, word, &name_of(alloc, rest)?, out),
+        "same" => push_yes(desk.page.bytes() == desk.kept.bytes(), out),
+        _ => None,
     }
 }
 
 /// Begins a page of zeros with these bytes.
-fn begin(alloc: Global, line: &str) -> Result<Page> {
-    let mut page = Page::zeros(alloc)?;
-    change(alloc, &mut page, line)?;
-    Ok(page)
+fn begin(alloc: Global, desk: &mut Desk, line: &str) -> Option<()> {
+    desk.page = Page::zeros(alloc).ok()?;
+    change(alloc, &mut desk.page, line)
+}
+
+/// Begins a page without rows.
+fn clear(alloc: Global, desk: &mut Desk) -> Option<()> {
+    desk.page = cleared(alloc).ok()?;
+    Some(())
+}
+
+/// Keeps the page as it is.
+fn keep(alloc: Global, desk: &mut Desk) -> Option<()> {
+    desk.kept = desk.page.copy(alloc).ok()?;
+    Some(())
 }
 
 /// Does what a line says.
-fn call(alloc: Global, desk: &mut Desk, line: &str) -> Result<String> {
+fn call(alloc: Global, desk: &mut Desk, line: &str, out: &mut String) -> Option<()> {
     let (word, rest) = line.split_once(' ').unwrap_or((line, ""));
     match word {
-        "page" => desk.page = begin(alloc, rest)?,
-        "clear" => desk.page = cleared(alloc)?,
-        "keep" => desk.kept = desk.page.copy(alloc)?,
-        "add" => return add_told(alloc, &mut desk.page, rest),
-        "remove" => {
-            let is_removed = remove(&mut desk.page, &name_of(alloc, rest)?);
-            return yes(alloc, is_removed);
-        }
-        _ => return ask(alloc, desk, word, rest),
+        "page" => begin(alloc, desk, rest),
+        "clear" => clear(alloc, desk),
+        "keep" => keep(alloc, desk),
+        "add" => add_told(alloc, &mut desk.page, rest, out),
+        "remove" => remove_told(alloc, &mut desk.page, rest, out),
+        _ => ask(alloc, desk, word, rest, out),
     }
-    Ok(String::new(alloc))
+}
+
+/// Adds a line with what it answers.
+fn push_line(
+    alloc: Global,
+    answers: &mut String,
+    desk: &mut Desk,
+    line: &str,
+) -> Result<(), StoreFault> {
+    let mut out = String::new(alloc);
+    let is_read = is_idle(line) || call(alloc, desk, line, &mut out).is_some();
+    push_answer(answers, line, is_read, out.as_str())
 }
 
 /// Adds the lines of pages, with what they answer.
-pub fn push_page(alloc: Global, answers: &mut String, lines: &str) -> Result<()> {
-    let mut desk = Desk {
-        page: Page::zeros(alloc)?,
-        kept: Page::zeros(alloc)?,
-    };
+pub fn push_pages(alloc: Global, answers: &mut String, lines: &str) -> Result<(), StoreFault> {
+    let page = Page::zeros(alloc)?;
+    let kept = Page::zeros(alloc)?;
+    let mut desk = Desk { page, kept };
     for line in lines.lines() {
-        if is_idle(line) {
-            push_answer(answers, line, "")?;
-        } else {
-            let answer = call(alloc, &mut desk, line).context(line)?;
-            push_answer(answers, line, answer.as_str())?;
-        }
+        push_line(alloc, answers, &mut desk, line)?;
     }
     Ok(())
 }
 
-/// What a fault of rows says.
-pub fn fault(alloc: Global, word: &str) -> Result<String> {
+/// Says what a fault of rows says.
+pub fn fault(word: &str, out: &mut String) -> Option<()> {
     let fault = match word {
         "bad" => RowsFault::Bad,
         "no memory" => RowsFault::OutOfMemory,
-        _ => bail!("no such fault"),
+        _ => return None,
     };
-    Ok(format!(in alloc; "{fault}")?)
+    write!(out, "{fault}").ok()
 }

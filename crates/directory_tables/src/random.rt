@@ -1,15 +1,13 @@
 //! Random calls on a page and on a plain list of rows, side by side.
 ghost use Rattle.std.specs.Prelude.{◌<◌};
 
-use crate::text::shown;
-use anyhow::{Context, Result};
+use crate::text::{push_digits, shown};
 use directory_rows::from_directory_pages::{add_row, find_row, remove_row};
 use directory_rows::{Kind, Page, Tag, clear_rows, is_row_name, is_row_page};
-use hex::encode;
-use std::alloc::Global;
+use std::alloc::{AllocError, Global};
 
 /// Numbers that are always the same ones.
-#[derive(Drop)]
+#[derive(Clone, Copy)]
 struct Random {
     state: u64,
 }
@@ -42,8 +40,8 @@ fn some_row(random: &mut Random) -> Plain {
     }
 }
 
-fn name_of(alloc: Global, row: &Plain) -> Result<Vec<u8>> {
-    Ok(vec![in alloc; row.letter; row.times]?)
+fn name_of(alloc: Global, row: &Plain) -> Result<Vec<u8>, AllocError> {
+    vec![in alloc; row.letter; row.times]
 }
 
 /// Where the list has a row with the name of this one.
@@ -61,7 +59,12 @@ fn size_of(list: &[Plain]) -> usize {
 }
 
 /// Adds a row that the list does not have, and tells whether the page took it as the list says.
-fn add(page: &mut Page, list: &mut Vec<Plain>, row: &Plain, name: &[u8]) -> Result<bool> {
+fn add(
+    page: &mut Page,
+    list: &mut Vec<Plain>,
+    row: &Plain,
+    name: &[u8],
+) -> Result<bool, AllocError> {
     let fits = size_of(list).saturating_add(row.times) <= 8_168;
     let tag = Tag {
         slot: row.slot,
@@ -92,55 +95,113 @@ fn lacks(page: &Page, name: &[u8]) -> bool {
 }
 
 /// Adds a row or removes it, and tells whether the page did as the list says.
-fn step(alloc: Global, page: &mut Page, list: &mut Vec<Plain>, row: &Plain) -> Result<bool> {
-    let name = name_of(alloc, row)?;
+fn step_with(
+    page: &mut Page,
+    list: &mut Vec<Plain>,
+    row: &Plain,
+    name: &[u8],
+) -> Result<bool, AllocError> {
     match place_in(list, row) {
         None => {
-            let lacking = lacks(page, &name);
-            let added = add(page, list, row, &name)?;
+            let lacking = lacks(page, name);
+            let added = add(page, list, row, name)?;
             Ok(lacking && added)
         }
-        Some(at) => Ok(remove(page, list, at, &name)),
+        Some(at) => Ok(remove(page, list, at, name)),
     }
 }
 
-/// The rows of the list, as those of a page are shown.
-fn shown_list(alloc: Global, list: &[Plain]) -> Result<String> {
-    let mut text = String::new(alloc);
+/// Does that with a random row.
+fn step(
+    alloc: Global,
+    page: &mut Page,
+    list: &mut Vec<Plain>,
+    random: &mut Random,
+) -> Result<bool, AllocError> {
+    let row = some_row(random);
+    let name = name_of(alloc, &row)?;
+    step_with(page, list, &row, &name)
+}
+
+/// Adds a row of the list, as one of a page is shown.
+fn push_plain(alloc: Global, row: &Plain, out: &mut String) -> Result<(), AllocError> {
+    if !out.is_empty() {
+        out.push(' ')?;
+    }
+    write!(out, "{}.7 d ", row.slot)?;
+    push_digits(&name_of(alloc, row)?, out)
+}
+
+/// Adds the rows of the list, as those of a page are shown.
+fn push_list(alloc: Global, list: &[Plain], out: &mut String) -> Result<(), AllocError> {
     for row in list {
-        let space = if text.is_empty() { "" } else { " " };
-        let name = encode(alloc, name_of(alloc, row)?)?;
-        text.push_str(format!(in alloc; "{space}{}.7 d {}", row.slot, name)?.as_str())?;
+        push_plain(alloc, row, out)?;
     }
-    Ok(text)
+    Ok(())
 }
 
-/// How many of so many steps went as the list says, and whether the page ends as the list does.
-fn run(alloc: Global, seed: u64, steps: u32) -> Result<(u32, bool)> {
-    let mut random = Random { state: seed };
-    let mut list = Vec::new(alloc);
-    let mut page = Page::zeros(alloc)?;
-    clear_rows(&mut page);
+/// Whether a page has the rows of a list.
+fn is_same(alloc: Global, page: &Page, list: &[Plain]) -> Option<bool> {
+    let mut has = String::new(alloc);
+    let mut says = String::new(alloc);
+    shown(alloc, page, &mut has)?;
+    push_list(alloc, list, &mut says).ok()?;
+    Some(has.as_str() == says.as_str())
+}
+
+/// How many of so many steps went as the list says.
+fn count_right(
+    alloc: Global,
+    random: &mut Random,
+    page: &mut Page,
+    list: &mut Vec<Plain>,
+    steps: u32,
+) -> Result<u32, AllocError> {
     let mut right: u32 = 0;
     for _ in 0..steps {
-        let row = some_row(&mut random);
-        if step(alloc, &mut page, &mut list, &row)? {
+        if step(alloc, page, list, random)? {
             right = right.saturating_add(1);
         }
     }
-    let same = shown(alloc, &page)?.as_str() == shown_list(alloc, &list)?.as_str();
-    Ok((right, same))
+    Ok(right)
 }
 
-/// How many of the steps from a seed went as the list says, and whether the page ends as the list
-/// does.
-pub fn random_rows(alloc: Global, line: &str) -> Result<String> {
-    let (seed, steps) = line.split_once(' ').context("two numbers")?;
-    let (right, is_same) = run(alloc, seed.parse()?, steps.parse()?)?;
-    let word = if is_same {
+/// Takes so many steps, and says how many of them went as the list says, and whether the page ends as
+/// the list does.
+fn push_steps(
+    alloc: Global,
+    random: &mut Random,
+    page: &mut Page,
+    list: &mut Vec<Plain>,
+    steps: u32,
+    out: &mut String,
+) -> Option<()> {
+    clear_rows(page);
+    let right = count_right(alloc, random, page, list, steps).ok()?;
+    write!(out, "{right} right, ").ok()?;
+    out.push_str(if is_same(alloc, page, list)? {
         "the same rows"
     } else {
         "other rows"
+    })
+    .ok()
+}
+
+/// Says how many of the steps from a seed went as the list says, and whether the page ends as the
+/// list does.
+pub fn random_rows(alloc: Global, line: &str, out: &mut String) -> Option<()> {
+    let (seed, steps) = line.split_once(' ')?;
+    let mut random = Random {
+        state: seed.parse().ok()?,
     };
-    Ok(format!(in alloc; "{right} right, {word}")?)
+    let steps = steps.parse().ok()?;
+    let mut page = Page::zeros(alloc).ok()?;
+    push_steps(
+        alloc,
+        &mut random,
+        &mut page,
+        &mut Vec::new(alloc),
+        steps,
+        out,
+    )
 }

@@ -10,26 +10,24 @@ use crate::row_steps::{
     ROOT, add, add_mixed, add_wide, count_long, count_wide, empty_root, first_four,
     listed_in_place, remove, remove_odd, slot_of,
 };
-use anyhow::{Context, Result, bail};
-use directory_rows::{BitfileSet, MemoryBitfiles, StoreFault, is_empty, row_count};
+use directory_rows::{BitfileSet, MemoryBitfiles, OutOfMemory, StoreFault, is_empty, row_count};
 use page_looks::Looks;
 use std::alloc::Global;
 
-/// How many pages a directory has, and whether it has an index.
-fn shape<S: BitfileSet>(alloc: Global, set: &S) -> Result<String> {
-    let pages = set.dir_pages(ROOT);
+/// Says how many pages a directory has, and whether it has an index.
+fn push_shape<S: BitfileSet>(set: &S, out: &mut String) -> Result<(), OutOfMemory> {
     let with = if set.index_page(ROOT, 0).is_some() {
         "with an index"
     } else {
         "without an index"
     };
-    Ok(format!(in alloc; "{pages} {with}")?)
+    write!(out, "{} {with}", set.dir_pages(ROOT))
 }
 
-/// What was looked at.
-fn shown_looks(alloc: Global, looks: [u32; 2]) -> Result<String> {
+/// Says what was looked at.
+fn push_looks(looks: [u32; 2], out: &mut String) -> Result<(), OutOfMemory> {
     let [pages, index] = looks;
-    Ok(format!(in alloc; "{pages} of the directory, {index} of the index")?)
+    write!(out, "{pages} of the directory, {index} of the index")
 }
 
 /// How many pages of the directory and of its index are looked at to find a name.
@@ -41,9 +39,9 @@ fn looks_for<S: BitfileSet>(set: &S, name: &[u8]) -> [u32; 2]
     looks.taken()
 }
 
-/// What is looked at to count the rows of a directory, to ask whether there is one, and to list
+/// What is looked at to count the rows of a directory, to ask whether there is one, or else to list
 /// them.
-fn looks_at_all<S: BitfileSet>(alloc: Global, set: &S, word: &str) -> Result<[u32; 2]>
+fn looks_at_all<S: BitfileSet>(alloc: Global, set: &S, word: &str) -> Result<[u32; 2], OutOfMemory>
     requires { IsWellFormed (S.files set.now) ROOT }
 {
     let looks = Looks::new(set);
@@ -54,128 +52,175 @@ fn looks_at_all<S: BitfileSet>(alloc: Global, set: &S, word: &str) -> Result<[u3
         "empty" => {
             let _ = is_empty(&looks, ROOT);
         }
-        "list" => {
+        _ => {
             listed_in_place(&looks, alloc, ROOT)?;
         }
-        _ => bail!("nothing to look for"),
     }
     Ok(looks.taken())
 }
 
-/// The slots of the first four rows.
-fn listed<S: BitfileSet>(alloc: Global, set: &S) -> Result<String>
+/// Says the slots of the first four rows.
+fn push_listed<S: BitfileSet>(alloc: Global, set: &S, out: &mut String) -> Result<(), OutOfMemory>
     requires { IsWellFormed (S.files set.now) ROOT }
 {
     let [a, b, c, d] = first_four(set, alloc, ROOT)?;
-    Ok(format!(in alloc; "{a} {b} {c} {d}")?)
+    write!(out, "{a} {b} {c} {d}")
+}
+
+/// The slot of the row of a name.
+fn found<S: BitfileSet>(alloc: Global, set: &S, name: &str) -> Option<u32>
+    requires { IsWellFormed (S.files set.now) ROOT }
+{
+    let name = name_of(alloc, name)?;
+    Some(slot_of(set, ROOT, &name))
+}
+
+/// What is looked at to find a name.
+fn looked<S: BitfileSet>(alloc: Global, set: &S, name: &str) -> Option<[u32; 2]>
+    requires { IsWellFormed (S.files set.now) ROOT }
+{
+    let name = name_of(alloc, name)?;
+    Some(looks_for(set, &name))
 }
 
 /// A number that is asked for.
-fn number<S: BitfileSet>(alloc: Global, set: &S, word: &str, rest: &str) -> Result<u32>
+fn number<S: BitfileSet>(alloc: Global, set: &S, word: &str, rest: &str) -> Option<u32>
     requires { IsWellFormed (S.files set.now) ROOT }
 {
     match word {
-        "count" => Ok(row_count(set, ROOT)),
-        "find" => Ok(slot_of(set, ROOT, &name_of(alloc, rest)?)),
-        "in-place" => Ok(listed_in_place(set, alloc, ROOT)?),
-        "wide-found" => Ok(count_wide(set, ROOT, rest.parse()?)),
-        "even-found" => Ok(count_long(set, ROOT, rest.parse()?, false)),
-        "odd-found" => Ok(count_long(set, ROOT, rest.parse()?, true)),
-        _ => bail!("no such call"),
+        "count" => Some(row_count(set, ROOT)),
+        "find" => found(alloc, set, rest),
+        "in-place" => listed_in_place(set, alloc, ROOT).ok(),
+        "wide-found" => Some(count_wide(set, ROOT, rest.parse().ok()?)),
+        "even-found" => Some(count_long(set, ROOT, rest.parse().ok()?, false)),
+        "odd-found" => Some(count_long(set, ROOT, rest.parse().ok()?, true)),
+        _ => None,
     }
 }
 
-/// What the directory answers.
-fn ask<S: BitfileSet>(alloc: Global, set: &S, word: &str, rest: &str) -> Result<String>
+/// Says what the directory answers.
+fn ask<S: BitfileSet>(
+    alloc: Global,
+    set: &S,
+    word: &str,
+    rest: &str,
+    out: &mut String,
+) -> Option<()>
     requires { IsWellFormed (S.files set.now) ROOT }
 {
     match word {
-        "shape" => shape(alloc, set),
-        "list" => listed(alloc, set),
-        "looks" => shown_looks(alloc, looks_for(set, &name_of(alloc, rest)?)),
-        "looks-to" => shown_looks(alloc, looks_at_all(alloc, set, rest)?),
-        "empty" => {
-            let word = if is_empty(set, ROOT) { "yes" } else { "no" };
-            Ok(String::from_str(alloc, word)?)
-        }
-        _ => Ok(format!(in alloc; "{}", number(alloc, set, word, rest)?)?),
+        "shape" => push_shape(set, out).ok(),
+        "list" => push_listed(alloc, set, out).ok(),
+        "looks" => push_looks(looked(alloc, set, rest)?, out).ok(),
+        "looks-to" => push_looks(looks_at_all(alloc, set, rest).ok()?, out).ok(),
+        "empty" => out
+            .push_str(if is_empty(set, ROOT) { "yes" } else { "no" })
+            .ok(),
+        _ => write!(out, "{}", number(alloc, set, word, rest)?).ok(),
     }
 }
 
-/// What the directory answers as a clone shows it, which has no index.
-fn ask_bare(alloc: Global, set: &MemoryBitfiles, word: &str, rest: &str) -> Result<String>
+/// Says what the directory answers as a clone shows it, which has no index.
+fn ask_bare(alloc: Global, set: &MemoryBitfiles, line: &str, out: &mut String) -> Option<()>
     requires { IsWellFormed (⟦<MemoryBitfiles as BitfileSet>⟧.files set.now) ROOT }
 {
+    let (word, rest) = line.split_once(' ').unwrap_or((line, ""));
     let bare = Bare::new(set);
-    ask(alloc, &bare, word, rest)
+    ask(alloc, &bare, word, rest, out)
 }
 
-/// Adds a row: a line has its slot and its name. Whether the name is good and new.
-fn add_told(alloc: Global, set: &mut MemoryBitfiles, rest: &str) -> Result<String>
+/// Adds a row, and says whether the name is good and new. It answers whether the line is one.
+fn add_told(
+    alloc: Global,
+    set: &mut MemoryBitfiles,
+    rest: &str,
+    out: &mut String,
+) -> Result<bool, StoreFault>
     requires { IsWellFormed (⟦<MemoryBitfiles as BitfileSet>⟧.files set.old) ROOT }
     ensures { OnOk result (IsWellFormed (⟦<MemoryBitfiles as BitfileSet>⟧.files set.new) ROOT) }
 {
-    let (slot, name) = rest.split_once(' ').context("a slot")?;
-    let name = name_of(alloc, name)?;
-    let slot: u32 = slot.parse()?;
+    let (slot, name) = rest.split_once(' ').unwrap_or(("", rest));
+    let (Some(name), Ok(slot)) = (name_of(alloc, name), slot.parse()) else {
+        return Ok(false);
+    };
     let is_new = add(set, alloc, ROOT, slot, &name)?;
-    Ok(String::from_str(alloc, if is_new { "new" } else { "not new" })?)
+    out.push_str(if is_new { "new" } else { "not new" })?;
+    Ok(true)
 }
 
-/// Removes a row, and tells whether it was there.
-fn remove_told(alloc: Global, set: &mut MemoryBitfiles, name: &str) -> Result<String>
+/// Removes a row, and says whether it was there. It answers whether the line is one.
+fn remove_told(
+    alloc: Global,
+    set: &mut MemoryBitfiles,
+    name: &str,
+    out: &mut String,
+) -> Result<bool, StoreFault>
     requires { IsWellFormed (⟦<MemoryBitfiles as BitfileSet>⟧.files set.old) ROOT }
     ensures { OnOk result (IsWellFormed (⟦<MemoryBitfiles as BitfileSet>⟧.files set.new) ROOT) }
 {
-    let name = name_of(alloc, name)?;
+    let Some(name) = name_of(alloc, name) else {
+        return Ok(false);
+    };
     let was_there = remove(set, alloc, ROOT, &name)?;
-    Ok(String::from_str(alloc, if was_there { "there" } else { "not there" })?)
+    out.push_str(if was_there { "there" } else { "not there" })?;
+    Ok(true)
 }
 
-/// Removes the odd ones of so many long names, and tells how many there were.
-fn remove_odd_told(alloc: Global, set: &mut MemoryBitfiles, count: u32) -> Result<String>
+/// Removes the odd ones of so many long names, and says how many there were.
+fn remove_odd_told(
+    alloc: Global,
+    set: &mut MemoryBitfiles,
+    count: u32,
+    out: &mut String,
+) -> Result<(), StoreFault>
     requires { IsWellFormed (⟦<MemoryBitfiles as BitfileSet>⟧.files set.old) ROOT }
     ensures { OnOk result (IsWellFormed (⟦<MemoryBitfiles as BitfileSet>⟧.files set.new) ROOT) }
 {
     let removed = remove_odd(set, alloc, ROOT, count)?;
-    Ok(format!(in alloc; "{removed}")?)
+    write!(out, "{removed}")?;
+    Ok(())
 }
 
-/// Adds so many wide names.
-fn add_wide_told(alloc: Global, set: &mut MemoryBitfiles, count: u32) -> Result<String>
+/// Adds so many wide names, or long ones in a mixed order, or removes the odd ones of so many long
+/// names. It answers whether the line is one.
+fn change_many(
+    alloc: Global,
+    set: &mut MemoryBitfiles,
+    word: &str,
+    rest: &str,
+    out: &mut String,
+) -> Result<bool, StoreFault>
     requires { IsWellFormed (⟦<MemoryBitfiles as BitfileSet>⟧.files set.old) ROOT }
     ensures { OnOk result (IsWellFormed (⟦<MemoryBitfiles as BitfileSet>⟧.files set.new) ROOT) }
 {
-    add_wide(set, alloc, ROOT, count)?;
-    Ok(String::new(alloc))
+    let Ok(count) = rest.parse() else {
+        return Ok(false);
+    };
+    match word {
+        "wide" => add_wide(set, alloc, ROOT, count)?,
+        "mixed" => add_mixed(set, alloc, ROOT, count)?,
+        _ => remove_odd_told(alloc, set, count, out)?,
+    }
+    Ok(true)
 }
 
-/// Adds so many long names in a mixed order.
-fn add_mixed_told(alloc: Global, set: &mut MemoryBitfiles, count: u32) -> Result<String>
-    requires { IsWellFormed (⟦<MemoryBitfiles as BitfileSet>⟧.files set.old) ROOT }
-    ensures { OnOk result (IsWellFormed (⟦<MemoryBitfiles as BitfileSet>⟧.files set.new) ROOT) }
-{
-    add_mixed(set, alloc, ROOT, count)?;
-    Ok(String::new(alloc))
-}
-
-/// Does what a line says.
-fn call(alloc: Global, set: &mut MemoryBitfiles, line: &str) -> Result<String>
+/// Does what a line says. It answers whether the line is one.
+fn call(
+    alloc: Global,
+    set: &mut MemoryBitfiles,
+    line: &str,
+    out: &mut String,
+) -> Result<bool, StoreFault>
     requires { IsWellFormed (⟦<MemoryBitfiles as BitfileSet>⟧.files set.old) ROOT }
     ensures { OnOk result (IsWellFormed (⟦<MemoryBitfiles as BitfileSet>⟧.files set.new) ROOT) }
 {
     let (word, rest) = line.split_once(' ').unwrap_or((line, ""));
     match word {
-        "add" => add_told(alloc, set, rest),
-        "remove" => remove_told(alloc, set, rest),
-        "wide" => add_wide_told(alloc, set, rest.parse()?),
-        "mixed" => add_mixed_told(alloc, set, rest.parse()?),
-        "remove-odd" => remove_odd_told(alloc, set, rest.parse()?),
-        "bare" => {
-            let (word, rest) = rest.split_once(' ').unwrap_or((rest, ""));
-            ask_bare(alloc, set, word, rest)
-        }
-        _ => ask(alloc, set, word, rest),
+        "add" => add_told(alloc, set, rest, out),
+        "remove" => remove_told(alloc, set, rest, out),
+        "wide" | "mixed" | "remove-odd" => change_many(alloc, set, word, rest, out),
+        "bare" => Ok(ask_bare(alloc, set, rest, out).is_some()),
+        _ => Ok(ask(alloc, set, word, rest, out).is_some()),
     }
 }
 
@@ -185,19 +230,20 @@ fn push_line(
     answers: &mut String,
     set: &mut MemoryBitfiles,
     line: &str,
-) -> Result<()>
+) -> Result<(), StoreFault>
     requires { IsWellFormed (⟦<MemoryBitfiles as BitfileSet>⟧.files set.old) ROOT }
     ensures { OnOk result (IsWellFormed (⟦<MemoryBitfiles as BitfileSet>⟧.files set.new) ROOT) }
 {
     if is_idle(line) {
-        return push_answer(answers, line, "");
+        return push_answer(answers, line, true, "");
     }
-    let answer = call(alloc, set, line)?;
-    push_answer(answers, line, answer.as_str())
+    let mut out = String::new(alloc);
+    let is_read = call(alloc, set, line, &mut out)?;
+    push_answer(answers, line, is_read, out.as_str())
 }
 
 /// Adds the lines of a root, with what they answer.
-pub fn push_rows(alloc: Global, answers: &mut String, lines: &str) -> Result<()> {
+pub fn push_rows(alloc: Global, answers: &mut String, lines: &str) -> Result<(), StoreFault> {
     let mut set = empty_root(alloc, Vec::new(alloc))?;
     for line in lines.lines() {
         push_line(alloc, answers, &mut set, line)?;
@@ -205,18 +251,25 @@ pub fn push_rows(alloc: Global, answers: &mut String, lines: &str) -> Result<()>
     Ok(())
 }
 
-/// What the addition of a row to a new page answers where one changing call finds no page, how many
-/// misses there were, and the shape. The rows before take 32 calls.
-pub fn missed_row(alloc: Global, call: u64) -> Result<String> {
-    let misses = vec![in alloc; call]?;
-    let mut set = empty_root(alloc, misses)?;
-    add_wide(&mut set, alloc, ROOT, 31)?;
-    add(&mut set, alloc, ROOT, 40, b"fifteen letters")?;
-    let answer = match add(&mut set, alloc, ROOT, 41, b"q") {
+/// Says what the addition of a row to a new page answers where one changing call finds no page, how
+/// many misses there were, and the shape. The rows before take 32 calls.
+fn push_missed(alloc: Global, set: &mut MemoryBitfiles, out: &mut String) -> Result<(), StoreFault>
+    requires { IsWellFormed (⟦<MemoryBitfiles as BitfileSet>⟧.files set.old) ROOT }
+{
+    add_wide(set, alloc, ROOT, 31)?;
+    add(set, alloc, ROOT, 40, b"fifteen letters")?;
+    let answer = match add(set, alloc, ROOT, 41, b"q") {
         Ok(_) => "done",
         Err(StoreFault::NoPage) => "no page",
-        Err(StoreFault::OutOfMemory) => bail!("out of memory"),
+        Err(StoreFault::OutOfMemory) => "out of memory",
     };
-    let shape = shape(alloc, &set)?;
-    Ok(format!(in alloc; "{answer}, {} misses, {shape}", set.misses())?)
+    write!(out, "{answer}, {} misses, ", set.misses())?;
+    push_shape(set, out)?;
+    Ok(())
+}
+
+/// Says what the addition of a row to a new page answers where this changing call finds no page.
+pub fn missed_row(alloc: Global, call: u64, out: &mut String) -> Result<(), StoreFault> {
+    let mut set = empty_root(alloc, vec![in alloc; call]?)?;
+    push_missed(alloc, &mut set, out)
 }

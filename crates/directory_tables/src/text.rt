@@ -2,39 +2,37 @@
 //! hexadecimal digits, a place being the byte at which the bytes after it begin; what is not told
 //! is zeros.
 
-use anyhow::{Result, bail};
 use directory_rows::from_directory_pages::read_rows;
 use directory_rows::limits::PAGE_BYTES;
 use directory_rows::{Kind, OutOfMemory, Page, Row, RowsFault};
-use hex::{decode, encode};
+use hex::decode;
 use std::alloc::Global;
 
-/// Puts bytes on a page.
-fn put_bytes(page: &mut Page, at: usize, bytes: &[u8]) -> Result<()> {
+/// Puts bytes on a page, and tells where they end.
+fn put_bytes(page: &mut Page, at: usize, bytes: &[u8]) -> Option<usize> {
     if PAGE_BYTES < at || PAGE_BYTES - at < bytes.len() {
-        bail!("bytes of a page");
+        return None;
     }
     page.set(at, bytes);
-    Ok(())
+    Some(at + bytes.len())
+}
+
+/// Puts the bytes of a word on a page, and tells where they end.
+fn put_word(alloc: Global, page: &mut Page, at: usize, word: &str) -> Option<usize> {
+    let bytes = decode(alloc, word).ok()?;
+    put_bytes(page, at, &bytes)
 }
 
 /// Changes a page as a line tells.
-pub fn change(alloc: Global, page: &mut Page, line: &str) -> Result<()> {
-    let mut at = 0;
+pub fn change(alloc: Global, page: &mut Page, line: &str) -> Option<()> {
+    let mut at: usize = 0;
     for word in line.split_whitespace() {
-        match word.strip_prefix("@") {
-            Some(place) => {
-                let place: u16 = place.parse()?;
-                at = usize::from(place);
-            }
-            None => {
-                let bytes = decode(alloc, word)?;
-                put_bytes(page, at, &bytes)?;
-                at = at.saturating_add(bytes.len());
-            }
-        }
+        at = match word.strip_prefix("@") {
+            Some(place) => place.parse().ok()?,
+            None => put_word(alloc, page, at, word)?,
+        };
     }
-    Ok(())
+    Some(())
 }
 
 /// The letter for a kind.
@@ -45,44 +43,64 @@ pub fn letter(kind: Kind) -> &'static str {
     }
 }
 
-/// A row: its tag, the letter of its kind, and the bytes of its name.
-fn shown_row(alloc: Global, row: &Row) -> Result<String, OutOfMemory> {
-    let name = encode(alloc, row.name.as_slice())?;
-    let kind = letter(row.kind);
-    format!(in alloc; "{}.{} {} {}", row.tag.slot, row.tag.seq, kind, name)
-}
-
-/// All rows of a page, one after the other, or why they are not read.
-pub fn shown(alloc: Global, page: &Page) -> Result<String> {
-    let mut text = String::new(alloc);
-    match read_rows(alloc, page) {
-        Ok(rows) => {
-            for row in rows.as_slice() {
-                if !text.is_empty() {
-                    text.push(' ')?;
-                }
-                text.push_str(shown_row(alloc, row)?.as_str())?;
-            }
-            if text.is_empty() {
-                text.push_str("no rows")?;
-            }
-        }
-        Err(RowsFault::Bad) => text.push_str("bad")?,
-        Err(RowsFault::OutOfMemory) => bail!("memory"),
+/// Adds the hexadecimal digits of bytes.
+pub fn push_digits(bytes: &[u8], out: &mut String) -> Result<(), OutOfMemory> {
+    for byte in bytes {
+        write!(out, "{byte:02x}")?;
     }
-    Ok(text)
+    Ok(())
 }
 
-/// Bytes in groups of eight: the number of each group that is not zeros, and its digits.
-pub fn shown_bytes(alloc: Global, bytes: &[u8]) -> Result<String> {
-    let mut text = String::new(alloc);
+/// Adds a row: its tag, the letter of its kind, and the bytes of its name.
+fn push_row(row: &Row, out: &mut String) -> Result<(), OutOfMemory> {
+    if !out.is_empty() {
+        out.push(' ')?;
+    }
+    write!(
+        out,
+        "{}.{} {} ",
+        row.tag.slot,
+        row.tag.seq,
+        letter(row.kind)
+    )?;
+    push_digits(row.name.as_slice(), out)
+}
+
+/// Adds all rows, one after the other.
+fn push_list(rows: &[Row], out: &mut String) -> Option<()> {
+    for row in rows {
+        push_row(row, out).ok()?;
+    }
+    if rows.is_empty() {
+        out.push_str("no rows").ok()?;
+    }
+    Some(())
+}
+
+/// Says all rows of a page, one after the other, or that they are bad.
+pub fn shown(alloc: Global, page: &Page, out: &mut String) -> Option<()> {
+    match read_rows(alloc, page) {
+        Ok(rows) => push_list(rows.as_slice(), out),
+        Err(RowsFault::Bad) => out.push_str("bad").ok(),
+        Err(RowsFault::OutOfMemory) => None,
+    }
+}
+
+/// Adds a group of bytes: its number, and its digits.
+fn push_group(number: usize, group: &[u8], out: &mut String) -> Result<(), OutOfMemory> {
+    if !out.is_empty() {
+        out.push(' ')?;
+    }
+    write!(out, "{number}:")?;
+    push_digits(group, out)
+}
+
+/// Says bytes in groups of eight: the number of each group that is not zeros, and its digits.
+pub fn push_bytes(bytes: &[u8], out: &mut String) -> Option<()> {
     for (number, group) in bytes.chunks(8).enumerate() {
         if group.iter().any(|byte| *byte != 0) {
-            let digits = encode(alloc, group)?;
-            let space = if text.is_empty() { "" } else { " " };
-            let word = format!(in alloc; "{space}{number}:{}", digits.as_str())?;
-            text.push_str(word.as_str())?;
+            push_group(number, group, out).ok()?;
         }
     }
-    Ok(text)
+    Some(())
 }
