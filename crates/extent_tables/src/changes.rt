@@ -4,9 +4,9 @@ ghost use Rattle.std.specs.Prelude.{◌≡◌, ◌<◌, OnOk, true, false};
 ghost use Rattle.extent_records.specs.cell_records.Records.{kind_of};
 ghost use Rattle.extent_records.specs.Writing.{IsMapRecord, is_of_holes};
 
-use crate::random::{Random, some_home, some_page, two_numbers, word};
-use crate::writing::{empty_of, listed};
-use anyhow::{Context, Result};
+use crate::random::{Random, some_home, some_page, word};
+use crate::words::two_numbers;
+use crate::writing::{empty_of, push_listed};
 use extent_records::limits::FILE_PAGES;
 use extent_records::{
     Home, OutOfMemory, PagePlace, Record, cut_from, cut_page, cut_to, empty_holes, keep_hole,
@@ -69,25 +69,27 @@ fn cut_part(alloc: Global, value: &mut Record, page: u32, front: bool) -> Result
 }
 
 /// One call on a record of extents, and whether it was done.
-fn step_extents(alloc: Global, random: &mut Random, value: &mut Record) -> Result<bool>
+fn step_extents(alloc: Global, random: &mut Random, value: &mut Record) -> Result<bool, OutOfMemory>
     requires is_map { IsMapRecord value.old }
     requires extents { is_of_holes (kind_of value.old) ≡ false }
     ensures is_map { OnOk result (IsMapRecord value.new) }
     ensures kind { OnOk result (kind_of value.new ≡ kind_of value.old) }
 {
     let page = some_page(random);
-    let home = some_home(random, page)?;
+    let Some(home) = some_home(random, page) else {
+        return Ok(false);
+    };
     match random.next() % 32 {
-        0..=15 => Ok(put(alloc, value, page, home)?),
-        16..=23 => Ok(cut_page(alloc, value, page)?),
-        24..=29 => Ok(switch(alloc, value, page, home)?),
-        30 => Ok(cut_part(alloc, value, page, false)?),
-        _ => Ok(cut_part(alloc, value, page, true)?),
+        0..=15 => put(alloc, value, page, home),
+        16..=23 => cut_page(alloc, value, page),
+        24..=29 => switch(alloc, value, page, home),
+        30 => cut_part(alloc, value, page, false),
+        _ => cut_part(alloc, value, page, true),
     }
 }
 
 /// One call on a record of holes, and whether it was done.
-fn step_holes(alloc: Global, random: &mut Random, value: &mut Record) -> Result<bool>
+fn step_holes(alloc: Global, random: &mut Random, value: &mut Record) -> Result<bool, OutOfMemory>
     requires is_map { IsMapRecord value.old }
     requires holes { is_of_holes (kind_of value.old) ≡ true }
     ensures is_map { OnOk result (IsMapRecord value.new) }
@@ -95,65 +97,68 @@ fn step_holes(alloc: Global, random: &mut Random, value: &mut Record) -> Result<
 {
     let page = some_page(random);
     match random.next() % 32 {
-        0..=19 => Ok(keep(alloc, value, page)?),
-        20..=29 => Ok(cut_page(alloc, value, page)?),
-        30 => Ok(cut_part(alloc, value, page, false)?),
-        _ => Ok(cut_part(alloc, value, page, true)?),
+        0..=19 => keep(alloc, value, page),
+        20..=29 => cut_page(alloc, value, page),
+        30 => cut_part(alloc, value, page, false),
+        _ => cut_part(alloc, value, page, true),
     }
 }
 
 /// Adds an answer, and after every tenth the rows that are used.
 fn push_answer(
-    alloc: Global,
-    text: &mut String,
     call: u32,
     is_done: bool,
     value: &Record,
-) -> Result<()> {
-    text.push_str(word(is_done))?;
-    text.push(' ')?;
+    out: &mut String,
+) -> Result<(), OutOfMemory> {
+    out.push_str(word(is_done))?;
+    out.push(' ')?;
     if call % 10 == 9 {
-        text.push_str("| ")?;
-        text.push_str(listed(alloc, value)?.as_str())?;
-        text.push('\n')?;
+        out.push_str("| ")?;
+        push_listed(value, out)?;
+        out.push('\n')?;
     }
     Ok(())
 }
 
-/// What random calls on a record of extents answer.
-fn random_extents(alloc: Global, empty: &Record, seed: u64, calls: u32) -> Result<String>
+/// Says what random calls on a record of extents answer.
+fn random_extents(
+    alloc: Global,
+    empty: &Record,
+    seed: u64,
+    calls: u32,
+    out: &mut String,
+) -> Result<(), OutOfMemory>
     requires is_map { IsMapRecord empty.now }
     requires extents { is_of_holes (kind_of empty.now) ≡ false }
 {
     let mut random = Random { state: seed };
     let mut value = *empty;
-    let mut text = String::new(alloc);
     for call in 0..calls {
         let is_done = step_extents(alloc, &mut random, &mut value)?;
-        push_answer(alloc, &mut text, call, is_done, &value)?;
+        push_answer(call, is_done, &value, out)?;
     }
-    Ok(text)
+    Ok(())
 }
 
-/// What random calls on a record of holes answer.
-fn random_holes(alloc: Global, seed: u64, calls: u32) -> Result<String> {
+/// Says what random calls on a record of holes answer.
+fn random_holes(alloc: Global, seed: u64, calls: u32, out: &mut String) -> Result<(), OutOfMemory> {
     let mut random = Random { state: seed };
     let mut value = empty_holes();
-    let mut text = String::new(alloc);
     for call in 0..calls {
         let is_done = step_holes(alloc, &mut random, &mut value)?;
-        push_answer(alloc, &mut text, call, is_done, &value)?;
+        push_answer(call, is_done, &value, out)?;
     }
-    Ok(text)
+    Ok(())
 }
 
-/// What random calls on a record answer. A row has the kind of the record, the seed and the number
-/// of calls.
-pub fn random_records(alloc: Global, rest: &str) -> Result<String> {
-    let (kind, rest) = rest.split_once(' ').context("a kind of record")?;
+/// Says what random calls on a record answer. A row has the kind of the record, the seed and the
+/// number of calls.
+pub fn random_records(alloc: Global, rest: &str, out: &mut String) -> Option<()> {
+    let (kind, rest) = rest.split_once(' ')?;
     let (seed, calls) = two_numbers(rest)?;
     if kind == "holes" {
-        return random_holes(alloc, seed, calls);
+        return random_holes(alloc, seed, calls, out).ok();
     }
-    random_extents(alloc, &empty_of(kind)?, seed, calls)
+    random_extents(alloc, &empty_of(kind)?, seed, calls, out).ok()
 }

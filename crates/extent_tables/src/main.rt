@@ -10,10 +10,10 @@ mod rows;
 mod words;
 mod writing;
 
-use anyhow::Result;
 use rows::push_row;
+use std::io;
 
-fn main(rt: HostRuntime) -> Result<()> {
+fn main(rt: HostRuntime) -> io::Result<()> {
     let mut answers = String::new(rt.alloc());
     for row in rt.lines(rt.alloc()) {
         push_row(rt.alloc(), &mut answers, row?.as_str())?;

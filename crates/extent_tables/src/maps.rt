@@ -3,10 +3,11 @@
 ghost use Rattle.std.specs.Prelude.{◌+◌, ◌^◌, ◌≤◌};
 ghost use Rattle.extent_records.specs.extent_maps.Runs.{FitsVolume};
 
-use crate::words::{field_of, place_of, shown_map};
-use anyhow::{Context, Result, bail};
+use crate::random::random_calls;
+use crate::words::{field_of, place_of, push_map};
+use crate::writing::{dense_run, scattered, written};
 use extent_records::limits::FILE_PAGES;
-use extent_records::{ExtentField, ExtentMap, Home, PagePlace, Run, RunPlace, VolIx};
+use extent_records::{ExtentField, ExtentMap, Home, OutOfMemory, PagePlace, Run, RunPlace, VolIx};
 use std::alloc::Global;
 
 /// Where the first of the pages stands.
@@ -22,20 +23,32 @@ fn first_place(field: &ExtentField) -> RunPlace
     }
 }
 
-/// Puts a page at its home, or keeps it as a hole.
-fn put(map: &mut ExtentMap, page: u32, place: RunPlace) -> Result<()> {
-    if FILE_PAGES <= page || map.home_of(page) != PagePlace::Absent {
-        bail!("no absent page of a file");
+/// Puts a page of a file at its home, or keeps it as a hole, and tells whether it was absent.
+pub fn put(map: &mut ExtentMap, page: u32, place: RunPlace) -> Result<bool, OutOfMemory> {
+    if FILE_PAGES <= page {
+        return Ok(false);
+    }
+    match map.home_of(page) {
+        PagePlace::Absent => {}
+        _ => return Ok(false),
     }
     match place {
         RunPlace::At(home) => map.put(page, home)?,
         RunPlace::Holes => map.keep_hole(page)?,
     }
-    Ok(())
+    Ok(true)
+}
+
+/// Puts a page that is absent.
+pub fn put_absent(map: &mut ExtentMap, page: u32, place: RunPlace) -> Option<()> {
+    match put(map, page, place) {
+        Ok(true) => Some(()),
+        _ => None,
+    }
 }
 
 /// Puts a run, and tells whether it had room.
-pub fn put_run(map: &mut ExtentMap, field: &ExtentField) -> Result<bool> {
+pub fn put_run(map: &mut ExtentMap, field: &ExtentField) -> Option<bool> {
     let ExtentField {
         page,
         count,
@@ -43,67 +56,63 @@ pub fn put_run(map: &mut ExtentMap, field: &ExtentField) -> Result<bool> {
         ..
     } = *field;
     if count == 0 || FILE_PAGES < count || FILE_PAGES - count < page || 100_000 < first {
-        bail!("no pages of a file");
+        return None;
     }
     let run = Run {
         page,
         count,
         first: first_place(field),
     };
-    Ok(map.put_run(&run)?)
+    map.put_run(&run).ok()
 }
 
 /// Does what one word says, and tells whether there was room.
-fn step(map: &mut ExtentMap, word: &str) -> Result<bool> {
+fn step(map: &mut ExtentMap, word: &str) -> Option<bool> {
     if let Some(page) = word.strip_prefix('-') {
-        map.cut(page.parse()?)?;
-        return Ok(true);
+        map.cut(page.parse().ok()?).ok()?;
+        return Some(true);
     }
     let field = field_of(word)?;
     if word.contains('+') {
         return put_run(map, &field);
     }
-    put(map, field.page, first_place(&field))?;
-    Ok(true)
+    put_absent(map, field.page, first_place(&field))?;
+    Some(true)
 }
 
 /// Does what words say, and adds a line for each of them that is refused.
-fn step_all(map: &mut ExtentMap, words: &str, refused: &mut String) -> Result<()> {
+fn step_all(map: &mut ExtentMap, words: &str, refused: &mut String) -> Option<()> {
     for word in words.split(' ') {
         if !step(map, word)? {
-            refused.push_str(word)?;
-            refused.push_str(" is refused\n")?;
+            writeln!(refused, "{word} is refused").ok()?;
         }
     }
-    Ok(())
+    Some(())
 }
 
-/// The runs after what words say.
-pub fn runs(alloc: Global, words: &str) -> Result<String> {
-    let mut map = ExtentMap::new(alloc);
-    let mut text = String::new(alloc);
-    step_all(&mut map, words, &mut text)?;
-    text.push_str(shown_map(alloc, &map)?.as_str())?;
-    Ok(text)
+/// Says the runs after what words say.
+fn runs(map: &mut ExtentMap, words: &str, out: &mut String) -> Option<()> {
+    step_all(map, words, out)?;
+    push_map(map, out).ok()
 }
 
-/// The two maps that come of parting one at a page.
-pub fn parted(alloc: Global, rest: &str) -> Result<String> {
-    let (page, words) = rest.split_once(' ').context("a page")?;
-    let mut map = ExtentMap::new(alloc);
-    let mut text = String::new(alloc);
-    step_all(&mut map, words, &mut text)?;
-    let tail = map.split_tail(alloc, page.parse()?)?;
-    let front = shown_map(alloc, &map)?;
-    let tail = shown_map(alloc, &tail)?;
-    Ok(format!(in alloc; "{text}{front}\n{tail}")?)
+/// Says the runs of two maps.
+fn push_two(front: &ExtentMap, tail: &ExtentMap, out: &mut String) -> Result<(), OutOfMemory> {
+    push_map(front, out)?;
+    out.push('\n')?;
+    push_map(tail, out)
 }
 
-/// The runs of a file whose pages are put one after the other, in that order or from the last on.
-fn whole_file(alloc: Global, place: &str, is_rising: bool) -> Result<String> {
-    let (vol, first) = place_of(place)?;
-    let vol = VolIx::new(vol).context("a volume")?;
-    let mut map = ExtentMap::new(alloc);
+/// Says the two maps that come of parting one at a page.
+fn parted(alloc: Global, map: &mut ExtentMap, rest: &str, out: &mut String) -> Option<()> {
+    let (page, words) = rest.split_once(' ')?;
+    step_all(map, words, out)?;
+    let tail = map.split_tail(alloc, page.parse().ok()?).ok()?;
+    push_two(map, &tail, out).ok()
+}
+
+/// Puts the pages of a whole file one after the other, in that order or from the last on.
+fn put_whole(map: &mut ExtentMap, vol: VolIx, first: u32, is_rising: bool) -> Option<()> {
     for number in 0..FILE_PAGES {
         let page = if is_rising {
             number
@@ -114,35 +123,69 @@ fn whole_file(alloc: Global, place: &str, is_rising: bool) -> Result<String> {
             vol,
             page: first.saturating_add(page),
         };
-        put(&mut map, page, RunPlace::At(home))?;
+        put_absent(map, page, RunPlace::At(home))?;
     }
-    shown_map(alloc, &map)
+    Some(())
 }
 
-pub fn rising(alloc: Global, place: &str) -> Result<String> {
-    whole_file(alloc, place, true)
+/// Says the runs of a whole file.
+fn whole_file(map: &mut ExtentMap, place: &str, is_rising: bool, out: &mut String) -> Option<()> {
+    let (vol, first) = place_of(place)?;
+    put_whole(map, VolIx::new(vol)?, first, is_rising)?;
+    push_map(map, out).ok()
 }
 
-pub fn falling(alloc: Global, place: &str) -> Result<String> {
-    whole_file(alloc, place, false)
+/// Puts so many pages, each second one on another volume.
+fn put_pairs(map: &mut ExtentMap, pairs: u16) -> Option<()> {
+    for page in 0..2 * u32::from(pairs) {
+        let vol = VolIx::new(1 + page % 2)?;
+        put_absent(map, page, RunPlace::At(Home { vol, page }))?;
+    }
+    Some(())
 }
 
-/// How many runs so many pairs of pages are, the second of each on another volume, and how many are
-/// left when the second ones are cut.
-pub fn every_second(alloc: Global, pairs: &str) -> Result<String> {
-    let pairs: u16 = pairs.parse()?;
-    let first = VolIx::new(1).context("a volume")?;
-    let second = VolIx::new(2).context("a volume")?;
+/// Cuts the second page of each pair.
+fn cut_seconds(map: &mut ExtentMap, pairs: u16) -> Option<()> {
+    for pair in 0..u32::from(pairs) {
+        map.cut(2 * pair + 1).ok()?;
+    }
+    Some(())
+}
+
+/// Says how many runs so many pairs of pages are, the second of each on another volume, and how many
+/// are left when the second ones are cut.
+fn every_second(map: &mut ExtentMap, pairs: &str, out: &mut String) -> Option<()> {
+    let pairs = pairs.parse().ok()?;
+    put_pairs(map, pairs)?;
+    write!(out, "{} runs, then ", map.runs().len()).ok()?;
+    cut_seconds(map, pairs)?;
+    write!(out, "{}", map.runs().len()).ok()
+}
+
+/// Says what comes of words on a new map.
+fn answer_on(
+    alloc: Global,
+    map: &mut ExtentMap,
+    word: &str,
+    rest: &str,
+    out: &mut String,
+) -> Option<()> {
+    match word {
+        "runs" => runs(map, rest, out),
+        "parted" => parted(alloc, map, rest, out),
+        "rising" => whole_file(map, rest, true, out),
+        "falling" => whole_file(map, rest, false, out),
+        "every-second" => every_second(map, rest, out),
+        "random-map" => random_calls(alloc, map, rest, out),
+        "dense-run" => dense_run(alloc, map, rest, out),
+        "written" => written(alloc, map, rest, out),
+        "scattered" => scattered(alloc, map, rest, out),
+        _ => None,
+    }
+}
+
+/// Says what comes of words on a map.
+pub fn map_answer(alloc: Global, word: &str, rest: &str, out: &mut String) -> Option<()> {
     let mut map = ExtentMap::new(alloc);
-    for pair in 0..u32::from(pairs) {
-        let page = 2 * pair;
-        put(&mut map, page, RunPlace::At(Home { vol: first, page }))?;
-        let page = 2 * pair + 1;
-        put(&mut map, page, RunPlace::At(Home { vol: second, page }))?;
-    }
-    let whole = map.runs().len();
-    for pair in 0..u32::from(pairs) {
-        map.cut(2 * pair + 1)?;
-    }
-    Ok(format!(in alloc; "{whole} runs, then {}", map.runs().len())?)
+    answer_on(alloc, &mut map, word, rest, out)
 }

@@ -1,15 +1,15 @@
 //! Random calls on a map: below a row stand the answers of each ten calls, and the runs after them.
-ghost use Rattle.std.specs.Prelude.{◌<◌, IfOk};
+ghost use Rattle.std.specs.Prelude.{◌<◌, IfSome};
 ghost use Rattle.extent_records.specs.extent_maps.Runs.{IsRun};
 
-use crate::words::shown_map;
-use anyhow::{Context, Result};
+use crate::maps::put;
+use crate::words::{push_map, two_numbers};
 use extent_records::limits::FILE_PAGES;
 use extent_records::{ExtentMap, Home, OutOfMemory, PagePlace, Run, RunPlace, VolIx};
 use std::alloc::Global;
 
 /// Numbers that are always the same ones.
-#[derive(Drop)]
+#[derive(Clone, Copy)]
 pub struct Random {
     pub state: u64,
 }
@@ -34,13 +34,13 @@ pub fn some_page(random: &mut Random) -> u32
 }
 
 /// A home on one of two volumes: pages one after another often get homes that are so too.
-pub fn some_home(random: &mut Random, page: u32) -> Result<Home>
+pub fn some_home(random: &mut Random, page: u32) -> Option<Home>
     requires { page < FILE_PAGES }
-    ensures { IfOk result (λ home. home.page < 100_000) }
+    ensures { IfSome result (λ home. home.page < 100_000) }
 {
-    let vol = VolIx::new(1 + random.next() % 2).context("a volume")?;
+    let vol = VolIx::new(1 + random.next() % 2)?;
     let gap = 100 * (random.next() % 2);
-    Ok(Home {
+    Some(Home {
         vol,
         page: 1_000 + page + gap,
     })
@@ -51,34 +51,17 @@ pub fn word(is_done: bool) -> &'static str {
     if is_done { "yes" } else { "no" }
 }
 
-/// A home in words.
-fn shown_home(alloc: Global, home: Option<Home>) -> Result<String, OutOfMemory> {
-    match home {
-        Some(home) => format!(in alloc; "{}:{}", home.vol.number(), home.page),
-        None => String::from_str(alloc, "no"),
-    }
+/// Adds a word for what is done or is not.
+fn push_word(is_done: Result<bool, OutOfMemory>, out: &mut String) -> Result<(), OutOfMemory> {
+    out.push_str(word(is_done?))
 }
 
-/// Puts a page, where it is absent.
-fn put(map: &mut ExtentMap, page: u32, home: Home) -> Result<bool, OutOfMemory>
-    requires { page < FILE_PAGES }
-{
-    if map.home_of(page) != PagePlace::Absent {
-        return Ok(false);
+/// Adds a home in words.
+fn push_home(home: Result<Option<Home>, OutOfMemory>, out: &mut String) -> Result<(), OutOfMemory> {
+    match home? {
+        Some(home) => write!(out, "{}:{}", home.vol.number(), home.page),
+        None => out.push_str("no"),
     }
-    map.put(page, home)?;
-    Ok(true)
-}
-
-/// Keeps a page as a hole, where it is absent.
-fn keep(map: &mut ExtentMap, page: u32) -> Result<bool, OutOfMemory>
-    requires { page < FILE_PAGES }
-{
-    if map.home_of(page) != PagePlace::Absent {
-        return Ok(false);
-    }
-    map.keep_hole(page)?;
-    Ok(true)
 }
 
 /// Puts a page that has a home at another one, and tells the old one.
@@ -104,53 +87,87 @@ fn some_run(random: &mut Random, page: u32, home: Home) -> Run
     Run { page, count, first }
 }
 
+/// One call at a page, and what it answers.
+fn push_call(
+    random: &mut Random,
+    map: &mut ExtentMap,
+    page: u32,
+    home: Home,
+    out: &mut String,
+) -> Result<(), OutOfMemory>
+    requires page { page < FILE_PAGES }
+    requires home { home.page < 100_000 }
+{
+    match random.next() % 16 {
+        0..=4 => push_word(put(map, page, RunPlace::At(home)), out),
+        5..=7 => push_word(put(map, page, RunPlace::Holes), out),
+        8..=10 => push_home(map.cut(page), out),
+        11..=12 => push_home(switch(map, page, home), out),
+        13..=14 => push_word(map.put_run(&some_run(random, page, home)), out),
+        _ => push_word(Ok(false), out),
+    }
+}
+
 /// One call, and what it answers.
-fn step(alloc: Global, random: &mut Random, map: &mut ExtentMap) -> Result<String> {
+fn step(random: &mut Random, map: &mut ExtentMap, out: &mut String) -> Option<()> {
     let page = some_page(random);
     let home = some_home(random, page)?;
-    let is_done = match random.next() % 16 {
-        0..=4 => put(map, page, home)?,
-        5..=7 => keep(map, page)?,
-        8..=10 => return Ok(shown_home(alloc, map.cut(page)?)?),
-        11..=12 => return Ok(shown_home(alloc, switch(map, page, home)?)?),
-        13..=14 => map.put_run(&some_run(random, page, home))?,
-        _ => false,
-    };
-    Ok(String::from_str(alloc, word(is_done))?)
+    push_call(random, map, page, home, out).ok()?;
+    out.push(' ').ok()
 }
 
-/// Parts the map at a page, goes on with the tail, and tells the front.
-fn split(alloc: Global, map: &mut ExtentMap, from: u32) -> Result<String> {
-    let tail = map.split_tail(alloc, from)?;
-    let front = shown_map(alloc, map)?;
+/// Says the front of a map that was parted at a page.
+fn push_front(map: &ExtentMap, from: u32, out: &mut String) -> Option<()> {
+    write!(out, "/ before {from}: ").ok()?;
+    push_map(map, out).ok()?;
+    out.push('\n').ok()
+}
+
+/// Parts the map at a page, goes on with the tail, and says the front.
+fn split(alloc: Global, map: &mut ExtentMap, from: u32, out: &mut String) -> Option<()> {
+    let tail = map.split_tail(alloc, from).ok()?;
+    let is_said = push_front(map, from, out);
     *map = tail;
-    Ok(format!(in alloc; "/ before {from}: {front}\n")?)
+    is_said
 }
 
-/// The seed and the number of calls that a row asks for.
-pub fn two_numbers(rest: &str) -> Result<(u64, u32)> {
-    let (seed, calls) = rest.split_once(' ').context("two numbers")?;
-    Ok((seed.parse()?, calls.parse()?))
+/// Says the runs of the map at the end of a line.
+fn push_runs(map: &ExtentMap, out: &mut String) -> Result<(), OutOfMemory> {
+    out.push_str("| ")?;
+    push_map(map, out)?;
+    out.push('\n')
 }
 
-/// What random calls on a map answer. After every 64th the map is parted at a random page.
-pub fn random_calls(alloc: Global, rest: &str) -> Result<String> {
-    let (seed, calls) = two_numbers(rest)?;
-    let mut random = Random { state: seed };
-    let mut map = ExtentMap::new(alloc);
-    let mut text = String::new(alloc);
+/// Says what random calls on a map answer, and its runs after each tenth. After every 64th call the
+/// map is parted at a random page.
+fn push_calls(
+    alloc: Global,
+    random: &mut Random,
+    map: &mut ExtentMap,
+    calls: u32,
+    out: &mut String,
+) -> Option<()> {
     for call in 0..calls {
-        text.push_str(step(alloc, &mut random, &mut map)?.as_str())?;
-        text.push(' ')?;
+        step(random, map, out)?;
         if call % 64 == 63 {
-            let page = some_page(&mut random);
-            text.push_str(split(alloc, &mut map, page)?.as_str())?;
+            let page = some_page(random);
+            split(alloc, map, page, out)?;
         }
         if call % 10 == 9 {
-            text.push_str("| ")?;
-            text.push_str(shown_map(alloc, &map)?.as_str())?;
-            text.push('\n')?;
+            push_runs(map, out).ok()?;
         }
     }
-    Ok(text)
+    Some(())
+}
+
+/// Says what random calls on a map answer: a row has the seed and the number of calls.
+pub fn random_calls(
+    alloc: Global,
+    map: &mut ExtentMap,
+    rest: &str,
+    out: &mut String,
+) -> Option<()> {
+    let (seed, calls) = two_numbers(rest)?;
+    let mut random = Random { state: seed };
+    push_calls(alloc, &mut random, map, calls, out)
 }

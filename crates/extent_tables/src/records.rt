@@ -1,7 +1,6 @@
 //! The maps that the records of a chain say. A record here has one row.
 
-use crate::words::{field_of, shown_map};
-use anyhow::{Context, Result, bail};
+use crate::words::{field_of, push_map};
 use extent_records::{ExtentField, HoleField, Record, read_map};
 use std::alloc::Global;
 
@@ -24,23 +23,29 @@ fn holes(row: ExtentField) -> Record {
 }
 
 /// The record that a text says: its kind and the pages of its row.
-fn record_of(text: &str) -> Result<Record> {
-    let (kind, pages) = text.split_once(' ').context("a kind of record")?;
+fn record_of(text: &str) -> Option<Record> {
+    let (kind, pages) = text.split_once(' ')?;
     let row = field_of(pages)?;
     let rows = [row, NO_EXTENT, NO_EXTENT, NO_EXTENT];
     match kind {
-        "short" => Ok(Record::ShortExtents { rows }),
-        "short-dense" => Ok(Record::ShortDense { rows }),
-        "holes" => Ok(holes(row)),
-        _ => bail!("no such kind of record"),
+        "short" => Some(Record::ShortExtents { rows }),
+        "short-dense" => Some(Record::ShortDense { rows }),
+        "holes" => Some(holes(row)),
+        _ => None,
     }
 }
 
-/// The map that records say, if they say one.
-pub fn read(alloc: Global, text: &str) -> Result<String> {
-    let (one, other) = text.split_once(", ").context("two records")?;
-    match read_map(alloc, &[record_of(one)?, record_of(other)?])? {
-        Some(map) => shown_map(alloc, &map),
-        None => Ok(String::from_str(alloc, "no map")?),
+/// Says the map that two records say, if they say one.
+fn push_read(alloc: Global, one: &Record, other: &Record, out: &mut String) -> Option<()> {
+    match read_map(alloc, &[*one, *other]) {
+        Ok(Some(map)) => push_map(&map, out).ok(),
+        Ok(None) => out.push_str("no map").ok(),
+        Err(_) => None,
     }
+}
+
+/// Says the map that records say, if they say one.
+pub fn read(alloc: Global, text: &str, out: &mut String) -> Option<()> {
+    let (one, other) = text.split_once(", ")?;
+    push_read(alloc, &record_of(one)?, &record_of(other)?, out)
 }

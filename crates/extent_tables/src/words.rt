@@ -1,35 +1,39 @@
 //! Pages of a file as rows spell them: `3+2@1:50` are two pages from page 3 on, at the pages of
 //! volume 1 from 50 on; `3+2` are two holes. Where no number follows the first, it is one page.
 
-use anyhow::{Context, Result};
-use extent_records::{ExtentField, ExtentMap, Run, RunPlace};
-use std::alloc::Global;
+use extent_records::{ExtentField, ExtentMap, HoleField, OutOfMemory, Run, RunPlace};
 
 /// A number, and one after that character, or the other number where it does not stand there.
-fn two_numbers(word: &str, between: char, other: u32) -> Result<(u32, u32)> {
+fn numbers(word: &str, between: char, other: u32) -> Option<(u32, u32)> {
     match word.split_once(between) {
-        Some((first, second)) => Ok((first.parse()?, second.parse()?)),
-        None => Ok((word.parse()?, other)),
+        Some((first, second)) => Some((first.parse().ok()?, second.parse().ok()?)),
+        None => Some((word.parse().ok()?, other)),
     }
 }
 
 /// The page of a volume that a word names, as in `1:50`.
-pub fn place_of(word: &str) -> Result<(u32, u32)> {
-    let (vol, page) = word.split_once(':').context("a page of a volume")?;
-    Ok((vol.parse()?, page.parse()?))
+pub fn place_of(word: &str) -> Option<(u32, u32)> {
+    let (vol, page) = word.split_once(':')?;
+    Some((vol.parse().ok()?, page.parse().ok()?))
 }
 
 /// The pages that a word names, on volume 0 where they are holes.
-pub fn field_of(word: &str) -> Result<ExtentField> {
+pub fn field_of(word: &str) -> Option<ExtentField> {
     let (pages, place) = word.split_once('@').unwrap_or((word, "0:0"));
-    let (page, count) = two_numbers(pages, '+', 1)?;
+    let (page, count) = numbers(pages, '+', 1)?;
     let (vol, first) = place_of(place)?;
-    Ok(ExtentField {
+    Some(ExtentField {
         page,
         count,
         vol,
         first,
     })
+}
+
+/// The seed and the number of calls that a row asks for.
+pub fn two_numbers(rest: &str) -> Option<(u64, u32)> {
+    let (seed, calls) = rest.split_once(' ')?;
+    Some((seed.parse().ok()?, calls.parse().ok()?))
 }
 
 /// The pages of a run, on volume 0 where they are holes.
@@ -46,41 +50,63 @@ fn run_field(run: &Run) -> ExtentField {
     }
 }
 
-/// The runs of a map.
-pub fn run_fields(alloc: Global, map: &ExtentMap) -> Result<Vec<ExtentField>> {
-    Ok(map.runs().iter().map(run_field).collect(alloc)?)
+/// Whether a text ends with a digit, as pages do.
+fn ends_with_digit(text: &str) -> bool {
+    matches!(text.as_bytes().last(), Some(b'0'..=b'9'))
 }
 
-fn shown_field(alloc: Global, field: &ExtentField) -> Result<String> {
-    let ExtentField {
-        page,
-        count,
-        vol,
-        first,
-    } = *field;
-    if vol == 0 {
-        return Ok(format!(in alloc; "{page}+{count}")?);
+/// Adds pages, if they are some, with a blank between them and others.
+fn push_field(field: &ExtentField, out: &mut String) -> Result<(), OutOfMemory> {
+    if field.count == 0 {
+        return Ok(());
     }
-    Ok(format!(in alloc; "{page}+{count}@{vol}:{first}")?)
+    if ends_with_digit(out.as_str()) {
+        out.push(' ')?;
+    }
+    write!(out, "{}+{}", field.page, field.count)?;
+    if field.vol != 0 {
+        write!(out, "@{}:{}", field.vol, field.first)?;
+    }
+    Ok(())
 }
 
-/// Pages with a blank between two of them, or `none`.
-pub fn shown_fields(alloc: Global, fields: &[ExtentField]) -> Result<String> {
-    let mut text = String::new(alloc);
+/// Adds `none` where nothing was added to a text of that length.
+fn push_none(length: usize, out: &mut String) -> Result<(), OutOfMemory> {
+    if out.len() == length {
+        out.push_str("none")?;
+    }
+    Ok(())
+}
+
+/// Adds the rows that are used, or `none`.
+pub fn push_fields(fields: &[ExtentField], out: &mut String) -> Result<(), OutOfMemory> {
+    let length = out.len();
     for field in fields {
-        if !text.is_empty() {
-            text.push(' ')?;
-        }
-        text.push_str(shown_field(alloc, field)?.as_str())?;
+        push_field(field, out)?;
     }
-    if text.is_empty() {
-        text.push_str("none")?;
-    }
-    Ok(text)
+    push_none(length, out)
 }
 
-/// The runs of a map in words.
-pub fn shown_map(alloc: Global, map: &ExtentMap) -> Result<String> {
-    let fields = run_fields(alloc, map)?;
-    shown_fields(alloc, &fields)
+/// Adds the rows of holes that are used, or `none`.
+pub fn push_holes(rows: &[HoleField], out: &mut String) -> Result<(), OutOfMemory> {
+    let length = out.len();
+    for row in rows {
+        let field = ExtentField {
+            page: row.page,
+            count: row.count,
+            vol: 0,
+            first: 0,
+        };
+        push_field(&field, out)?;
+    }
+    push_none(length, out)
+}
+
+/// Adds the runs of a map, or `none`.
+pub fn push_map(map: &ExtentMap, out: &mut String) -> Result<(), OutOfMemory> {
+    let length = out.len();
+    for run in map.runs() {
+        push_field(&run_field(run), out)?;
+    }
+    push_none(length, out)
 }
