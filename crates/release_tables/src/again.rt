@@ -94,14 +94,19 @@ pub fn write_again(
     Ok((tag, at, steps))
 }
 
-/// Does that on a volume of 64 pages with no other file, and says the steps, the file's runs, how
-/// many pages it keeps and whether something is left to be done, and the free and waiting pages.
+/// Says the steps, the file's runs, how many pages it keeps and whether something is left to be done,
+/// and the free and waiting pages.
+fn say_written(world: &World, at: &CellAt, steps: u32, out: &mut String) -> Result<(), Fail> {
+    say_numbers(out, &[u64::from(steps)])?;
+    say_rows(out, rows(world, at))?;
+    say_kept(out, kept(world, at))?;
+    say_counts(out, counts(world))
+}
+
+/// Writes a file again on a volume of 64 pages with no other file, and says what is seen of it.
 pub fn say_rewritten(alloc: Global, out: &mut String) -> Result<(), Fail> {
     let mut world = new_world(alloc, 64)?;
     let mut list = Deferred::new(alloc);
     let (_, at, steps) = write_again(alloc, &mut world, &mut list, Version::Four)?;
-    say_numbers(out, &[u64::from(steps)])?;
-    say_rows(out, rows(&world, &at))?;
-    say_kept(out, kept(&world, &at))?;
-    say_counts(out, counts(&world))
+    say_written(&world, &at, steps, out)
 }

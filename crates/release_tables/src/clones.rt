@@ -5,11 +5,11 @@ ghost use Rattle.release_tables.specs.Going.{HasWell};
 ghost use Rattle.release_tables.specs.Pairs.{HasPair, HasTwo, IsCloneOf};
 
 use crate::going::{counts, may_go, release, release_all};
-use crate::making::{first_pages, give_pages, make, second_pages};
+use crate::making::{Way, make, make_by, make_of};
 use crate::pair::Pair;
-use crate::seen::{say_counts, say_times};
+use crate::seen::{say_all_gone, say_counts};
 use file_world::reading::{all_small, at, say_numbers, say_whether, small};
-use file_world::world::{World, new_world, volume};
+use file_world::world::{World, volume};
 use release_steps::{
     CellAt, Deferred, Entry, ExtentField, Kind, Record, StoreFault, Tag, Version, find_record,
     set_record,
@@ -133,6 +133,16 @@ fn list_first(world: &World, list: &mut Deferred, pair: &Pair) -> Result<(), Fai
     Ok(())
 }
 
+/// Puts the files of a pair on a list.
+fn list_pair(world: &World, list: &mut Deferred, pair: &Pair, listed: Listed) -> Result<(), Fail>
+    requires { HasPair world.now pair.now list.old.list }
+    ensures { IfOk result (λ _. HasPair world.now pair.now list.new.list) }
+{
+    list_second(world, list, pair, listed == Listed::SecondThenFirst)?;
+    list_first(world, list, pair)?;
+    list_second(world, list, pair, listed == Listed::FirstThenSecond)
+}
+
 /// Says of the second file that it reads through the first, of which so many pages were frozen, and
 /// lists them.
 fn listed_pair(
@@ -146,9 +156,7 @@ fn listed_pair(
     ensures { IfOk result (λ list. HasWell world.new list.list) }
 {
     let mut list = unlisted_pair(alloc, world, pair, frozen)?;
-    list_second(world, &mut list, pair, listed == Listed::SecondThenFirst)?;
-    list_first(world, &mut list, pair)?;
-    list_second(world, &mut list, pair, listed == Listed::FirstThenSecond)?;
+    list_pair(world, &mut list, pair, listed)?;
     Ok(list)
 }
 
@@ -171,27 +179,16 @@ fn listed_unrelated(alloc: Global, world: &mut World, pair: &Pair) -> Result<Def
     Ok(list)
 }
 
-/// Says what is seen of two removed files of the pages 0 to 5 and 0 to 2 and of a page of a tag
-/// directory that are on one list: the steps, and the free and waiting pages before, after, once
-/// the group is durable, and once the log has passed it.
-pub fn say_unrelated(alloc: Global, out: &mut String) -> Result<(), Fail> {
-    let scene = Scene {
-        pages: 64,
-        others: 0,
-        own: 6,
-        frozen: 0,
-        listed: Listed::First,
-    };
-    let (mut world, pair) = two_files(alloc, &scene, &[0, 1, 2])?;
-    let mut list = listed_unrelated(alloc, &mut world, &pair)?;
-    let first = counts(&world);
-    let steps = release_all(alloc, &mut world, &mut list, Version::Four)?;
-    if !list.is_empty() {
-        return Err(Fail::from("an empty list"));
-    }
-    say_numbers(out, &[u64::from(steps)])?;
-    say_counts(out, first)?;
-    say_times(&mut world, out)
+/// Lets go of two removed files of the pages 0 to 5 and 0 to 2 and of a page of a tag directory that
+/// are on one list.
+pub fn say_unrelated(alloc: Global, world: &mut World, out: &mut String) -> Result<(), Fail>
+    requires { IsWorld world.old }
+{
+    let file = make_of(alloc, world, &[0, 1, 2, 3, 4, 5], Version::Four)?;
+    let other = make_of(alloc, world, &[0, 1, 2], Version::Four)?;
+    let pair = remove_two(alloc, world, file, other)?;
+    let mut list = listed_unrelated(alloc, world, &pair)?;
+    say_all_gone(alloc, world, &mut list, out)
 }
 
 /// A run of a file's pages: the first one, its home's number, and how many they are.
@@ -275,145 +272,101 @@ fn make_all(alloc: Global, world: &mut World, count: u32) -> Result<(), Fail>
     Ok(())
 }
 
-/// A volume of so many pages with so many other files, a file of so many pages, and one that reads
-/// those of them through it that were frozen; and which of the two are listed.
+/// So many other files, a file of so many pages, and one that reads those of them through it that were
+/// frozen; which of the two are listed, and whether a first call is stopped for want of room.
 #[derive(Clone, Copy)]
 struct Scene {
-    pages: u32,
     others: u32,
     own: u32,
     frozen: u32,
     listed: Listed,
+    is_stopped: bool,
 }
 
-/// The two files.
-fn made_files(alloc: Global, scene: &Scene, own: &[u32]) -> Result<(World, [Tag; 2]), Fail>
-    ensures { IfOk result (λ made. IsWorld made.0) }
+/// The two files, of which the first was cut to a size, or its name was taken if that is 0, and the
+/// name of the second was taken.
+fn made_by(
+    alloc: Global,
+    world: &mut World,
+    scene: &Scene,
+    own: &[u32],
+    size: u64,
+) -> Result<Pair, Fail>
+    requires { IsWorld world.old }
+    ensures { IfOk result (HasTwo world.new) }
 {
-    if scene.pages < 3 || 128 < scene.pages {
-        return Err(Fail::from("a volume of 3 to 128 pages"));
+    make_all(alloc, world, scene.others)?;
+    let file = make_by(
+        alloc,
+        world,
+        Way::First,
+        scene.own.min(1_000),
+        Version::Four,
+    )?;
+    let clone = make_of(alloc, world, own, Version::Four)?;
+    if size == 0 {
+        remove_two(alloc, world, file, clone)
+    } else {
+        remove_and_cut(alloc, world, file, clone, size)
     }
-    let mut world = new_world(alloc, scene.pages)?;
-    make_all(alloc, &mut world, scene.others)?;
-    let file = make(alloc, &mut world, Kind::File, Version::Four)?;
-    let pages = first_pages(alloc, scene.own)?;
-    give_pages(alloc, &mut world, file, pages.as_slice(), Version::Four)?;
-    let clone = make(alloc, &mut world, Kind::File, Version::Four)?;
-    give_pages(alloc, &mut world, clone, own, Version::Four)?;
-    Ok((world, [file, clone]))
-}
-
-/// The two files, whose names were taken.
-fn two_files(alloc: Global, scene: &Scene, own: &[u32]) -> Result<(World, Pair), Fail>
-    ensures { IfOk result (λ made. HasTwo made.0 made.1) }
-{
-    let (mut world, tags) = made_files(alloc, scene, own)?;
-    let pair = remove_two(alloc, &mut world, tags[0], tags[1])?;
-    Ok((world, pair))
 }
 
 /// A file of so many extents that is on a list, beside a clone's file of so many of its own, which
 /// reads those of its pages through it that were frozen.
 pub fn listed_beside(
     alloc: Global,
+    world: &mut World,
     extents: u32,
     own: u32,
     frozen: u32,
-) -> Result<(World, Deferred), Fail>
+) -> Result<Deferred, Fail>
+    requires world { IsWorld world.old }
     requires extents { extents ≤ 1000 }
     requires own { own ≤ 1000 }
-    ensures { IfOk result (λ made. HasWell made.0 made.1.list) }
+    ensures { IfOk result (λ list. HasWell world.new list.list) }
 {
-    let mut world = new_world(alloc, 4_096)?;
-    let file = make(alloc, &mut world, Kind::File, Version::Four)?;
-    let pages = second_pages(alloc, extents)?;
-    give_pages(alloc, &mut world, file, pages.as_slice(), Version::Four)?;
-    let clone = make(alloc, &mut world, Kind::File, Version::Four)?;
-    let pages = second_pages(alloc, own)?;
-    give_pages(alloc, &mut world, clone, pages.as_slice(), Version::Four)?;
-    let pair = remove_two(alloc, &mut world, file, clone)?;
-    let list = listed_pair(alloc, &mut world, &pair, frozen, Listed::First)?;
-    Ok((world, list))
+    let file = make_by(alloc, world, Way::Second, extents, Version::Four)?;
+    let clone = make_by(alloc, world, Way::Second, own, Version::Four)?;
+    let pair = remove_two(alloc, world, file, clone)?;
+    listed_pair(alloc, world, &pair, frozen, Listed::First)
 }
 
-/// The two files, of which the first was cut and the name of the second was taken.
-fn cut_files(alloc: Global, scene: &Scene, own: &[u32], size: u64) -> Result<(World, Pair), Fail>
-    ensures { IfOk result (λ made. HasTwo made.0 made.1) }
-{
-    let (mut world, tags) = made_files(alloc, scene, own)?;
-    let pair = remove_and_cut(alloc, &mut world, tags[0], tags[1], size)?;
-    Ok((world, pair))
+/// Says the runs of both files, whether the second still reads through the first, the free and
+/// waiting pages, and the misses.
+fn say_pair(world: &World, pair: &Pair, out: &mut String) -> Result<(), Fail> {
+    out.push_str(": file")?;
+    say_rows(out, rows(world, &pair.at))?;
+    out.push_str(": clone")?;
+    say_rows(out, rows(world, &pair.clone))?;
+    out.push_str(": reads")?;
+    say_whether(out, &[reads_through(world, &pair.clone)])?;
+    say_counts(out, counts(world))?;
+    say_numbers(out, &[world.space.misses()])
 }
 
-/// Lets go of the first of two files, and says the steps, the runs of both, whether the second still
-/// reads through the first, the free and waiting pages, and the misses; and the runs that a cell of
-/// page 13 names, where other files fill the cells before it.
+/// Lets go of the first of two files, and says the steps, and what is seen of both then; and the runs
+/// that a cell of page 13 names, where other files fill the cells before it.
 fn say_handed_by(
     alloc: Global,
-    scene: &Scene,
-    made: (World, Pair),
+    world: &mut World,
+    list: &mut Deferred,
+    pair: &Pair,
+    has_others: bool,
     out: &mut String,
 ) -> Result<(), Fail>
-    requires { HasTwo made.0 made.1 }
+    requires { HasWell world.old list.old.list }
 {
-    let (mut world, pair) = made;
-    let mut list = listed_pair(alloc, &mut world, &pair, scene.frozen, scene.listed)?;
-    let answer = release_all(alloc, &mut world, &mut list, Version::Four);
+    let answer = release_all(alloc, world, list, Version::Four);
     if list.is_empty() != answer.is_ok() {
         return Err(Fail::from("an empty list where all was let go of"));
     }
     say_steps(out, &answer)?;
-    out.push_str(": file")?;
-    say_rows(out, rows(&world, &pair.at))?;
-    out.push_str(": clone")?;
-    say_rows(out, rows(&world, &pair.clone))?;
-    out.push_str(": reads")?;
-    say_whether(out, &[reads_through(&world, &pair.clone)])?;
-    say_counts(out, counts(&world))?;
-    say_numbers(out, &[world.space.misses()])?;
-    if scene.others > 0 {
+    say_pair(world, pair, out)?;
+    if has_others {
         out.push_str(": page 13")?;
-        say_rows(out, rows_on_page_13(&world))?;
+        say_rows(out, rows_on_page_13(world))?;
     }
     Ok(())
-}
-
-/// The scene of five numbers: the pages of the volume, the other files, the pages of the file, how
-/// many of them were frozen, and which files are listed: 0 for the first alone, 1 for the clone's
-/// before it, and 2 for the clone's after it.
-fn scene_of(numbers: &[u64]) -> Scene {
-    Scene {
-        pages: small(numbers, 0),
-        others: small(numbers, 1),
-        own: small(numbers, 2),
-        frozen: small(numbers, 3),
-        listed: match at(numbers, 4) {
-            0 => Listed::First,
-            1 => Listed::SecondThenFirst,
-            _ => Listed::FirstThenSecond,
-        },
-    }
-}
-
-/// The two files of a scene, of which the first was cut to a size, or its name was taken if that is
-/// 0.
-fn made_by(alloc: Global, scene: &Scene, own: &[u32], size: u64) -> Result<(World, Pair), Fail>
-    ensures { IfOk result (λ made. HasTwo made.0 made.1) }
-{
-    if size == 0 {
-        two_files(alloc, scene, own)
-    } else {
-        cut_files(alloc, scene, own, size)
-    }
-}
-
-/// The same of the two files that numbers say: a scene, the size to which the first is cut, and the
-/// pages of the clone's.
-pub fn say_handed(alloc: Global, numbers: &[u64], out: &mut String) -> Result<(), Fail> {
-    let scene = scene_of(numbers);
-    let own = all_small(alloc, numbers, 6)?;
-    let made = made_by(alloc, &scene, own.as_slice(), at(numbers, 5))?;
-    say_handed_by(alloc, &scene, made, out)
 }
 
 /// Whether the last entry of a list is that of a pair.
@@ -425,18 +378,76 @@ fn is_left(list: &Deferred, pair: &Pair) -> bool {
         })
 }
 
-/// Says what is seen of two calls on such files, of which the first has no room for its second step:
-/// its steps, whether the entry is left, the runs of its file, the second call's answer, the free and
-/// waiting pages, and the misses.
-pub fn say_stopped(alloc: Global, numbers: &[u64], out: &mut String) -> Result<(), Fail> {
-    let scene = scene_of(numbers);
-    let own = all_small(alloc, numbers, 6)?;
-    let (mut world, pair) = two_files(alloc, &scene, own.as_slice())?;
-    let mut list = listed_pair(alloc, &mut world, &pair, scene.frozen, scene.listed)?;
-    say_steps(out, &release(alloc, &mut world, &mut list, Version::Four))?;
-    say_whether(out, &[is_left(&list, &pair)])?;
-    say_rows(out, rows(&world, &pair.at))?;
-    say_steps(out, &release(alloc, &mut world, &mut list, Version::Four))?;
-    say_counts(out, counts(&world))?;
+/// Lets go of the first of two files in two calls, of which the first has no room for its second
+/// step, and says its steps, whether the entry is left, the runs of its file, the second call's
+/// answer, the free and waiting pages, and the misses.
+fn say_stopped_by(
+    alloc: Global,
+    world: &mut World,
+    list: &mut Deferred,
+    pair: &Pair,
+    out: &mut String,
+) -> Result<(), Fail>
+    requires { HasWell world.old list.old.list }
+{
+    say_steps(out, &release(alloc, world, list, Version::Four))?;
+    say_whether(out, &[is_left(list, pair)])?;
+    say_rows(out, rows(world, &pair.at))?;
+    say_steps(out, &release(alloc, world, list, Version::Four))?;
+    say_counts(out, counts(world))?;
     say_numbers(out, &[world.space.misses()])
+}
+
+/// The scene of five numbers: the pages of the volume, the other files, the pages of the file, how
+/// many of them were frozen, and which files are listed: 0 for the first alone, 1 for the clone's
+/// before it, and 2 for the clone's after it.
+fn scene_of(numbers: &[u64], is_stopped: bool) -> Scene {
+    Scene {
+        others: small(numbers, 1),
+        own: small(numbers, 2),
+        frozen: small(numbers, 3),
+        listed: match at(numbers, 4) {
+            0 => Listed::First,
+            1 => Listed::SecondThenFirst,
+            _ => Listed::FirstThenSecond,
+        },
+        is_stopped,
+    }
+}
+
+/// Says what is seen of the two files of a scene that are let go of, in as many calls as it takes, or
+/// in two, the first of which is stopped. The first file is cut to a size, or removed if that is 0.
+fn say_scene(
+    alloc: Global,
+    world: &mut World,
+    scene: &Scene,
+    own: &[u32],
+    size: u64,
+    out: &mut String,
+) -> Result<(), Fail>
+    requires { IsWorld world.old }
+{
+    let pair = made_by(alloc, world, scene, own, size)?;
+    let mut list = listed_pair(alloc, world, &pair, scene.frozen, scene.listed)?;
+    if scene.is_stopped {
+        say_stopped_by(alloc, world, &mut list, &pair, out)
+    } else {
+        say_handed_by(alloc, world, &mut list, &pair, scene.others > 0, out)
+    }
+}
+
+/// Says what is seen of the two files that numbers say: a scene, the size to which the first is cut,
+/// and the pages of the clone's.
+pub fn say_handed(
+    alloc: Global,
+    world: &mut World,
+    numbers: &[u64],
+    is_stopped: bool,
+    out: &mut String,
+) -> Result<(), Fail>
+    requires { IsWorld world.old }
+{
+    let scene = scene_of(numbers, is_stopped);
+    let own = all_small(alloc, numbers, 6)?;
+    say_scene(alloc, world, &scene, own.as_slice(), at(numbers, 5), out)
 }

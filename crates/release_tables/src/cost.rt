@@ -1,15 +1,15 @@
 //! What letting go costs, counted in looks at pages of metadata and in changes of them.
-ghost use Rattle.std.specs.Prelude.{IfOk};
+ghost use Rattle.std.specs.Prelude.{◌≤◌, IfOk};
 ghost use Rattle.file_world.specs.Worlds.{IsWorld};
 ghost use Rattle.release_tables.specs.Going.{HasWell, HasWellBy};
 
 use crate::clones::listed_beside;
 use crate::going::{listed, release_by};
 use crate::looks::Counted;
-use crate::making::{cut, give_pages, make, mixed_pages, remove, second_pages, second_pages_down};
+use crate::making::{Way, cut_or_remove, make_by};
 use file_world::reading::small;
 use file_world::world::{World, new_world};
-use release_steps::{Deferred, FreeCells, FreeSpace, Kind, MetaPages, StoreFault, Tag, Version};
+use release_steps::{Deferred, FreeCells, FreeSpace, MetaPages, StoreFault, Version};
 use std::alloc::Global;
 use std::test::Fail;
 
@@ -72,6 +72,29 @@ impl Cost {
     }
 }
 
+/// What letting go of all on a list takes.
+fn cost_in(
+    alloc: Global,
+    pages: &mut Counted,
+    space: &mut FreeSpace,
+    cells: &mut FreeCells,
+    list: &mut Deferred,
+) -> Result<Cost, Fail>
+    requires { HasWellBy (⟦<Counted as MetaPages>⟧.pages pages.old) space.old cells.old
+        list.old.list }
+{
+    let steps = release_counted(alloc, pages, space, cells, list)?;
+    if !list.is_empty() {
+        return Err(Fail::from("an empty list"));
+    }
+    let [looks, changes] = pages.told();
+    Ok(Cost {
+        steps,
+        looks,
+        changes,
+    })
+}
+
 /// What letting go of a listed file takes.
 fn cost_of(alloc: Global, world: World, mut list: Deferred) -> Result<Cost, Fail>
     requires { HasWell world list.list }
@@ -83,65 +106,61 @@ fn cost_of(alloc: Global, world: World, mut list: Deferred) -> Result<Cost, Fail
         ..
     } = world;
     let mut counted = Counted::new(pages);
-    let steps = release_counted(alloc, &mut counted, &mut space, &mut cells, &mut list)?;
-    if !list.is_empty() {
-        return Err(Fail::from("an empty list"));
+    cost_in(alloc, &mut counted, &mut space, &mut cells, &mut list)
+}
+
+/// The pages of the file that a word says: each second one, from the first one on or from the last one
+/// on (down).
+fn way_of(word: &str) -> Way {
+    match word {
+        "trimmed-down" => Way::SecondDown,
+        _ => Way::Second,
     }
-    let told = counted.told();
-    Ok(Cost {
-        steps,
-        looks: told[0],
-        changes: told[1],
-    })
 }
 
-/// A volume with a file that was given these pages, one after the other.
-fn many(alloc: Global, pages: &[u32]) -> Result<(World, Tag), Fail>
-    ensures { IfOk result (λ made. IsWorld made.0) }
+/// A list of a file of so many pages that is cut to a size, or removed if that is 0.
+fn listed_of(
+    alloc: Global,
+    world: &mut World,
+    way: Way,
+    count: u32,
+    size: u64,
+) -> Result<Deferred, Fail>
+    requires world { IsWorld world.old }
+    requires few { count ≤ 2000 }
+    ensures { IfOk result (λ list. HasWell world.new list.list) }
 {
+    let tag = make_by(alloc, world, way, count, Version::Four)?;
+    let at = cut_or_remove(alloc, world, tag, size)?;
+    listed(alloc, world, &at)
+}
+
+/// A list of the file that a line says: it has so many extents, or as many before page 20,000 as after
+/// it, by turns (mixed), and so many numbers are left of a trim; or it is removed beside a clone's file with so many extents of its own, which reads those of
+/// its pages through it that were frozen.
+fn listed_by(
+    alloc: Global,
+    world: &mut World,
+    word: &str,
+    numbers: &[u64],
+) -> Result<Deferred, Fail>
+    requires { IsWorld world.old }
+    ensures { IfOk result (λ list. HasWell world.new list.list) }
+{
+    let (extents, other) = (small(numbers, 0).min(1_000), small(numbers, 1));
+    let size = 8_192 * u64::from(other);
+    match word {
+        "removed-beside" => {
+            listed_beside(alloc, world, extents, other.min(1_000), small(numbers, 2))
+        }
+        "trimmed-mixed" => listed_of(alloc, world, Way::Mixed, 2 * extents, size),
+        _ => listed_of(alloc, world, way_of(word), extents, size),
+    }
+}
+
+/// What it takes to let go of the file that a line says, on a volume of 4,096 pages.
+pub fn cost_of_line(alloc: Global, word: &str, numbers: &[u64]) -> Result<Cost, Fail> {
     let mut world = new_world(alloc, 4_096)?;
-    let tag = make(alloc, &mut world, Kind::File, Version::Four)?;
-    give_pages(alloc, &mut world, tag, pages, Version::Four)?;
-    Ok((world, tag))
-}
-
-/// What it takes to let go of a file of these pages that is removed.
-fn removed(alloc: Global, pages: &[u32]) -> Result<Cost, Fail> {
-    let (mut world, tag) = many(alloc, pages)?;
-    let at = remove(alloc, &mut world, tag)?;
-    let list = listed(alloc, &world, &at)?;
+    let list = listed_by(alloc, &mut world, word, numbers)?;
     cost_of(alloc, world, list)
-}
-
-/// What it takes to let go of what is cut of a file of these pages, of which so many numbers are
-/// left.
-fn trimmed(alloc: Global, pages: &[u32], left: u32) -> Result<Cost, Fail> {
-    let (mut world, tag) = many(alloc, pages)?;
-    let at = cut(alloc, &mut world, tag, 8_192 * u64::from(left))?.ok_or("a trim")?;
-    let list = listed(alloc, &world, &at)?;
-    cost_of(alloc, world, list)
-}
-
-/// What it takes to let go of a removed file of so many extents beside a clone's file with so many
-/// of its own, which reads those of its pages through it that were frozen.
-fn removed_beside(alloc: Global, numbers: &[u64]) -> Result<Cost, Fail> {
-    let (extents, own) = (small(numbers, 0).min(1_000), small(numbers, 1).min(1_000));
-    let (world, list) = listed_beside(alloc, extents, own, small(numbers, 2))?;
-    cost_of(alloc, world, list)
-}
-
-/// What a line says: of extents that are each second page, that were given from the first one on
-/// (up), or from the last one on (down), or of as many before page 20,000 as after it, of which
-/// the one and the other were given by turns (mixed); so many of them, and how many numbers are left
-/// of a trim. None where the word is another.
-pub fn cost_of_line(alloc: Global, word: &str, numbers: &[u64]) -> Result<Option<Cost>, Fail> {
-    let (extents, left) = (small(numbers, 0).min(1_000), small(numbers, 1));
-    Ok(Some(match word {
-        "removed" => removed(alloc, second_pages(alloc, extents)?.as_slice())?,
-        "trimmed-up" => trimmed(alloc, second_pages(alloc, extents)?.as_slice(), left)?,
-        "trimmed-down" => trimmed(alloc, second_pages_down(alloc, extents)?.as_slice(), left)?,
-        "trimmed-mixed" => trimmed(alloc, mixed_pages(alloc, extents)?.as_slice(), left)?,
-        "removed-beside" => removed_beside(alloc, numbers)?,
-        _ => return Ok(None),
-    }))
 }

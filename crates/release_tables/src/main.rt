@@ -4,6 +4,9 @@
 //! the other.
 #![tactic(auto)]
 
+ghost use Rattle.std.specs.Prelude.{◌≤◌};
+ghost use Rattle.file_world.specs.Worlds.{IsWorld};
+
 mod again;
 mod beside;
 mod clones;
@@ -19,24 +22,34 @@ mod seen;
 
 use crate::again::say_rewritten;
 use crate::beside::made_in_both;
-use crate::clones::{say_handed, say_stopped, say_unrelated};
+use crate::clones::{say_handed, say_unrelated};
 use crate::cost::{Cost, cost_of_line};
 use crate::onward::say_nine_files;
 use crate::removing::say_removed_fileset;
 use crate::room::last_of_three;
 use crate::seen::{say_many_removed, say_removed, say_tag_page, say_trim};
-use file_world::reading::{at, numbers_of, say_numbers, say_whether, word_of};
+use file_world::reading::{at, numbers_of, say_numbers, say_whether, small, word_of};
+use file_world::world::{World, new_world};
 use release_steps::Kind;
 use std::alloc::Global;
 use std::test::Fail;
 
+/// Answers a line of a word and numbers.
+fn answer_of_words(
+    alloc: Global,
+    costs: &mut Vec<Cost>,
+    line: &str,
+    out: &mut String,
+) -> Result<(), Fail> {
+    let numbers = numbers_of(alloc, line)?;
+    answer_of_costs(alloc, costs, word_of(line), numbers.as_slice(), out)
+}
+
 /// Answers a line, which is said as it stands: one that begins with # is a heading.
 fn answer(alloc: Global, costs: &mut Vec<Cost>, line: &str, out: &mut String) -> Result<(), Fail> {
     out.push_str(line)?;
-    let word = word_of(line);
-    if word != "" && !word.starts_with('#') {
-        let numbers = numbers_of(alloc, line)?;
-        answer_of_costs(alloc, costs, word, numbers.as_slice(), out)?;
+    if !line.is_empty() && !line.starts_with('#') {
+        answer_of_words(alloc, costs, line, out)?;
     }
     out.push('\n')?;
     Ok(())
@@ -50,29 +63,28 @@ fn answer_of_costs(
     numbers: &[u64],
     out: &mut String,
 ) -> Result<(), Fail> {
-    if let Some(cost) = cost_of_line(alloc, word, numbers)? {
-        costs.push(cost)?;
-        return Ok(());
-    }
     match word {
-        "adds-at-most-twice" => say_whether(out, &[adds_at_most_twice(costs.as_slice())]),
-        "is-at-most" => say_whether(out, &[is_at_most(costs.as_slice())]),
+        "adds-at-most-twice" | "is-at-most" => {
+            say_whether(out, &[is_low(costs.as_slice(), word)])
+        }
+        "removed" | "trimmed-up" | "trimmed-down" | "trimmed-mixed" | "removed-beside" => {
+            Ok(costs.push(cost_of_line(alloc, word, numbers)?)?)
+        }
         _ => answer_of_steps(alloc, word, numbers, out),
     }
 }
 
-/// Whether the last of three costs adds to the second at most twice what that adds to the first.
-fn adds_at_most_twice(costs: &[Cost]) -> bool {
+/// Whether the last of two costs is at most the first, or the last of three adds to the second at most
+/// twice what that adds to the first.
+fn is_low(costs: &[Cost], word: &str) -> bool {
+    if word == "is-at-most" {
+        return match costs {
+            [.., first, second] => second.is_at_most(first),
+            _ => false,
+        };
+    }
     match costs {
         [.., first, second, third] => third.adds_at_most_twice(second, first),
-        _ => false,
-    }
-}
-
-/// Whether the last of two costs is at most the first.
-fn is_at_most(costs: &[Cost]) -> bool {
-    match costs {
-        [.., first, second] => second.is_at_most(first),
         _ => false,
     }
 }
@@ -85,19 +97,58 @@ fn answer_of_steps(
     out: &mut String,
 ) -> Result<(), Fail> {
     match word {
-        "trim" => say_trim(alloc, numbers, out),
-        "many-removed" => say_many_removed(alloc, at(numbers, 0), out),
-        "file-removed" => say_removed(alloc, Kind::File, at(numbers, 0), out),
-        "directory-removed" => say_removed(alloc, Kind::Directory, at(numbers, 0), out),
-        "tag-page" => say_tag_page(alloc, out),
-        "unrelated" => say_unrelated(alloc, out),
-        "handed" => say_handed(alloc, numbers, out),
-        "stopped" => say_stopped(alloc, numbers, out),
         "fileset-removed" => say_removed_fileset(alloc, out),
         "nine-files" => say_nine_files(alloc, out),
         "written-again" => say_rewritten(alloc, out),
         "two-filesets" => say_whether(out, &made_in_both(alloc)?),
         "last-of-three" => say_last(alloc, out),
+        _ => answer_on_volume(alloc, word, numbers, out),
+    }
+}
+
+/// How many pages the volume of a line has.
+fn pages_of(word: &str, numbers: &[u64]) -> u32
+    ensures low { 3 ≤ result }
+    ensures high { result ≤ 128 }
+{
+    match word {
+        "trim" | "many-removed" => 128,
+        "handed" | "stopped" => small(numbers, 0).max(3).min(128),
+        _ => 64,
+    }
+}
+
+/// Answers a line of what is let go of on a volume with no other file.
+fn answer_on_volume(
+    alloc: Global,
+    word: &str,
+    numbers: &[u64],
+    out: &mut String,
+) -> Result<(), Fail> {
+    let mut world = new_world(alloc, pages_of(word, numbers))?;
+    answer_in(alloc, &mut world, word, numbers, out)
+}
+
+/// Answers a line of what is let go of in a world with no other file.
+fn answer_in(
+    alloc: Global,
+    world: &mut World,
+    word: &str,
+    numbers: &[u64],
+    out: &mut String,
+) -> Result<(), Fail>
+    requires { IsWorld world.old }
+{
+    let (first, second) = (at(numbers, 0), at(numbers, 1));
+    match word {
+        "trim" => say_trim(alloc, world, first, second, out),
+        "many-removed" => say_many_removed(alloc, world, first, out),
+        "file-removed" => say_removed(alloc, world, Kind::File, first, out),
+        "directory-removed" => say_removed(alloc, world, Kind::Directory, first, out),
+        "tag-page" => say_tag_page(alloc, world, out),
+        "unrelated" => say_unrelated(alloc, world, out),
+        "handed" => say_handed(alloc, world, numbers, false, out),
+        "stopped" => say_handed(alloc, world, numbers, true, out),
         _ => Err(Fail::new("a line that is not known")),
     }
 }
@@ -112,8 +163,7 @@ fn main(rt: HostRuntime) -> Result<(), Fail> {
     let mut costs = Vec::new(rt.alloc());
     let mut out = String::new(rt.alloc());
     for line in rt.lines(rt.alloc()) {
-        let line = line?;
-        answer(rt.alloc(), &mut costs, line.as_str(), &mut out)?;
+        answer(rt.alloc(), &mut costs, line?.as_str(), &mut out)?;
     }
     print!(rt; "{out}")?;
     Ok(())

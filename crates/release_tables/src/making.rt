@@ -1,5 +1,5 @@
 //! Files that are made, given pages, cut and removed.
-ghost use Rattle.std.specs.Prelude.{◌≡◌, ◌≤◌, IfOk, IfSome};
+ghost use Rattle.std.specs.Prelude.{◌≡◌, ◌<◌, ◌≤◌, IfOk, IfSome};
 ghost use Rattle.release_steps.specs.domain_base.declared.version.Version.{Version as VersionOf};
 ghost use Rattle.release_steps.specs.fileset_files.Files.{Chains};
 ghost use Rattle.release_steps.specs.release_list.Listing.{Listing};
@@ -105,47 +105,69 @@ pub fn give_pages(
     Ok(())
 }
 
-/// The first pages, so many.
-pub fn first_pages(alloc: Global, count: u32) -> Result<Vec<u32>, Fail> {
+/// Makes a file of these pages.
+pub fn make_of(
+    alloc: Global,
+    world: &mut World,
+    pages: &[u32],
+    version: Version,
+) -> Result<Tag, Fail>
+    requires { IsWorld world.old }
+    ensures { IfOk result (λ _. IsWorld world.new) }
+{
+    let tag = make(alloc, world, Kind::File, version)?;
+    give_pages(alloc, world, tag, pages, version)?;
+    Ok(tag)
+}
+
+/// Which pages a file has: the first ones, or every second one, from the first one on or from the last
+/// one on, or every second one and those from page 40,000 on by turns.
+#[derive(Clone, Copy)]
+pub enum Way {
+    First,
+    Second,
+    SecondDown,
+    Mixed,
+}
+
+/// The page that comes at a place of so many.
+fn page_at(way: Way, place: u32, count: u32) -> u32
+    requires there { place < count }
+    requires few { count ≤ 2000 }
+{
+    match way {
+        Way::First => place,
+        Way::Second => 2 * place,
+        Way::SecondDown => 2 * (count - 1 - place),
+        Way::Mixed => place / 2 * 2 + place % 2 * 40_000,
+    }
+}
+
+/// So many pages.
+fn pages_by(alloc: Global, way: Way, count: u32) -> Result<Vec<u32>, Fail>
+    requires { count ≤ 2000 }
+{
     let mut pages = Vec::new(alloc);
-    for page in 0..count {
-        pages.push(page)?;
+    for place in 0..count {
+        pages.push(page_at(way, place, count))?;
     }
     Ok(pages)
 }
 
-/// Every second page, so many.
-pub fn second_pages(alloc: Global, count: u32) -> Result<Vec<u32>, Fail>
-    requires { count ≤ 1000 }
+/// Makes a file of so many pages.
+pub fn make_by(
+    alloc: Global,
+    world: &mut World,
+    way: Way,
+    count: u32,
+    version: Version,
+) -> Result<Tag, Fail>
+    requires world { IsWorld world.old }
+    requires few { count ≤ 2000 }
+    ensures { IfOk result (λ _. IsWorld world.new) }
 {
-    let mut pages = Vec::new(alloc);
-    for page in 0..count {
-        pages.push(2 * page)?;
-    }
-    Ok(pages)
-}
-
-/// The same from the last one to the first.
-pub fn second_pages_down(alloc: Global, count: u32) -> Result<Vec<u32>, Fail>
-    requires { count ≤ 1000 }
-{
-    let mut pages = Vec::new(alloc);
-    for page in (0..count).rev() {
-        pages.push(2 * page)?;
-    }
-    Ok(pages)
-}
-
-/// Every second page, so many, and as many from page 40,000 on, by turns.
-pub fn mixed_pages(alloc: Global, count: u32) -> Result<Vec<u32>, Fail>
-    requires { count ≤ 1000 }
-{
-    let mut pages = Vec::new(alloc);
-    for page in 0..count {
-        pages.push(2 * page)?;
-        pages.push(40_000 + 2 * page)?;
-    }
-    Ok(pages)
+    let pages = pages_by(alloc, way, count)?;
+    make_of(alloc, world, pages.as_slice(), version)
 }
 
 /// Sets the size of a file: its first cell, where something is left to be done then.
@@ -175,4 +197,17 @@ pub fn remove(alloc: Global, world: &mut World, tag: Tag) -> Result<CellAt, Fail
         return Err(Fail::from("a live tag"));
     }
     Ok(world.files.remove(alloc, &mut world.pages, tag)?)
+}
+
+/// Cuts a file to a size, or takes its name if that is 0: its first cell. Something is left to be done
+/// then.
+pub fn cut_or_remove(alloc: Global, world: &mut World, tag: Tag, size: u64) -> Result<CellAt, Fail>
+    requires { IsWorld world.old }
+    ensures world { IfOk result (λ _. IsWorld world.new) }
+    ensures going { IfOk result (HasGoing world.new) }
+{
+    if size == 0 {
+        return remove(alloc, world, tag);
+    }
+    Ok(cut(alloc, world, tag, size)?.ok_or("a trim")?)
 }

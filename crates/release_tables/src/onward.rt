@@ -14,16 +14,16 @@ use release_steps::{Deferred, Kind, Tag, Version};
 use std::alloc::Global;
 use std::test::Fail;
 
-/// A volume of nine files of three pages each, which are all cut to one page and listed.
-fn nine_cut(alloc: Global) -> Result<(World, Deferred), Fail>
-    ensures { IfOk result (λ scene. HasStood scene.0 scene.1.list) }
+/// Makes nine files of three pages each, which are all cut to one page and listed.
+fn nine_cut(alloc: Global, world: &mut World, list: &mut Deferred) -> Result<(), Fail>
+    requires { HasStood world.old list.old.list }
+    ensures { IfOk result (λ _. HasStood world.new list.new.list) }
 {
-    let (mut world, mut list) = new_scene(alloc, 64)?;
     for _ in 0..9_u32 {
-        let tag = make_with(alloc, &mut world, &list, Kind::File, &[0, 1, 2])?;
-        cut_listed(alloc, &mut world, &mut list, tag, 8_192)?;
+        let tag = make_with(alloc, world, list, Kind::File, &[0, 1, 2])?;
+        cut_listed(alloc, world, list, tag, 8_192)?;
     }
-    Ok((world, list))
+    Ok(())
 }
 
 /// Makes a file of one page, while steps go on where they were.
@@ -76,12 +76,26 @@ fn in_two_calls(
     Ok([(one, after_one), (two, counts(world))])
 }
 
-/// Says what two calls are on a list of nine files that were cut, with a file made between them.
+/// Makes nine files that are cut, and says what two calls are on their list, with a file made between
+/// them.
+fn say_nine_in(
+    alloc: Global,
+    world: &mut World,
+    list: &mut Deferred,
+    out: &mut String,
+) -> Result<(), Fail>
+    requires { HasStood world.old list.old.list }
+{
+    nine_cut(alloc, world, list)?;
+    let [(one, after_one), (two, after_two)] = in_two_calls(alloc, world, list)?;
+    say_numbers(out, &[u64::from(one)])?;
+    say_counts(out, after_one)?;
+    say_numbers(out, &[u64::from(two)])?;
+    say_counts(out, after_two)
+}
+
+/// Says what two calls are on a list of nine files that were cut.
 pub fn say_nine_files(alloc: Global, out: &mut String) -> Result<(), Fail> {
-    let (mut world, mut list) = nine_cut(alloc)?;
-    for (steps, counts) in in_two_calls(alloc, &mut world, &mut list)? {
-        say_numbers(out, &[u64::from(steps)])?;
-        say_counts(out, counts)?;
-    }
-    Ok(())
+    let (mut world, mut list) = new_scene(alloc, 64)?;
+    say_nine_in(alloc, &mut world, &mut list, out)
 }

@@ -105,34 +105,17 @@ fn list_tag_page(world: &World, list: &mut Deferred) -> Result<(), Fail>
     Ok(())
 }
 
-/// Where a tag with sequence 1 leads.
-#[derive(Clone, Copy)]
-enum Leads {
-    Nowhere,
-    ToFile,
-    ToFreeCell,
-}
-
-/// Where the tag of a slot leads.
-fn lead_of(world: &World, list: &Deferred, slot: u32) -> Leads
+/// Where the tag of a slot with sequence 1 leads.
+fn lead_of(world: &World, list: &Deferred, slot: u32) -> &'static str
     requires { HasStood world.now list.now.list }
 {
     match world.files.live_cell(&world.pages, Tag { slot, seq: 1 }) {
         Some(at) => match find_record(&world.pages, at, 1) {
-            Some(_) => Leads::ToFile,
-            None => Leads::ToFreeCell,
+            Some(_) => " file",
+            None => " free-cell",
         },
-        None => Leads::Nowhere,
+        None => " nowhere",
     }
-}
-
-fn say_lead(out: &mut String, lead: Leads) -> Result<(), Fail> {
-    out.push_str(match lead {
-        Leads::Nowhere => " nowhere",
-        Leads::ToFile => " file",
-        Leads::ToFreeCell => " free-cell",
-    })?;
-    Ok(())
 }
 
 /// Says where the first four tags lead, and the free and waiting pages.
@@ -141,22 +124,21 @@ fn say_look(world: &World, list: &Deferred, out: &mut String) -> Result<(), Fail
 {
     out.push(':')?;
     for slot in 1..5 {
-        say_lead(out, lead_of(world, list, slot))?;
+        out.push_str(lead_of(world, list, slot))?;
     }
     say_counts(out, counts(world))
 }
 
-/// A fileset of a file of six pages, one of six that is cut to two, of which the others are on the
-/// list, and a directory of three pages.
-fn three_files(alloc: Global) -> Result<(World, Deferred), Fail>
-    ensures { IfOk result (λ scene. HasStood scene.0 scene.1.list) }
+/// Makes a file of six pages, one of six that is cut to two, of which the others are on the list, and
+/// a directory of three pages.
+fn make_three(alloc: Global, world: &mut World, list: &mut Deferred) -> Result<(), Fail>
+    requires { HasStood world.old list.old.list }
+    ensures { IfOk result (λ _. HasStood world.new list.new.list) }
 {
-    let (mut world, mut list) = new_scene(alloc, 64)?;
-    make_with(alloc, &mut world, &list, Kind::File, &[0, 1, 2, 3, 4, 5])?;
-    let tag = make_with(alloc, &mut world, &list, Kind::File, &[0, 1, 2, 3, 4, 5])?;
-    make_with(alloc, &mut world, &list, Kind::Directory, &[0, 1, 2])?;
-    cut_listed(alloc, &mut world, &mut list, tag, 16_384)?;
-    Ok((world, list))
+    make_with(alloc, world, list, Kind::File, &[0, 1, 2, 3, 4, 5])?;
+    let tag = make_with(alloc, world, list, Kind::File, &[0, 1, 2, 3, 4, 5])?;
+    make_with(alloc, world, list, Kind::Directory, &[0, 1, 2])?;
+    cut_listed(alloc, world, list, tag, 16_384)
 }
 
 /// Takes up to so many tags out of use, and then lets go of things in one call: it says how many
@@ -195,13 +177,26 @@ fn end(alloc: Global, world: &mut World, list: &mut Deferred, out: &mut String) 
     say_times(world, out)
 }
 
-/// Says what is seen of a fileset of three files that is removed, two tags at a time: before, after
-/// each time with the tags and steps, and at the end.
+/// Makes a fileset of three files and removes it, two tags at a time: it says what is seen before,
+/// after each time with the tags and steps, and at the end.
+fn say_removed_in(
+    alloc: Global,
+    world: &mut World,
+    list: &mut Deferred,
+    out: &mut String,
+) -> Result<(), Fail>
+    requires { HasStood world.old list.old.list }
+{
+    make_three(alloc, world, list)?;
+    say_look(world, list, out)?;
+    go_on(alloc, world, list, 2, out)?;
+    go_on(alloc, world, list, 2, out)?;
+    go_on(alloc, world, list, 2, out)?;
+    end(alloc, world, list, out)
+}
+
+/// Says what is seen of a fileset of three files that is removed.
 pub fn say_removed_fileset(alloc: Global, out: &mut String) -> Result<(), Fail> {
-    let (mut world, mut list) = three_files(alloc)?;
-    say_look(&world, &list, out)?;
-    go_on(alloc, &mut world, &mut list, 2, out)?;
-    go_on(alloc, &mut world, &mut list, 2, out)?;
-    go_on(alloc, &mut world, &mut list, 2, out)?;
-    end(alloc, &mut world, &mut list, out)
+    let (mut world, mut list) = new_scene(alloc, 64)?;
+    say_removed_in(alloc, &mut world, &mut list, out)
 }
