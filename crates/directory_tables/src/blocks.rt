@@ -5,7 +5,7 @@ use crate::names::name_form;
 use crate::pages::{fault, push_pages};
 use crate::random::random_rows;
 use crate::rows::{missed_row, push_rows};
-use directory_rows::{OutOfMemory, StoreFault};
+use directory_rows::StoreFault;
 use std::alloc::Global;
 
 /// Says what a line answers by itself.
@@ -21,18 +21,6 @@ fn answer(alloc: Global, kind: &str, line: &str, out: &mut String) -> Option<()>
     }
 }
 
-/// Adds a line that stands alone, with what it answers.
-fn push_single(
-    alloc: Global,
-    answers: &mut String,
-    kind: &str,
-    line: &str,
-) -> Result<(), StoreFault> {
-    let mut out = String::new(alloc);
-    let is_read = is_idle(line) || answer(alloc, kind, line, &mut out).is_some();
-    push_answer(answers, line, is_read, out.as_str())
-}
-
 /// Adds lines that stand alone, each with what it answers.
 fn push_singles(
     alloc: Global,
@@ -41,7 +29,9 @@ fn push_singles(
     lines: &str,
 ) -> Result<(), StoreFault> {
     for line in lines.lines() {
-        push_single(alloc, answers, kind, line)?;
+        let mut out = String::new(alloc);
+        let is_read = is_idle(line) || answer(alloc, kind, line, &mut out).is_some();
+        push_answer(answers, line, is_read, out.as_str())?;
     }
     Ok(())
 }
@@ -65,16 +55,6 @@ pub fn is_idle(line: &str) -> bool {
     line.is_empty() || line.starts_with('#')
 }
 
-/// Adds a line, and its answer after an arrow.
-fn push_told(answers: &mut String, line: &str, answer: &str) -> Result<(), OutOfMemory> {
-    answers.push_str(line)?;
-    if !answer.is_empty() {
-        answers.push_str(" -> ")?;
-        answers.push_str(answer)?;
-    }
-    answers.push('\n')
-}
-
 /// Adds a line and its answer, if it has one; a line that is not read is reported.
 pub fn push_answer(
     answers: &mut String,
@@ -83,6 +63,11 @@ pub fn push_answer(
     answer: &str,
 ) -> Result<(), StoreFault> {
     let answer = if is_read { answer } else { "not read" };
-    push_told(answers, line, answer)?;
+    answers.push_str(line)?;
+    if !answer.is_empty() {
+        answers.push_str(" -> ")?;
+        answers.push_str(answer)?;
+    }
+    answers.push('\n')?;
     Ok(())
 }

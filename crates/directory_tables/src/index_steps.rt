@@ -14,7 +14,7 @@ pub(crate) const ROOT: Tag = Tag { slot: 1, seq: 1 };
 
 /// The root directory alone, with an index of these entries. The numbers are those of the changing
 /// calls that find no page.
-pub(crate) fn indexed_missing(
+pub(crate) fn indexed(
     alloc: Global,
     misses: Vec<u64>,
     entries: &[IndexEntry],
@@ -25,15 +25,6 @@ pub(crate) fn indexed_missing(
     let mut set = MemoryBitfiles::new(alloc, misses)?;
     build(&mut set, alloc, ROOT, entries)?;
     Ok(set)
-}
-
-/// The root directory alone, with an index of these entries, where each changing call finds its
-/// page.
-pub(crate) fn indexed(alloc: Global, entries: &[IndexEntry]) -> Result<MemoryBitfiles, StoreFault>
-    requires { Rise entries.now }
-    ensures { IfOk result (λ set. HasIndex ROOT (⟦<MemoryBitfiles as BitfileSet>⟧.files set)) }
-{
-    indexed_missing(alloc, Vec::new(alloc), entries)
 }
 
 /// So many entries of page 0, with the hashes from 0 on.

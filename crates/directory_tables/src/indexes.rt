@@ -5,7 +5,7 @@ ghost use Rattle.directory_tables.specs.Steps.{HasIndex};
 
 use crate::blocks::{is_idle, push_answer};
 use crate::index_steps::{
-    ROOT, add, add_all, count_found, indexed, indexed_missing, page_of, remove, remove_odd, rising,
+    ROOT, add, add_all, count_found, indexed, page_of, remove, remove_odd, rising,
 };
 use crate::names::name_or_none;
 use crate::text::push_digits;
@@ -37,7 +37,7 @@ fn three_apart(alloc: Global) -> Result<MemoryBitfiles, StoreFault>
         IndexEntry { hash: 5, page: 3 },
         IndexEntry { hash: 9, page: 0 },
     ];
-    indexed(alloc, &entries)
+    indexed(alloc, Vec::new(alloc), &entries)
 }
 
 /// Hash 5 twice on page 1, and hash 9 on page 0.
@@ -49,15 +49,16 @@ fn two_equal(alloc: Global) -> Result<MemoryBitfiles, StoreFault>
         IndexEntry { hash: 5, page: 1 },
         IndexEntry { hash: 9, page: 0 },
     ];
-    indexed(alloc, &entries)
+    indexed(alloc, Vec::new(alloc), &entries)
 }
 
-/// So many entries of page 0, with the hashes from 0 on.
-fn rising_index(alloc: Global, count: u32) -> Result<MemoryBitfiles, StoreFault>
+/// An index of so many entries of page 0, with the hashes from 0 on. The numbers are those of the
+/// changing calls that find no page.
+fn rising_index(alloc: Global, misses: Vec<u64>, count: u32) -> Result<MemoryBitfiles, StoreFault>
     ensures { IfOk result (λ set. HasIndex ROOT (⟦<MemoryBitfiles as BitfileSet>⟧.files set)) }
 {
     let entries = rising(alloc, count)?;
-    indexed(alloc, entries.as_slice())
+    indexed(alloc, misses, entries.as_slice())
 }
 
 /// The index that the first line of a block tells; one of any other line has no entry.
@@ -69,7 +70,7 @@ fn index_of(alloc: Global, line: &str) -> Result<MemoryBitfiles, StoreFault>
         "entries 5:1 5:1 9:0" => two_equal(alloc),
         _ => {
             let count = line.strip_prefix("rising ").unwrap_or("");
-            rising_index(alloc, count.parse().unwrap_or(0))
+            rising_index(alloc, Vec::new(alloc), count.parse().unwrap_or(0))
         }
     }
 }
@@ -209,18 +210,10 @@ pub fn push_index(alloc: Global, answers: &mut String, lines: &str) -> Result<()
     Ok(())
 }
 
-/// A full page of an index, where this changing call finds no page.
-fn full_page(alloc: Global, call: u64) -> Result<MemoryBitfiles, StoreFault>
-    ensures { IfOk result (λ set. HasIndex ROOT (⟦<MemoryBitfiles as BitfileSet>⟧.files set)) }
-{
-    let entries = rising(alloc, 1_022)?;
-    indexed_missing(alloc, vec![in alloc; call]?, entries.as_slice())
-}
-
 /// Says what the addition of an entry to a full page answers where one changing call finds no page,
 /// how many misses there were, and how many pages the index has.
 pub fn missed_entry(alloc: Global, call: u64, out: &mut String) -> Result<(), StoreFault> {
-    let mut set = full_page(alloc, call)?;
+    let mut set = rising_index(alloc, vec![in alloc; call]?, 1_022)?;
     let answer = match add(&mut set, alloc, ROOT, IndexEntry { hash: 500, page: 1 }) {
         Ok(()) => "done",
         Err(StoreFault::NoPage) => "no page",

@@ -14,18 +14,12 @@ fn push_often(name: &mut Vec<u8>, times: u32, part: &[u8]) -> Option<()> {
     Some(())
 }
 
-/// Adds the bytes of hexadecimal digits so many times.
-fn push_digits(alloc: Global, name: &mut Vec<u8>, times: u32, digits: &str) -> Option<()> {
-    let bytes = decode(alloc, digits).ok()?;
-    push_often(name, times, &bytes)
-}
-
 /// Adds a part of a name.
 fn push_part(alloc: Global, name: &mut Vec<u8>, part: &str) -> Option<()> {
     let (text, times) = part.split_once('*').unwrap_or((part, "1"));
     let times: u32 = times.parse().ok()?;
     match text.strip_prefix("x:") {
-        Some(digits) => push_digits(alloc, name, times, digits),
+        Some(digits) => push_often(name, times, &decode(alloc, digits).ok()?),
         None => push_often(name, times, text.as_bytes()),
     }
 }

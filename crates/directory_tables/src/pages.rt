@@ -7,8 +7,8 @@ use crate::names::name_of;
 use crate::text::{change, letter, push_bytes, push_digits, shown};
 use directory_rows::from_directory_pages::{add_row, find_row, remove_row};
 use directory_rows::{
-    Kind, OutOfMemory, Page, RowsFault, StoreFault, Tag, clear_rows, count_rows, has_room,
-    is_row_name, is_row_page,
+    Kind, Page, RowsFault, StoreFault, Tag, clear_rows, count_rows, has_room, is_row_name,
+    is_row_page,
 };
 use std::alloc::Global;
 
@@ -17,15 +17,6 @@ use std::alloc::Global;
 struct Desk {
     page: Page,
     kept: Page,
-}
-
-/// A page without rows that was full of other bytes before.
-fn cleared(alloc: Global) -> Result<Page, OutOfMemory> {
-    let mut page = Page::zeros(alloc)?;
-    page.set(0, b"other bytes");
-    page.set(8_000, b"and more");
-    clear_rows(&mut page);
-    Ok(page)
 }
 
 /// Adds a row to a directory page, if the name is one.
@@ -44,28 +35,6 @@ fn remove(page: &mut Page, name: &[u8]) -> bool {
     remove_row(page, name)
 }
 
-/// Whether a row of the name fits into a directory page.
-fn fits(page: &Page, name: &[u8]) -> bool {
-    is_row_page(page) && is_row_name(name) && has_room(page, name)
-}
-
-/// The tag and the kind of the first row with the name.
-fn found(page: &Page, name: &[u8]) -> Option<(Tag, Kind)> {
-    if !is_row_page(page) {
-        return None;
-    }
-    find_row(page, name)
-}
-
-/// How many rows a directory page has.
-fn rows(page: &Page) -> u32 {
-    if is_row_page(page) {
-        count_rows(page)
-    } else {
-        0
-    }
-}
-
 fn push_found(found: Option<(Tag, Kind)>, out: &mut String) -> Option<()> {
     match found {
         Some((tag, kind)) => write!(out, "{}.{} {}", tag.slot, tag.seq, letter(kind)).ok(),
@@ -78,21 +47,16 @@ fn push_yes(is_so: bool, out: &mut String) -> Option<()> {
     out.push_str(if is_so { "yes" } else { "no" }).ok()
 }
 
-/// The kind of a letter.
-fn kind_of(letter: &str) -> Option<Kind> {
-    match letter {
-        "f" => Some(Kind::File),
-        "d" => Some(Kind::Directory),
-        _ => None,
-    }
-}
-
 /// Adds the row that a line tells: a slot, the letter of a kind, and a name.
 fn add_told(alloc: Global, page: &mut Page, rest: &str, out: &mut String) -> Option<()> {
     let (slot, rest) = rest.split_once(' ')?;
     let (kind, name) = rest.split_once(' ')?;
     let slot = slot.parse().ok()?;
-    let kind = kind_of(kind)?;
+    let kind = if kind == "d" {
+        Kind::Directory
+    } else {
+        Kind::File
+    };
     let name = name_of(alloc, name)?;
     push_yes(add(page, slot, kind, &name), out)
 }
@@ -111,23 +75,22 @@ fn bytes(page: &Page, rest: &str, out: &mut String) -> Option<()> {
     push_digits(bytes, out).ok()
 }
 
-/// Says how a page is read once it has other bytes besides.
-fn push_with(alloc: Global, page: &mut Page, line: &str, out: &mut String) -> Option<()> {
-    change(alloc, page, line)?;
-    shown(alloc, page, out)
-}
-
 /// Says how the page is read with other bytes besides; it stays as it is.
 fn with(alloc: Global, page: &Page, line: &str, out: &mut String) -> Option<()> {
     let mut page = page.copy(alloc).ok()?;
-    push_with(alloc, &mut page, line, out)
+    change(alloc, &mut page, line)?;
+    shown(alloc, &page, out)
 }
 
-/// Says what the page answers of a name.
-fn ask_name(page: &Page, word: &str, name: &[u8], out: &mut String) -> Option<()> {
+/// Says how many rows the page has, or its row of a name, or whether there is room for one.
+fn ask_rows(page: &Page, word: &str, name: &[u8], out: &mut String) -> Option<()> {
+    if !is_row_page(page) {
+        return out.push_str("no rows").ok();
+    }
     match word {
-        "find" => push_found(found(page, name), out),
-        _ => push_yes(fits(page, name), out),
+        "count" => write!(out, "{}", count_rows(page)).ok(),
+        "find" => push_found(find_row(page, name), out),
+        _ => push_yes(is_row_name(name) && has_room(page, name), out),
     }
 }
 
@@ -138,38 +101,32 @@ fn ask(alloc: Global, desk: &Desk, word: &str, rest: &str, out: &mut String) -> 
         "all" => push_bytes(desk.page.bytes(), out),
         "bytes" => bytes(&desk.page, rest, out),
         "with" => with(alloc, &desk.page, rest, out),
-        "count" => write!(out, "{}", rows(&desk.page)).ok(),
-        "find" | "room" => ask_name(&desk.page, word, &name_of(alloc, rest)?, out),
+        "count" | "find" | "room" => ask_rows(&desk.page, word, &name_of(alloc, rest)?, out),
         "same" => push_yes(desk.page.bytes() == desk.kept.bytes(), out),
         _ => None,
     }
 }
 
-/// Begins a page of zeros with these bytes.
-fn begin(alloc: Global, desk: &mut Desk, line: &str) -> Option<()> {
-    desk.page = Page::zeros(alloc).ok()?;
+/// Begins a page of zeros with these bytes, or one without rows that was full of other bytes before,
+/// or keeps the page as it is.
+fn set(alloc: Global, desk: &mut Desk, word: &str, line: &str) -> Option<()> {
+    match word {
+        "keep" => desk.kept = desk.page.copy(alloc).ok()?,
+        _ => desk.page = Page::zeros(alloc).ok()?,
+    }
+    if word == "clear" {
+        desk.page.set(0, b"other bytes");
+        desk.page.set(8_000, b"and more");
+        clear_rows(&mut desk.page);
+    }
     change(alloc, &mut desk.page, line)
-}
-
-/// Begins a page without rows.
-fn clear(alloc: Global, desk: &mut Desk) -> Option<()> {
-    desk.page = cleared(alloc).ok()?;
-    Some(())
-}
-
-/// Keeps the page as it is.
-fn keep(alloc: Global, desk: &mut Desk) -> Option<()> {
-    desk.kept = desk.page.copy(alloc).ok()?;
-    Some(())
 }
 
 /// Does what a line says.
 fn call(alloc: Global, desk: &mut Desk, line: &str, out: &mut String) -> Option<()> {
     let (word, rest) = line.split_once(' ').unwrap_or((line, ""));
     match word {
-        "page" => begin(alloc, desk, rest),
-        "clear" => clear(alloc, desk),
-        "keep" => keep(alloc, desk),
+        "page" | "clear" | "keep" => set(alloc, desk, word, rest),
         "add" => add_told(alloc, &mut desk.page, rest, out),
         "remove" => remove_told(alloc, &mut desk.page, rest, out),
         _ => ask(alloc, desk, word, rest, out),

@@ -1,7 +1,7 @@
 //! Random calls on a page and on a plain list of rows, side by side.
 ghost use Rattle.std.specs.Prelude.{◌<◌};
 
-use crate::text::{push_digits, shown};
+use crate::text::shown;
 use directory_rows::from_directory_pages::{add_row, find_row, remove_row};
 use directory_rows::{Kind, Page, Tag, clear_rows, is_row_name, is_row_page};
 use std::alloc::{AllocError, Global};
@@ -40,10 +40,6 @@ fn some_row(random: &mut Random) -> Plain {
     }
 }
 
-fn name_of(alloc: Global, row: &Plain) -> Result<Vec<u8>, AllocError> {
-    vec![in alloc; row.letter; row.times]
-}
-
 /// Where the list has a row with the name of this one.
 fn place_in(list: &[Plain], row: &Plain) -> Option<usize> {
     list.iter().position(|other| other.letter == row.letter && other.times == row.times)
@@ -58,7 +54,8 @@ fn size_of(list: &[Plain]) -> usize {
     size
 }
 
-/// Adds a row that the list does not have, and tells whether the page took it as the list says.
+/// Adds a row that the list does not have, and tells whether the page lacked it and took it as the
+/// list says.
 fn add(
     page: &mut Page,
     list: &mut Vec<Plain>,
@@ -70,7 +67,7 @@ fn add(
         slot: row.slot,
         seq: 7,
     };
-    if !is_row_page(page) || !is_row_name(name) {
+    if !is_row_page(page) || !is_row_name(name) || find_row(page, name).is_some() {
         return Ok(false);
     }
     let added = add_row(page, tag, Kind::Directory, name);
@@ -89,29 +86,7 @@ fn remove(page: &mut Page, list: &mut Vec<Plain>, at: usize, name: &[u8]) -> boo
     remove_row(page, name)
 }
 
-/// Whether a directory page has no row of the name.
-fn lacks(page: &Page, name: &[u8]) -> bool {
-    is_row_page(page) && find_row(page, name).is_none()
-}
-
-/// Adds a row or removes it, and tells whether the page did as the list says.
-fn step_with(
-    page: &mut Page,
-    list: &mut Vec<Plain>,
-    row: &Plain,
-    name: &[u8],
-) -> Result<bool, AllocError> {
-    match place_in(list, row) {
-        None => {
-            let lacking = lacks(page, name);
-            let added = add(page, list, row, name)?;
-            Ok(lacking && added)
-        }
-        Some(at) => Ok(remove(page, list, at, name)),
-    }
-}
-
-/// Does that with a random row.
+/// Adds a random row or removes it, and tells whether the page did as the list says.
 fn step(
     alloc: Global,
     page: &mut Page,
@@ -119,23 +94,29 @@ fn step(
     random: &mut Random,
 ) -> Result<bool, AllocError> {
     let row = some_row(random);
-    let name = name_of(alloc, &row)?;
-    step_with(page, list, &row, &name)
+    let name = vec![in alloc; row.letter; row.times]?;
+    match place_in(list, &row) {
+        None => add(page, list, &row, &name),
+        Some(at) => Ok(remove(page, list, at, &name)),
+    }
 }
 
 /// Adds a row of the list, as one of a page is shown.
-fn push_plain(alloc: Global, row: &Plain, out: &mut String) -> Result<(), AllocError> {
+fn push_plain(row: &Plain, out: &mut String) -> Result<(), AllocError> {
     if !out.is_empty() {
         out.push(' ')?;
     }
     write!(out, "{}.7 d ", row.slot)?;
-    push_digits(&name_of(alloc, row)?, out)
+    for _ in 0..row.times {
+        write!(out, "{:02x}", row.letter)?;
+    }
+    Ok(())
 }
 
 /// Adds the rows of the list, as those of a page are shown.
-fn push_list(alloc: Global, list: &[Plain], out: &mut String) -> Result<(), AllocError> {
+fn push_list(list: &[Plain], out: &mut String) -> Result<(), AllocError> {
     for row in list {
-        push_plain(alloc, row, out)?;
+        push_plain(row, out)?;
     }
     Ok(())
 }
@@ -145,7 +126,7 @@ fn is_same(alloc: Global, page: &Page, list: &[Plain]) -> Option<bool> {
     let mut has = String::new(alloc);
     let mut says = String::new(alloc);
     shown(alloc, page, &mut has)?;
-    push_list(alloc, list, &mut says).ok()?;
+    push_list(list, &mut says).ok()?;
     Some(has.as_str() == says.as_str())
 }
 

@@ -3,8 +3,8 @@ ghost use Rattle.std.specs.Prelude.{◌<◌, IfOk, OnOk};
 ghost use Rattle.directory_rows.specs.Directory.{IsWellFormed};
 
 use directory_rows::{
-    BitfileSet, Kind, MemoryBitfiles, OutOfMemory, Row, StoreFault, Tag, add_row, find_row,
-    is_row_name, list_rows, remove_row,
+    BitfileSet, Kind, MemoryBitfiles, OutOfMemory, StoreFault, Tag, add_row, find_row, is_row_name,
+    list_rows, remove_row,
 };
 use std::alloc::Global;
 
@@ -172,17 +172,6 @@ pub(crate) fn count_wide<S: BitfileSet>(set: &S, dir: Tag, count: u32) -> u32
     found
 }
 
-/// How many rows have the number of their place in a list as their slot, counted from 1.
-fn in_place(rows: &[Row]) -> u32 {
-    let mut count: u32 = 0;
-    for (place, row) in rows.iter().enumerate() {
-        if row.tag.slot as usize == place + 1 {
-            count = count.saturating_add(1);
-        }
-    }
-    count
-}
-
 /// How many rows of the list of a directory have the number of their place as their slot.
 pub(crate) fn listed_in_place<S: BitfileSet>(
     set: &S,
@@ -192,19 +181,18 @@ pub(crate) fn listed_in_place<S: BitfileSet>(
     requires { IsWellFormed (S.files set.now) dir }
 {
     let list = list_rows(set, alloc, dir)?;
-    Ok(in_place(list.as_slice()))
-}
-
-/// The slots of the first four rows of a list.
-fn four_slots(rows: &[Row]) -> [u32; 4] {
-    let mut slots = [0; 4];
-    for (slot, row) in slots.iter_mut().zip(rows) {
-        *slot = row.tag.slot;
+    let mut place: u32 = 0;
+    let mut count: u32 = 0;
+    for row in list.as_slice() {
+        place = place.saturating_add(1);
+        if row.tag.slot == place {
+            count = count.saturating_add(1);
+        }
     }
-    slots
+    Ok(count)
 }
 
-/// The slots of the first four rows of the list of a directory.
+/// The slots of the first four rows of the list of a directory, noughts where it has fewer.
 pub(crate) fn first_four<S: BitfileSet>(
     set: &S,
     alloc: Global,
@@ -213,5 +201,8 @@ pub(crate) fn first_four<S: BitfileSet>(
     requires { IsWellFormed (S.files set.now) dir }
 {
     let list = list_rows(set, alloc, dir)?;
-    Ok(four_slots(list.as_slice()))
+    match list.as_slice() {
+        [a, b, c, d, ..] => Ok([a.tag.slot, b.tag.slot, c.tag.slot, d.tag.slot]),
+        _ => Ok([0; 4]),
+    }
 }

@@ -67,20 +67,21 @@ fn push_listed<S: BitfileSet>(alloc: Global, set: &S, out: &mut String) -> Resul
     write!(out, "{a} {b} {c} {d}")
 }
 
-/// The slot of the row of a name.
-fn found<S: BitfileSet>(alloc: Global, set: &S, name: &str) -> Option<u32>
+/// Says the slot of the row of a name, or what is looked at to find it.
+fn ask_name<S: BitfileSet>(
+    alloc: Global,
+    set: &S,
+    word: &str,
+    name: &str,
+    out: &mut String,
+) -> Option<()>
     requires { IsWellFormed (S.files set.now) ROOT }
 {
     let name = name_of(alloc, name)?;
-    Some(slot_of(set, ROOT, &name))
-}
-
-/// What is looked at to find a name.
-fn looked<S: BitfileSet>(alloc: Global, set: &S, name: &str) -> Option<[u32; 2]>
-    requires { IsWellFormed (S.files set.now) ROOT }
-{
-    let name = name_of(alloc, name)?;
-    Some(looks_for(set, &name))
+    match word {
+        "find" => write!(out, "{}", slot_of(set, ROOT, &name)).ok(),
+        _ => push_looks(looks_for(set, &name), out).ok(),
+    }
 }
 
 /// A number that is asked for.
@@ -89,7 +90,6 @@ fn number<S: BitfileSet>(alloc: Global, set: &S, word: &str, rest: &str) -> Opti
 {
     match word {
         "count" => Some(row_count(set, ROOT)),
-        "find" => found(alloc, set, rest),
         "in-place" => listed_in_place(set, alloc, ROOT).ok(),
         "wide-found" => Some(count_wide(set, ROOT, rest.parse().ok()?)),
         "even-found" => Some(count_long(set, ROOT, rest.parse().ok()?, false)),
@@ -111,7 +111,7 @@ fn ask<S: BitfileSet>(
     match word {
         "shape" => push_shape(set, out).ok(),
         "list" => push_listed(alloc, set, out).ok(),
-        "looks" => push_looks(looked(alloc, set, rest)?, out).ok(),
+        "find" | "looks" => ask_name(alloc, set, word, rest, out),
         "looks-to" => push_looks(looks_at_all(alloc, set, rest).ok()?, out).ok(),
         "empty" => out
             .push_str(if is_empty(set, ROOT) { "yes" } else { "no" })
@@ -129,29 +129,36 @@ fn ask_bare(alloc: Global, set: &MemoryBitfiles, line: &str, out: &mut String) -
     ask(alloc, &bare, word, rest, out)
 }
 
-/// Adds a row, and says whether the name is good and new. It answers whether the line is one.
-fn add_told(
+/// Adds a row with that slot, and says whether the name is good and new; or removes a row, and says
+/// whether it was there.
+fn change(
     alloc: Global,
     set: &mut MemoryBitfiles,
-    rest: &str,
+    added: Option<u32>,
+    name: &[u8],
     out: &mut String,
 ) -> Result<bool, StoreFault>
     requires { IsWellFormed (⟦<MemoryBitfiles as BitfileSet>⟧.files set.old) ROOT }
     ensures { OnOk result (IsWellFormed (⟦<MemoryBitfiles as BitfileSet>⟧.files set.new) ROOT) }
 {
-    let (slot, name) = rest.split_once(' ').unwrap_or(("", rest));
-    let (Some(name), Ok(slot)) = (name_of(alloc, name), slot.parse()) else {
-        return Ok(false);
-    };
-    let is_new = add(set, alloc, ROOT, slot, &name)?;
-    out.push_str(if is_new { "new" } else { "not new" })?;
+    match added {
+        Some(slot) => {
+            let is_new = add(set, alloc, ROOT, slot, name)?;
+            out.push_str(if is_new { "new" } else { "not new" })?;
+        }
+        None => {
+            let was_there = remove(set, alloc, ROOT, name)?;
+            out.push_str(if was_there { "there" } else { "not there" })?;
+        }
+    }
     Ok(true)
 }
 
-/// Removes a row, and says whether it was there. It answers whether the line is one.
-fn remove_told(
+/// Adds or removes the row of the name that a line tells. It answers whether the line is one.
+fn change_named(
     alloc: Global,
     set: &mut MemoryBitfiles,
+    added: Option<u32>,
     name: &str,
     out: &mut String,
 ) -> Result<bool, StoreFault>
@@ -161,28 +168,28 @@ fn remove_told(
     let Some(name) = name_of(alloc, name) else {
         return Ok(false);
     };
-    let was_there = remove(set, alloc, ROOT, &name)?;
-    out.push_str(if was_there { "there" } else { "not there" })?;
-    Ok(true)
+    change(alloc, set, added, &name, out)
 }
 
-/// Removes the odd ones of so many long names, and says how many there were.
-fn remove_odd_told(
+/// Adds the row that a line tells by its slot and its name. It answers whether the line is one.
+fn add_line(
     alloc: Global,
     set: &mut MemoryBitfiles,
-    count: u32,
+    rest: &str,
     out: &mut String,
-) -> Result<(), StoreFault>
+) -> Result<bool, StoreFault>
     requires { IsWellFormed (⟦<MemoryBitfiles as BitfileSet>⟧.files set.old) ROOT }
     ensures { OnOk result (IsWellFormed (⟦<MemoryBitfiles as BitfileSet>⟧.files set.new) ROOT) }
 {
-    let removed = remove_odd(set, alloc, ROOT, count)?;
-    write!(out, "{removed}")?;
-    Ok(())
+    let (slot, name) = rest.split_once(' ').unwrap_or(("", rest));
+    match slot.parse() {
+        Ok(slot) => change_named(alloc, set, Some(slot), name, out),
+        Err(_) => Ok(false),
+    }
 }
 
 /// Adds so many wide names, or long ones in a mixed order, or removes the odd ones of so many long
-/// names. It answers whether the line is one.
+/// names and says how many there were. It answers whether the line is one.
 fn change_many(
     alloc: Global,
     set: &mut MemoryBitfiles,
@@ -199,7 +206,10 @@ fn change_many(
     match word {
         "wide" => add_wide(set, alloc, ROOT, count)?,
         "mixed" => add_mixed(set, alloc, ROOT, count)?,
-        _ => remove_odd_told(alloc, set, count, out)?,
+        _ => {
+            let removed = remove_odd(set, alloc, ROOT, count)?;
+            write!(out, "{removed}")?;
+        }
     }
     Ok(true)
 }
@@ -216,8 +226,8 @@ fn call(
 {
     let (word, rest) = line.split_once(' ').unwrap_or((line, ""));
     match word {
-        "add" => add_told(alloc, set, rest, out),
-        "remove" => remove_told(alloc, set, rest, out),
+        "add" => add_line(alloc, set, rest, out),
+        "remove" => change_named(alloc, set, None, rest, out),
         "wide" | "mixed" | "remove-odd" => change_many(alloc, set, word, rest, out),
         "bare" => Ok(ask_bare(alloc, set, rest, out).is_some()),
         _ => Ok(ask(alloc, set, word, rest, out).is_some()),

@@ -8,19 +8,14 @@ use directory_rows::{Kind, OutOfMemory, Page, Row, RowsFault};
 use hex::decode;
 use std::alloc::Global;
 
-/// Puts bytes on a page, and tells where they end.
-fn put_bytes(page: &mut Page, at: usize, bytes: &[u8]) -> Option<usize> {
-    if PAGE_BYTES < at || PAGE_BYTES - at < bytes.len() {
-        return None;
-    }
-    page.set(at, bytes);
-    Some(at + bytes.len())
-}
-
 /// Puts the bytes of a word on a page, and tells where they end.
 fn put_word(alloc: Global, page: &mut Page, at: usize, word: &str) -> Option<usize> {
     let bytes = decode(alloc, word).ok()?;
-    put_bytes(page, at, &bytes)
+    if PAGE_BYTES < at || PAGE_BYTES - at < bytes.len() {
+        return None;
+    }
+    page.set(at, &bytes);
+    Some(at + bytes.len())
 }
 
 /// Changes a page as a line tells.
