@@ -2,6 +2,7 @@
 ghost use Rattle.std.specs.Prelude.{IfOk};
 ghost use Rattle.file_world.specs.Worlds.{IsWorld};
 
+use crate::set_lines::{is_idle, say_line};
 use file_world::calls::{count_in, cut, give, make, move_page, pages_left, world_with_root};
 use file_world::reading::{at, numbers_of, say_numbers, say_whether, small, word_of};
 use file_world::states::{describe, index_at, put_in, say_index, set_stripe, take_out};
@@ -12,13 +13,21 @@ use std::alloc::Global;
 use std::test::Fail;
 
 /// Answers lines of calls on a world of 64 pages, until they begin another one.
-pub fn answer_all(alloc: Global, lines: &[String], out: &mut String) -> Result<(), Fail> {
+pub fn answer_all(alloc: Global, lines: &str, out: &mut String) -> Result<(), Fail> {
     let mut world = new_world(alloc, 64)?;
-    for line in lines {
-        answer(alloc, &mut world, line.as_str(), out)?;
-        out.push('\n')?;
+    for line in lines.lines() {
+        answer(alloc, &mut world, line, out)?;
     }
     Ok(())
+}
+
+/// Answers a line of a word and numbers.
+fn answer_line(alloc: Global, world: &mut World, line: &str, out: &mut String) -> Result<(), Fail>
+    requires { IsWorld world.old }
+    ensures { IfOk result (λ _. IsWorld world.new) }
+{
+    let numbers = numbers_of(alloc, line)?;
+    answer_of_changes(alloc, world, word_of(line), numbers.as_slice(), out)
 }
 
 /// Answers a line, which is said as it stands: one that begins with # is a heading.
@@ -26,13 +35,13 @@ fn answer(alloc: Global, world: &mut World, line: &str, out: &mut String) -> Res
     requires { IsWorld world.old }
     ensures { IfOk result (λ _. IsWorld world.new) }
 {
-    out.push_str(line)?;
-    let word = word_of(line);
-    if word == "" || word.starts_with('#') {
-        return Ok(());
+    if is_idle(line) {
+        return say_line(out, line);
     }
-    let numbers = numbers_of(alloc, line)?;
-    answer_of_changes(alloc, world, word, numbers.as_slice(), out)
+    out.push_str(line)?;
+    answer_line(alloc, world, line, out)?;
+    out.push('\n')?;
+    Ok(())
 }
 
 /// The tag of a slot that was not used before.
@@ -238,21 +247,21 @@ fn answer_of_looks(
     }
 }
 
-/// Says the width and the mark of a file's stripe, and its first three volumes.
+/// Says the width and the mark of a stripe, and its first three volumes.
+fn say_told_stripe(stripe: &Stripe, out: &mut String) -> Result<(), Fail> {
+    let vols = stripe.vols;
+    say_numbers(
+        out,
+        &[stripe.width, stripe.mark, vols[0], vols[1], vols[2]].map(u64::from),
+    )
+}
+
+/// Says the stripe of a file.
 fn say_stripe(world: &World, tag: Tag, out: &mut String) -> Result<(), Fail>
     requires { IsWorld world.now }
 {
     match world.files.stripe(&world.pages, tag) {
-        Some(Stripe { width, mark, vols }) => say_numbers(
-            out,
-            &[
-                u64::from(width),
-                u64::from(mark),
-                u64::from(vols[0]),
-                u64::from(vols[1]),
-                u64::from(vols[2]),
-            ],
-        ),
+        Some(stripe) => say_told_stripe(&stripe, out),
         None => Ok(out.push_str(": none")?),
     }
 }

@@ -4,6 +4,7 @@ ghost use Rattle.release_steps.specs.page_store.Homes.{pages_of};
 ghost use Rattle.stored_set.specs.index_pages.Homes.{HasIndexHomes};
 ghost use Rattle.file_world.specs.IndexPageWorlds.{IsIndexOn};
 
+use crate::set_lines::{is_idle, say_line};
 use file_world::index_page_world::{World, drop_first, insert, new_world, put};
 use file_world::reading::{at, byte, numbers_of, say_numbers, say_whether, small, word_of};
 use file_world::{count_index, index_home};
@@ -12,13 +13,22 @@ use std::alloc::Global;
 use std::test::Fail;
 
 /// Answers lines of calls on an index on a volume of 64 pages, until they begin another one.
-pub fn answer_all(alloc: Global, lines: &[String], out: &mut String) -> Result<(), Fail> {
+pub fn answer_all(alloc: Global, lines: &str, out: &mut String) -> Result<(), Fail> {
     let mut world = new_world(alloc, 64)?;
-    for line in lines {
-        answer(alloc, &mut world, line.as_str(), out)?;
-        out.push('\n')?;
+    for line in lines.lines() {
+        answer(alloc, &mut world, line, out)?;
     }
     Ok(())
+}
+
+/// Answers a line of a word and numbers.
+fn answer_line(alloc: Global, world: &mut World, line: &str, out: &mut String) -> Result<(), Fail>
+    requires { IsIndexOn (pages_of world.old.pages.entries.items) world.old.space world.old.first }
+    ensures { IfOk result (λ _. IsIndexOn (pages_of world.new.pages.entries.items) world.new.space
+        world.new.first) }
+{
+    let numbers = numbers_of(alloc, line)?;
+    answer_of_words(alloc, world, word_of(line), numbers.as_slice(), out)
 }
 
 /// Answers a line, which is said as it stands: one that begins with # is a heading.
@@ -27,13 +37,13 @@ fn answer(alloc: Global, world: &mut World, line: &str, out: &mut String) -> Res
     ensures { IfOk result (λ _. IsIndexOn (pages_of world.new.pages.entries.items) world.new.space
         world.new.first) }
 {
-    out.push_str(line)?;
-    let word = word_of(line);
-    if word == "" || word.starts_with('#') {
-        return Ok(());
+    if is_idle(line) {
+        return say_line(out, line);
     }
-    let numbers = numbers_of(alloc, line)?;
-    answer_of_words(alloc, world, word, numbers.as_slice(), out)
+    out.push_str(line)?;
+    answer_line(alloc, world, line, out)?;
+    out.push('\n')?;
+    Ok(())
 }
 
 /// Answers a line of a call.
@@ -137,15 +147,14 @@ fn say_marks(pages: &MemoryPages, first: &Option<Home>, out: &mut String) -> Res
     say_numbers(out, &[u64::from(count_index(pages, *first))])
 }
 
-/// Of a new index of two pages on a volume of 64, with these marks, the first one goes and waits for
-/// a group: whether that is done, the marks then, how many pages wait once a later group is durable,
-/// and how many wait and are free once the log has passed the group.
-fn first_page_goes(alloc: Global, numbers: &[u64], out: &mut String) -> Result<(), Fail> {
-    let mut world = new_world(alloc, 64)?;
-    insert(alloc, &mut world, 0, marked(alloc, byte(numbers, 0))?)?;
-    insert(alloc, &mut world, 1, marked(alloc, byte(numbers, 1))?)?;
+/// Of an index of two pages with these marks, the first one goes and waits for a group: it says whether
+/// that is done, the marks then, how many pages wait once a later group is durable, and how many wait
+/// and are free once the log has passed the group.
+fn say_page_gone(world: &mut World, numbers: &[u64], out: &mut String) -> Result<(), Fail>
+    requires { IsIndexOn (pages_of world.old.pages.entries.items) world.old.space world.old.first }
+{
     let group = at(numbers, 2);
-    say_whether(out, &[drop_first(&mut world, group)])?;
+    say_whether(out, &[drop_first(world, group)])?;
     say_marks(&world.pages, &world.first, out)?;
     world.space.made_durable(at(numbers, 3));
     say_numbers(out, &[u64::from(world.space.waiting())])?;
@@ -154,4 +163,24 @@ fn first_page_goes(alloc: Global, numbers: &[u64], out: &mut String) -> Result<(
         out,
         &[world.space.waiting(), world.space.free_now()].map(u64::from),
     )
+}
+
+/// Puts two pages with these marks into a new index, and then lets the first one go.
+fn first_page_goes_in(
+    alloc: Global,
+    world: &mut World,
+    numbers: &[u64],
+    out: &mut String,
+) -> Result<(), Fail>
+    requires { IsIndexOn (pages_of world.old.pages.entries.items) world.old.space world.old.first }
+{
+    insert(alloc, world, 0, marked(alloc, byte(numbers, 0))?)?;
+    insert(alloc, world, 1, marked(alloc, byte(numbers, 1))?)?;
+    say_page_gone(world, numbers, out)
+}
+
+/// Says what is seen where the first page of an index goes, on a volume of 64.
+fn first_page_goes(alloc: Global, numbers: &[u64], out: &mut String) -> Result<(), Fail> {
+    let mut world = new_world(alloc, 64)?;
+    first_page_goes_in(alloc, &mut world, numbers, out)
 }

@@ -1,6 +1,6 @@
 //! The index of a directory: pages put in, written anew, told and counted.
-ghost use Rattle.std.specs.Prelude.{◌+◌, ◌<◌, ◌≤◌, IfOk, OnOk};
-ghost use Rattle.file_tables.specs.Worlds.{HasIndex, IsSomeSet};
+ghost use Rattle.std.specs.Prelude.{◌+◌, ◌<◌, ◌≤◌, IfOk, None, OnOk};
+ghost use Rattle.file_tables.specs.Worlds.{HasIndex, IsSet, IsSomeSet};
 
 use crate::sets::{empty_world, make_one};
 use file_world::world::{World, volume};
@@ -19,13 +19,13 @@ pub fn index_page(alloc: Global, entries: u8) -> Result<Page, Fail> {
     Ok(page)
 }
 
-/// A world with one directory, which has no index.
-fn start(alloc: Global) -> Result<(World, Tag), Fail>
-    ensures { IfOk result (λ made. HasIndex made.0 made.1 0) }
+/// Makes the one directory, which has no index.
+fn start(alloc: Global, world: &mut World) -> Result<Tag, Fail>
+    requires { IsSet world.old (λ t. None) }
+    ensures { IfOk result (λ tag. HasIndex world.new tag 0) }
 {
-    let mut world = empty_world(alloc)?;
-    let tag = make_one(alloc, &mut world, Kind::Directory)?;
-    Ok((world, tag))
+    let tag = make_one(alloc, world, Kind::Directory)?;
+    Ok(tag)
 }
 
 /// Puts a page with so many entries into the index, which has so many pages.
@@ -121,17 +121,25 @@ fn tell(world: &World, tag: Tag, count: u32) -> Result<(u32, u32, [u8; 5]), Fail
     Ok((pages, index.entries, first))
 }
 
+/// What is told of an index before its last page is written anew, and after.
+fn told_in(alloc: Global, world: &mut World) -> Result<[(u32, u32, [u8; 5]); 2], Fail>
+    requires { IsSet world.old (λ t. None) }
+{
+    let tag = start(alloc, world)?;
+    put_in(alloc, world, tag, 0, 0, 10)?;
+    put_in(alloc, world, tag, 1, 1, 20)?;
+    put_in(alloc, world, tag, 2, 0, 30)?;
+    put_in(alloc, world, tag, 3, 1, 40)?;
+    let before = tell(world, tag, 4)?;
+    write(alloc, world, tag, 4, 3, 5)?;
+    Ok([before, tell(world, tag, 4)?])
+}
+
 /// An index that gets its first page, one after it, one before both and one between, and of which
 /// the last page is then written anew: what is told of it before that and after.
 pub fn told(alloc: Global) -> Result<[(u32, u32, [u8; 5]); 2], Fail> {
-    let (mut world, tag) = start(alloc)?;
-    put_in(alloc, &mut world, tag, 0, 0, 10)?;
-    put_in(alloc, &mut world, tag, 1, 1, 20)?;
-    put_in(alloc, &mut world, tag, 2, 0, 30)?;
-    put_in(alloc, &mut world, tag, 3, 1, 40)?;
-    let before = tell(&world, tag, 4)?;
-    write(alloc, &mut world, tag, 4, 3, 5)?;
-    Ok([before, tell(&world, tag, 4)?])
+    let mut world = empty_world(alloc)?;
+    told_in(alloc, &mut world)
 }
 
 /// Takes the directory away, with its index, whose pages wait for group 9.
@@ -157,19 +165,27 @@ fn space_told(world: &World) -> (u32, u32) {
     (world.space.free_now(), world.space.waiting())
 }
 
+/// What is told of free space before the directory is taken away, and three times after that.
+fn told_away_in(alloc: Global, world: &mut World) -> Result<[(u32, u32); 4], Fail>
+    requires { IsSet world.old (λ t. None) }
+{
+    let tag = start(alloc, world)?;
+    put_in(alloc, world, tag, 0, 0, 10)?;
+    put_in(alloc, world, tag, 1, 1, 20)?;
+    put_in(alloc, world, tag, 2, 0, 30)?;
+    let before = space_told(world);
+    take_away(alloc, world, tag, 3)?;
+    let then = space_told(world);
+    world.space.log_passed(8);
+    let early = space_told(world);
+    world.space.log_passed(9);
+    Ok([before, then, early, space_told(world)])
+}
+
 /// A directory with an index of three pages that is taken away: what is told of free space before
 /// that, then, once the log has passed the group before that of the pages, and once it has passed
 /// that.
 pub fn told_away(alloc: Global) -> Result<[(u32, u32); 4], Fail> {
-    let (mut world, tag) = start(alloc)?;
-    put_in(alloc, &mut world, tag, 0, 0, 10)?;
-    put_in(alloc, &mut world, tag, 1, 1, 20)?;
-    put_in(alloc, &mut world, tag, 2, 0, 30)?;
-    let before = space_told(&world);
-    take_away(alloc, &mut world, tag, 3)?;
-    let then = space_told(&world);
-    world.space.log_passed(8);
-    let early = space_told(&world);
-    world.space.log_passed(9);
-    Ok([before, then, early, space_told(&world)])
+    let mut world = empty_world(alloc)?;
+    told_away_in(alloc, &mut world)
 }

@@ -5,14 +5,13 @@ use release_steps::{CellAt, CellKind, OutOfMemory, Record, UsedCell, read_used};
 use std::alloc::Global;
 use std::test::Fail;
 
-/// A record as text: u or g, the id, files and blocks.
-fn push_record(alloc: Global, text: &mut String, value: &Record) -> Result<(), OutOfMemory> {
-    let word = match *value {
-        Record::UserQuota { id, files, blocks } => { format!(in alloc; " u{id}:{files}:{blocks}") }
-        Record::GroupQuota { id, files, blocks } => { format!(in alloc; " g{id}:{files}:{blocks}") }
-        _ => String::from_str(alloc, " another"),
-    };
-    text.push_str(word?.as_str())
+/// Says a record: u or g, the id, files and blocks.
+fn say_record(value: &Record, out: &mut String) -> Result<(), OutOfMemory> {
+    match *value {
+        Record::UserQuota { id, files, blocks } => write!(out, " u{id}:{files}:{blocks}"),
+        Record::GroupQuota { id, files, blocks } => write!(out, " g{id}:{files}:{blocks}"),
+        _ => out.push_str(" another"),
+    }
 }
 
 /// Whether a head is that of a quota cell of fileset 1.
@@ -22,30 +21,43 @@ fn is_of_quotas(used: &UsedCell) -> bool {
     head.kind == CellKind::Quota && (number, head.slot, head.seq) == (1, 0, 0)
 }
 
-/// A cell as a line.
-fn push_cell(alloc: Global, text: &mut String, used: &UsedCell) -> Result<(), OutOfMemory> {
-    text.push_str(if is_of_quotas(used) {
-        "quota:"
+/// Says a cell, and where the next one is.
+fn say_cell(used: &UsedCell, out: &mut String) -> Result<Option<CellAt>, OutOfMemory> {
+    out.push_str(if is_of_quotas(used) {
+        "\n- quota:"
     } else {
-        "no quota:"
+        "\n- no quota:"
     })?;
     for value in used.records.as_slice() {
-        push_record(alloc, text, value)?;
+        say_record(value, out)?;
     }
-    text.push('\n')
+    Ok(used.head.next)
 }
 
-/// The cells of the chain that begins there.
-pub fn shown(alloc: Global, world: &World, first: &Option<CellAt>) -> Result<String, Fail> {
-    let mut text = String::new(alloc);
+/// Says the cell that stands there.
+fn say_cell_at(
+    alloc: Global,
+    world: &World,
+    at: CellAt,
+    out: &mut String,
+) -> Result<Option<CellAt>, Fail> {
+    let used = read_used(alloc, &world.pages, at)?.ok_or("a cell in use")?;
+    Ok(say_cell(&used, out)?)
+}
+
+/// Says the cells of the chain that begins there, a line a cell.
+pub fn say_cells(
+    alloc: Global,
+    world: &World,
+    first: &Option<CellAt>,
+    out: &mut String,
+) -> Result<(), Fail> {
     let mut next = *first;
     for _ in 0..20 {
         let Some(at) = next else {
-            return Ok(text);
+            return Ok(());
         };
-        let used = read_used(alloc, &world.pages, at)?.ok_or("a cell in use")?;
-        push_cell(alloc, &mut text, &used)?;
-        next = used.head.next;
+        next = say_cell_at(alloc, world, at, out)?;
     }
     Err(Fail::from("the end of the chain"))
 }

@@ -17,34 +17,34 @@ mod set_lines;
 mod sets;
 
 use std::alloc::Global;
+use std::io;
 use std::test::Fail;
 
-/// Answers the lines of a room, the first of which names it.
-fn answer_room(alloc: Global, lines: &[String], out: &mut String) -> Result<(), Fail> {
-    let Some(heading) = lines.first() else {
-        return Ok(());
-    };
-    match heading.as_str() {
-        "## files" => files::answer_all(alloc, lines, out),
-        "## pages of an index" => index_lines::answer_all(alloc, lines, out),
-        "## sets" => set_lines::answer_all(alloc, lines, out),
-        "## quotas" => quotas::answer_all(alloc, lines, out),
+/// Answers the lines of a room by its name.
+fn answer_room(alloc: Global, name: &str, lines: &str, out: &mut String) -> Result<(), Fail> {
+    match name {
+        "files" => files::answer_all(alloc, lines, out),
+        "pages of an index" => index_lines::answer_all(alloc, lines, out),
+        "sets" => set_lines::answer_all(alloc, lines, out),
+        "quotas" => quotas::answer_all(alloc, lines, out),
         _ => Err(Fail::new("a room that is not known")),
     }
 }
 
+/// Says the heading of a room, and answers its lines.
+fn say_room(alloc: Global, room: &str, out: &mut String) -> Result<(), Fail> {
+    let (heading, lines) = room.split_once('\n').unwrap_or((room, ""));
+    let name = heading.trim_start_matches("## ");
+    write!(out, "## {name}\n")?;
+    answer_room(alloc, name, lines, out)
+}
+
 fn main(rt: HostRuntime) -> Result<(), Fail> {
+    let text = io::read_to_string(rt.alloc(), rt.reader())?;
     let mut out = String::new(rt.alloc());
-    let mut room = Vec::new(rt.alloc());
-    for line in rt.lines(rt.alloc()) {
-        let line = line?;
-        if line.as_str().starts_with("##") {
-            answer_room(rt.alloc(), room.as_slice(), &mut out)?;
-            room = Vec::new(rt.alloc());
-        }
-        room.push(line)?;
+    for room in text.as_str().split("\n## ") {
+        say_room(rt.alloc(), room, &mut out)?;
     }
-    answer_room(rt.alloc(), room.as_slice(), &mut out)?;
-    print!(rt; "{out}")?;
+    rt.print(out.as_str())?;
     Ok(())
 }

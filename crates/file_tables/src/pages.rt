@@ -1,7 +1,7 @@
 //! The pages of a directory: added, written anew, told and counted.
-ghost use Rattle.std.specs.Prelude.{◌+◌, ◌<◌, IfOk, OnOk};
+ghost use Rattle.std.specs.Prelude.{◌+◌, ◌<◌, IfOk, None, OnOk};
 ghost use Rattle.release_steps.specs.domain_base.Limits.{file_pages};
-ghost use Rattle.file_tables.specs.Worlds.{HasPages};
+ghost use Rattle.file_tables.specs.Worlds.{HasPages, IsSet};
 
 use crate::sets::{empty_world, make_one};
 use file_world::world::{World, volume};
@@ -17,13 +17,13 @@ fn page_with(alloc: Global, byte: u8) -> Result<Page, Fail> {
     Ok(page)
 }
 
-/// A world with one directory, which has no page.
-fn start(alloc: Global) -> Result<(World, Tag), Fail>
-    ensures { IfOk result (λ made. HasPages made.0 made.1 0) }
+/// Makes the one directory, which has no page.
+fn start(alloc: Global, world: &mut World) -> Result<Tag, Fail>
+    requires { IsSet world.old (λ t. None) }
+    ensures { IfOk result (λ tag. HasPages world.new tag 0) }
 {
-    let mut world = empty_world(alloc)?;
-    let tag = make_one(alloc, &mut world, Kind::Directory)?;
-    Ok((world, tag))
+    let tag = make_one(alloc, world, Kind::Directory)?;
+    Ok(tag)
 }
 
 /// Adds a page to the directory, which has so many.
@@ -108,14 +108,22 @@ fn tell(world: &World, tag: Tag, count: u32) -> (u32, [u8; 4])
     (pages, first)
 }
 
+/// What is told of the directory before its second page is written anew, and after.
+fn told_in(alloc: Global, world: &mut World) -> Result<[(u32, [u8; 4]); 2], Fail>
+    requires { IsSet world.old (λ t. None) }
+{
+    let tag = start(alloc, world)?;
+    add(alloc, world, tag, 0, 10)?;
+    add(alloc, world, tag, 1, 20)?;
+    add(alloc, world, tag, 2, 30)?;
+    let before = tell(world, tag, 3);
+    write(alloc, world, tag, 3, 1, 25)?;
+    Ok([before, tell(world, tag, 3)])
+}
+
 /// A directory that gets three pages, of which the second is then written anew: what is told of it
 /// before that and after.
 pub fn told(alloc: Global) -> Result<[(u32, [u8; 4]); 2], Fail> {
-    let (mut world, tag) = start(alloc)?;
-    add(alloc, &mut world, tag, 0, 10)?;
-    add(alloc, &mut world, tag, 1, 20)?;
-    add(alloc, &mut world, tag, 2, 30)?;
-    let before = tell(&world, tag, 3);
-    write(alloc, &mut world, tag, 3, 1, 25)?;
-    Ok([before, tell(&world, tag, 3)])
+    let mut world = empty_world(alloc)?;
+    told_in(alloc, &mut world)
 }

@@ -3,7 +3,8 @@ ghost use Rattle.std.specs.Prelude.{IfOk};
 ghost use Rattle.file_tables.specs.Chains.{HasChain};
 
 use crate::chain::{new_scene, set_line, use_cells};
-use crate::looks::shown;
+use crate::looks::say_cells;
+use crate::set_lines::{is_idle, say_line};
 use file_world::reading::{numbers_of, say_numbers, small, word_of};
 use file_world::world::World;
 use release_steps::{CellAt, StoreFault};
@@ -18,14 +19,13 @@ pub struct Scene {
 }
 
 /// Answers lines of limits on a volume of 40 pages, until they begin another one.
-pub fn answer_all(alloc: Global, lines: &[String], out: &mut String) -> Result<(), Fail> {
+pub fn answer_all(alloc: Global, lines: &str, out: &mut String) -> Result<(), Fail> {
     let mut scene = Scene {
         world: new_scene(alloc, 40)?,
         first: None,
     };
-    for line in lines {
-        answer(alloc, &mut scene, line.as_str(), out)?;
-        out.push('\n')?;
+    for line in lines.lines() {
+        answer(alloc, &mut scene, line, out)?;
     }
     Ok(())
 }
@@ -35,12 +35,13 @@ fn answer(alloc: Global, scene: &mut Scene, line: &str, out: &mut String) -> Res
     requires { HasChain scene.old.world scene.old.first }
     ensures { IfOk result (λ _. HasChain scene.new.world scene.new.first) }
 {
-    out.push_str(line)?;
-    let word = word_of(line);
-    if word == "" || word.starts_with('#') {
-        return Ok(());
+    if is_idle(line) {
+        return say_line(out, line);
     }
-    answer_of_words(alloc, scene, line, out)
+    out.push_str(line)?;
+    answer_of_words(alloc, scene, line, out)?;
+    out.push('\n')?;
+    Ok(())
 }
 
 fn answer_of_words(
@@ -55,10 +56,16 @@ fn answer_of_words(
     match word_of(line) {
         "volume" => begin(alloc, scene, line),
         "user" | "group" => set(alloc, scene, line, out),
-        "cells" => say_cells(alloc, scene, out),
+        "cells" => say_cells(alloc, &scene.world, &scene.first, out),
         "misses" => say_numbers(out, &[scene.world.space.misses()]),
         _ => Err(Fail::new("a line that is not known")),
     }
+}
+
+/// The first two numbers of a line.
+fn two_numbers(alloc: Global, line: &str) -> Result<(u32, u32), Fail> {
+    let numbers = numbers_of(alloc, line)?;
+    Ok((small(numbers.as_slice(), 0), small(numbers.as_slice(), 1)))
 }
 
 /// Begins anew with a volume of so many pages without a chain, on which so many cells are used for
@@ -66,13 +73,12 @@ fn answer_of_words(
 fn begin(alloc: Global, scene: &mut Scene, line: &str) -> Result<(), Fail>
     ensures { IfOk result (λ _. HasChain scene.new.world scene.new.first) }
 {
-    let numbers = numbers_of(alloc, line)?;
-    let count = small(numbers.as_slice(), 0);
+    let (count, used) = two_numbers(alloc, line)?;
     if count < 3 || 1_000 < count {
         return Err(Fail::new("a volume of 3 to 1,000 pages"));
     }
     let mut world = new_scene(alloc, count)?;
-    use_cells(alloc, &mut world, small(numbers.as_slice(), 1))?;
+    use_cells(alloc, &mut world, used)?;
     scene.world = world;
     scene.first = None;
     Ok(())
@@ -91,14 +97,4 @@ fn set(alloc: Global, scene: &mut Scene, line: &str, out: &mut String) -> Result
         Err(StoreFault::NoPage) => Ok(out.push_str(": no page")?),
         Err(StoreFault::OutOfMemory) => Ok(out.push_str(": no memory")?),
     }
-}
-
-/// Says the cells of the chain, a line a cell.
-fn say_cells(alloc: Global, scene: &Scene, out: &mut String) -> Result<(), Fail> {
-    let text = shown(alloc, &scene.world, &scene.first)?;
-    for line in text.as_str().lines() {
-        out.push_str("\n- ")?;
-        out.push_str(line)?;
-    }
-    Ok(())
 }

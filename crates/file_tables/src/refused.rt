@@ -1,5 +1,5 @@
 //! A volume of which no page is free: a directory gets no page, and no index.
-ghost use Rattle.std.specs.Prelude.{OnErr};
+ghost use Rattle.std.specs.Prelude.{None, OnErr};
 ghost use Rattle.release_steps.specs.domain_base.declared.place.Kind.TheVariants.{Directory};
 ghost use Rattle.file_tables.specs.Worlds.{IsSet, only_new};
 
@@ -60,21 +60,34 @@ fn say_fault(out: &mut String, fault: &StoreFault) -> Result<(), Fail> {
     Ok(())
 }
 
-/// Tries both on a volume of which each page is used, and says the two faults, the length of the
-/// directory then, whether it has an index, and how often no page was found.
-pub fn say_refused(alloc: Global, out: &mut String) -> Result<(), Fail> {
-    let mut world = world_of(alloc, 3)?;
-    let tag = make_one(alloc, &mut world, Kind::Directory)?;
-    let Err(page) = try_add(alloc, &mut world, tag) else {
-        return Err(Fail::from("a page was found"));
-    };
-    say_fault(out, &page)?;
-    let Err(index) = try_index(alloc, &mut world, tag) else {
-        return Err(Fail::from("a page of an index was found"));
-    };
-    say_fault(out, &index)?;
-    let (pages, size) = length_told(&world, tag)?;
+/// Says the length of the directory, whether it has an index, and how often no page was found.
+fn say_left(world: &World, tag: Tag, out: &mut String) -> Result<(), Fail>
+    requires { IsSet world.now (only_new Directory tag) }
+{
+    let (pages, size) = length_told(world, tag)?;
     say_numbers(out, &[u64::from(pages), size])?;
     say_whether(out, &[world.files.index(&world.pages, tag).is_some()])?;
     say_numbers(out, &[world.space.misses()])
+}
+
+/// Tries both, and says the two faults, and what is told of the directory then.
+fn say_refused_in(alloc: Global, world: &mut World, out: &mut String) -> Result<(), Fail>
+    requires { IsSet world.old (λ t. None) }
+{
+    let tag = make_one(alloc, world, Kind::Directory)?;
+    let Err(page) = try_add(alloc, world, tag) else {
+        return Err(Fail::from("a page was found"));
+    };
+    say_fault(out, &page)?;
+    let Err(index) = try_index(alloc, world, tag) else {
+        return Err(Fail::from("a page of an index was found"));
+    };
+    say_fault(out, &index)?;
+    say_left(world, tag, out)
+}
+
+/// Says what is refused on a volume of which each page is used.
+pub fn say_refused(alloc: Global, out: &mut String) -> Result<(), Fail> {
+    let mut world = world_of(alloc, 3)?;
+    say_refused_in(alloc, &mut world, out)
 }

@@ -9,21 +9,33 @@ use release_steps::Kind;
 use std::alloc::Global;
 use std::test::Fail;
 
+/// Whether a line is said as it stands: it is empty, or begins with # and is a heading.
+pub fn is_idle(line: &str) -> bool {
+    line.is_empty() || line.starts_with('#')
+}
+
+/// Says a line.
+pub fn say_line(out: &mut String, line: &str) -> Result<(), Fail> {
+    out.push_str(line)?;
+    out.push('\n')?;
+    Ok(())
+}
+
 /// Answers lines, each of which names what is done.
-pub fn answer_all(alloc: Global, lines: &[String], out: &mut String) -> Result<(), Fail> {
-    for line in lines {
-        answer(alloc, line.as_str(), out)?;
+pub fn answer_all(alloc: Global, lines: &str, out: &mut String) -> Result<(), Fail> {
+    for line in lines.lines() {
+        answer(alloc, line, out)?;
     }
     Ok(())
 }
 
-/// Answers a line, which is said as it stands: one that begins with # is a heading.
+/// Answers a line.
 fn answer(alloc: Global, line: &str, out: &mut String) -> Result<(), Fail> {
-    out.push_str(line)?;
-    let word = word_of(line);
-    if word != "" && !word.starts_with('#') {
-        answer_of_words(alloc, word, out)?;
+    if is_idle(line) {
+        return say_line(out, line);
     }
+    out.push_str(line)?;
+    answer_of_words(alloc, word_of(line), out)?;
     out.push('\n')?;
     Ok(())
 }

@@ -119,19 +119,25 @@ pub fn length_told(world: &World, tag: Tag) -> Result<(u32, u64), Fail>
     Ok((count, what.size))
 }
 
-/// A directory without a page, and then of one: how long it is, and of the page its first byte, and
-/// whether it has another.
-pub fn told_pages(alloc: Global) -> Result<[(u32, u64); 2], Fail> {
-    let mut world = empty_world(alloc)?;
-    let tag = make_one(alloc, &mut world, Kind::Directory)?;
-    let empty = length_told(&world, tag)?;
+/// How long a directory is before it has a page and after, where its page begins with 7.
+fn told_pages_in(alloc: Global, world: &mut World) -> Result<[(u32, u64); 2], Fail>
+    requires { IsSet world.old (λ t. None) }
+{
+    let tag = make_one(alloc, world, Kind::Directory)?;
+    let empty = length_told(world, tag)?;
     let bytes = first_page(alloc)?;
     let again = bytes.copy(alloc)?;
-    add_first(alloc, &mut world, tag, bytes)?;
-    if pages_told(&world, tag, &again) != (Some(7), false) {
+    add_first(alloc, world, tag, bytes)?;
+    if pages_told(world, tag, &again) != (Some(7), false) {
         return Err(Fail::from("one page, which begins with 7"));
     }
-    Ok([empty, length_told(&world, tag)?])
+    Ok([empty, length_told(world, tag)?])
+}
+
+/// A directory without a page, and then of one: how long it is.
+pub fn told_pages(alloc: Global) -> Result<[(u32, u64); 2], Fail> {
+    let mut world = empty_world(alloc)?;
+    told_pages_in(alloc, &mut world)
 }
 
 /// Sets three links of the only file.
@@ -180,12 +186,19 @@ fn tell(world: &World, tag: Tag) -> (Option<Kind>, u32)
 }
 
 /// What is told of a file once it is made, once it has three links, and once it is taken away.
+fn told_in(alloc: Global, world: &mut World) -> Result<[(Option<Kind>, u32); 3], Fail>
+    requires { IsSet world.old (λ t. None) }
+{
+    let tag = make_one(alloc, world, Kind::File)?;
+    let made = tell(world, tag);
+    link_thrice(alloc, world, tag)?;
+    let linked = tell(world, tag);
+    take_away(alloc, world, tag)?;
+    Ok([made, linked, tell(world, tag)])
+}
+
+/// What is told of a file that is made, linked and taken away.
 pub fn told(alloc: Global) -> Result<[(Option<Kind>, u32); 3], Fail> {
     let mut world = empty_world(alloc)?;
-    let tag = make_one(alloc, &mut world, Kind::File)?;
-    let made = tell(&world, tag);
-    link_thrice(alloc, &mut world, tag)?;
-    let linked = tell(&world, tag);
-    take_away(alloc, &mut world, tag)?;
-    Ok([made, linked, tell(&world, tag)])
+    told_in(alloc, &mut world)
 }
