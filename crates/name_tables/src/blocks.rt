@@ -10,42 +10,47 @@ use crate::stored::{last_parent, push_stored};
 use std::alloc::Global;
 use std::test::Fail;
 
-/// What a line answers by itself.
-fn answer(alloc: Global, kind: &str, line: &str) -> Result<String, Fail> {
+/// Says what a line answers by itself.
+fn answer(alloc: Global, kind: &str, line: &str, out: &mut String) -> Result<(), Fail> {
     match kind {
-        "lost" => refusal_along(alloc, line),
-        "looks" => looked_along(alloc, line.parse()?),
-        "filesets" => fileset(alloc, line),
-        "parents" => last_parent(alloc, line),
-        "faults" => fault(alloc, line),
+        "lost" => refusal_along(alloc, line, out),
+        "looks" => looked_along(alloc, line, out),
+        "filesets" => fileset(alloc, line, out),
+        "parents" => last_parent(alloc, line, out),
+        "faults" => fault(line, out),
         _ => Err(Fail::from("no such block")),
     }
 }
 
+/// Adds a line that stands alone, with what it answers.
+fn push_single(alloc: Global, answers: &mut String, kind: &str, line: &str) -> Result<(), Fail> {
+    if is_idle(line) {
+        return push_answer(answers, line, "");
+    }
+    let mut out = String::new(alloc);
+    answer(alloc, kind, line, &mut out)?;
+    push_answer(answers, line, out.as_str())
+}
+
 /// Adds lines that stand alone, each with what it answers.
-fn push_single(alloc: Global, answers: &mut String, kind: &str, lines: &str) -> Result<(), Fail> {
+fn push_singles(alloc: Global, answers: &mut String, kind: &str, lines: &str) -> Result<(), Fail> {
     for line in lines.lines() {
-        if is_idle(line) {
-            push_answer(answers, line, "")?;
-        } else {
-            let answer = answer(alloc, kind, line)?;
-            push_answer(answers, line, answer.as_str())?;
-        }
+        push_single(alloc, answers, kind, line)?;
     }
     Ok(())
 }
 
-/// Adds a block with what it answers.
+/// Adds a block with what it answers. Its first line begins with its kind and a colon.
 pub fn push_block(alloc: Global, answers: &mut String, block: &str) -> Result<(), Fail> {
-    let (head, lines) = block.split_once('\n').ok_or("a first line")?;
-    let (kind, _) = head.split_once(": ").ok_or("a kind of block")?;
+    let (head, lines) = block.split_once('\n').unwrap_or((block, ""));
+    let (kind, _) = head.split_once(": ").unwrap_or((head, ""));
     answers.push_str(head)?;
     answers.push('\n')?;
     match kind {
         "names" => push_names(alloc, answers, lines),
         "misses" => push_misses(alloc, answers, lines),
         "stored" => push_stored(alloc, answers, lines),
-        _ => push_single(alloc, answers, kind, lines),
+        _ => push_singles(alloc, answers, kind, lines),
     }
 }
 

@@ -3,37 +3,33 @@ ghost use Rattle.std.specs.Prelude.{IfOk, OnOk};
 ghost use Rattle.name_tables.specs.Once.{AreOnce};
 
 use crate::parts::{directory, file, one, put, row, two};
+use crate::reading::path;
 use fileset_lending::{
-    DirectoryRows, FilesetName, FilesetParts, FilesetSlot, Kind, Name, OutOfMemory, Path,
-    TaggedNode, make_fileset,
+    DirectoryRows, FilesetName, FilesetParts, FilesetSlot, Kind, OutOfMemory, TaggedNode,
+    make_fileset,
 };
 use std::alloc::Global;
 use std::test::Fail;
 
-/// The path of up to two names.
-fn path(alloc: Global, names: &[&[u8]]) -> Result<Path, OutOfMemory> {
-    let mut all = Vec::new(alloc);
-    for name in names {
-        all.push(Name::from_vec(Vec::from_slice(alloc, *name)?))?;
-    }
-    Ok(Path::from_vec(all))
-}
-
-/// The number of what stands at a path, or `none`.
-fn number_at(alloc: Global, slot: &FilesetSlot, names: &[&[u8]]) -> Result<String, Fail> {
-    match slot.tree.number_at(&path(alloc, names)?) {
-        Some(number) => Ok(format!(in alloc; "{number}")?),
-        None => Ok(String::from_str(alloc, "none")?),
+/// Says the number of what stands at a path, or `none`.
+fn push_number(
+    alloc: Global,
+    slot: &FilesetSlot,
+    text: &str,
+    out: &mut String,
+) -> Result<(), OutOfMemory> {
+    match slot.tree.number_at(&path(alloc, text)?) {
+        Some(number) => write!(out, "{text} {number}, "),
+        None => write!(out, "{text} none, "),
     }
 }
 
-/// What stands at the root, `a`, `d` and `d/b`.
-fn told(alloc: Global, slot: &FilesetSlot) -> Result<String, Fail> {
-    let root = number_at(alloc, slot, &[])?;
-    let a = number_at(alloc, slot, &[b"a"])?;
-    let d = number_at(alloc, slot, &[b"d"])?;
-    let b = number_at(alloc, slot, &[b"d", b"b"])?;
-    Ok(format!(in alloc; "/ {root}, /a {a}, /d {d}, /d/b {b}")?)
+/// Says what stands at the root, `a`, `d` and `d/b`.
+fn push_told(alloc: Global, slot: &FilesetSlot, out: &mut String) -> Result<(), OutOfMemory> {
+    push_number(alloc, slot, "/", out)?;
+    push_number(alloc, slot, "/a", out)?;
+    push_number(alloc, slot, "/d", out)?;
+    push_number(alloc, slot, "/d/b", out)
 }
 
 /// The root has a file `a`, which is slot 2, and a directory `d`, which is slot 3.
@@ -73,14 +69,41 @@ fn root_and_file(alloc: Global, links: u32) -> Result<Vec<TaggedNode>, OutOfMemo
     Ok(nodes)
 }
 
-/// An original of whole rows: what stands at its paths, and how many the file has.
-fn original(alloc: Global) -> Result<String, Fail> {
-    let directories = whole_rows(alloc)?;
+/// The root, a file of two links, and a directory.
+fn whole_nodes(alloc: Global) -> Result<Vec<TaggedNode>, OutOfMemory> {
     let mut nodes = root_and_file(alloc, 2)?;
     nodes.push(directory(3))?;
-    let slot = make_fileset(alloc, &None, &FilesetParts { directories, nodes })?;
-    let told = told(alloc, &slot)?;
-    Ok(format!(in alloc; "{told}, {} paths to the file", slot.tree.paths_to(131_073))?)
+    Ok(nodes)
+}
+
+/// A file of one link alone.
+fn one_file(alloc: Global) -> Result<Vec<TaggedNode>, OutOfMemory> {
+    let mut nodes = Vec::new(alloc);
+    nodes.push(file(alloc, 2, 1))?;
+    Ok(nodes)
+}
+
+/// An original of whole rows.
+fn original(alloc: Global) -> Result<FilesetSlot, OutOfMemory> {
+    let directories = whole_rows(alloc)?;
+    let nodes = whole_nodes(alloc)?;
+    make_fileset(alloc, &None, &FilesetParts { directories, nodes })
+}
+
+/// A clone of an original that has lost the directory `d`.
+fn clone_of(alloc: Global, original: &Option<FilesetName>) -> Result<FilesetSlot, OutOfMemory> {
+    let directories = root_rows(alloc)?;
+    let nodes = root_and_file(alloc, 3)?;
+    make_fileset(alloc, original, &FilesetParts { directories, nodes })
+}
+
+/// A clone of an original that has lost its root.
+fn rootless(alloc: Global, original: &Option<FilesetName>) -> Result<FilesetSlot, OutOfMemory> {
+    let parts = FilesetParts {
+        directories: Vec::new(alloc),
+        nodes: one_file(alloc)?,
+    };
+    make_fileset(alloc, original, &parts)
 }
 
 /// Whether a clone is out of sync for a number.
@@ -92,38 +115,47 @@ fn synced(slot: &FilesetSlot, number: u64) -> &'static str {
     }
 }
 
-/// A clone that has lost the directory `d`.
-fn clone_of(alloc: Global) -> Result<String, Fail> {
-    let original = Some(FilesetName::from_vec(Vec::from_slice(alloc, b"o")?));
-    let directories = root_rows(alloc)?;
-    let nodes = root_and_file(alloc, 3)?;
-    let slot = make_fileset(alloc, &original, &FilesetParts { directories, nodes })?;
-    let told = told(alloc, &slot)?;
-    let paths = slot.tree.paths_to(131_073);
-    let (file, lost) = (synced(&slot, 131_073), synced(&slot, 196_609));
-    Ok(format!(in alloc; "{told}, {paths} paths to the file, which is {file}, /d is {lost}")?)
+/// Says what stands at the paths of an original, and how many the file has.
+fn push_original(alloc: Global, slot: &FilesetSlot, out: &mut String) -> Result<(), OutOfMemory> {
+    push_told(alloc, slot, out)?;
+    write!(out, "{} paths to the file", slot.tree.paths_to(131_073))
 }
 
-/// A clone that has lost its root.
-fn rootless(alloc: Global) -> Result<String, Fail> {
-    let original = Some(FilesetName::from_vec(Vec::from_slice(alloc, b"o")?));
-    let mut nodes = Vec::new(alloc);
-    nodes.push(file(alloc, 2, 1))?;
-    let parts = FilesetParts {
-        directories: Vec::new(alloc),
-        nodes,
-    };
-    let slot = make_fileset(alloc, &original, &parts)?;
-    let told = told(alloc, &slot)?;
-    Ok(format!(in alloc; "{told}, the root is {}", synced(&slot, 65_537))?)
+/// Says what stands at the paths of a clone, how many the file has, and what is out of sync.
+fn push_clone(alloc: Global, slot: &FilesetSlot, out: &mut String) -> Result<(), OutOfMemory> {
+    push_told(alloc, slot, out)?;
+    write!(out, "{} paths to the file, ", slot.tree.paths_to(131_073))?;
+    let (file, lost) = (synced(slot, 131_073), synced(slot, 196_609));
+    write!(out, "which is {file}, /d is {lost}")
 }
 
-/// What a fileset shows that is made of rows and nodes.
-pub fn fileset(alloc: Global, word: &str) -> Result<String, Fail> {
+/// Says what stands at the paths of a clone, and whether its root is out of sync.
+fn push_rootless(alloc: Global, slot: &FilesetSlot, out: &mut String) -> Result<(), OutOfMemory> {
+    push_told(alloc, slot, out)?;
+    write!(out, "the root is {}", synced(slot, 65_537))
+}
+
+/// The name of the original.
+fn name_of_original(alloc: Global) -> Result<Option<FilesetName>, OutOfMemory> {
+    Ok(Some(FilesetName::from_vec(Vec::from_slice(alloc, b"o")?)))
+}
+
+fn say_clone(alloc: Global, out: &mut String) -> Result<(), OutOfMemory> {
+    let original = name_of_original(alloc)?;
+    push_clone(alloc, &clone_of(alloc, &original)?, out)
+}
+
+fn say_rootless(alloc: Global, out: &mut String) -> Result<(), OutOfMemory> {
+    let original = name_of_original(alloc)?;
+    push_rootless(alloc, &rootless(alloc, &original)?, out)
+}
+
+/// Says what a fileset shows that is made of rows and nodes.
+pub fn fileset(alloc: Global, word: &str, out: &mut String) -> Result<(), Fail> {
     match word {
-        "original" => original(alloc),
-        "clone" => clone_of(alloc),
-        "clone without its root" => rootless(alloc),
+        "original" => Ok(push_original(alloc, &original(alloc)?, out)?),
+        "clone" => Ok(say_clone(alloc, out)?),
+        "clone without its root" => Ok(say_rootless(alloc, out)?),
         _ => Err(Fail::from("no such fileset")),
     }
 }

@@ -32,16 +32,60 @@ fn refusal<S: BitfileSet>(set: &S, path: &Path) -> Result<Option<Refusal>, Fail>
     }
 }
 
-/// What a walk along a path refuses where the second of two directories, one in the other, is lost.
-pub fn refusal_along(alloc: Global, text: &str) -> Result<String, Fail> {
-    let mut set = empty_set(alloc, Vec::new(alloc))?;
-    let first = path(alloc, "/d")?;
-    create(&mut set, alloc, &first, Kind::Directory, 0, 0)?;
-    let second = path(alloc, "/d/e")?;
-    create(&mut set, alloc, &second, Kind::Directory, 0, 0)?;
-    lose(&mut set, alloc, &second)?;
-    match refusal(&set, &path(alloc, text)?)? {
-        Some(refusal) => Ok(format!(in alloc; "{refusal:?}")?),
-        None => Ok(String::from_str(alloc, "walked")?),
+/// Makes a directory at a path.
+fn make<S: BitfileSet>(set: &mut S, alloc: Global, text: &str) -> Result<(), Fail>
+    requires { HasOriginal (S.files set.old) }
+    ensures { OnOk result (HasOriginal (S.files set.new)) }
+{
+    let path = path(alloc, text)?;
+    create(set, alloc, &path, Kind::Directory, 0, 0)?;
+    Ok(())
+}
+
+/// Takes what stands at a path out of a set, and leaves its row.
+fn lose_at<S: BitfileSet>(set: &mut S, alloc: Global, text: &str) -> Result<(), Fail>
+    requires { HasOriginal (S.files set.old) }
+    ensures { OnOk result (HasNames (S.files set.new)) }
+{
+    let path = path(alloc, text)?;
+    lose(set, alloc, &path)
+}
+
+/// Says what a walk along a path refuses.
+fn push_refusal<S: BitfileSet>(
+    set: &S,
+    alloc: Global,
+    text: &str,
+    out: &mut String,
+) -> Result<(), Fail>
+    requires { HasNames (S.files set.now) }
+{
+    let path = path(alloc, text)?;
+    match refusal(set, &path)? {
+        Some(refusal) => Ok(write!(out, "{refusal:?}")?),
+        None => Ok(out.push_str("walked")?),
     }
+}
+
+/// Says what a walk along a path refuses in a set where the second of two directories, one in the
+/// other, was lost.
+fn push_refused<S: BitfileSet>(
+    set: &mut S,
+    alloc: Global,
+    text: &str,
+    out: &mut String,
+) -> Result<(), Fail>
+    requires { HasOriginal (S.files set.old) }
+{
+    make(set, alloc, "/d")?;
+    make(set, alloc, "/d/e")?;
+    lose_at(set, alloc, "/d/e")?;
+    push_refusal(set, alloc, text, out)
+}
+
+/// Says what a walk along a path refuses where the second of two directories, one in the other, is
+/// lost.
+pub fn refusal_along(alloc: Global, text: &str, out: &mut String) -> Result<(), Fail> {
+    let mut set = empty_set(alloc, Vec::new(alloc))?;
+    push_refused(&mut set, alloc, text, out)
 }

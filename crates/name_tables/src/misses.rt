@@ -3,49 +3,74 @@
 ghost use Rattle.fileset_lending.specs.name_space.Changes.{HasOriginal};
 
 use crate::blocks::{is_idle, push_answer};
-use crate::reading::{command, said};
+use crate::reading::{command, number_of, push_reply};
 use crate::runs::said_all;
 use crate::steps::{answer, empty_set};
-use fileset_lending::{BitfileSet, MemoryBitfiles, Reply, StoreFault};
+use fileset_lending::{BitfileSet, Command, MemoryBitfiles, StoreFault};
 use std::alloc::Global;
 use std::test::Fail;
 
-/// What a set answers to the command of a line.
-fn reply_to<S: BitfileSet>(
+/// Says what a set answers to a command.
+fn push_answered<S: BitfileSet>(
     set: &mut S,
     alloc: Global,
-    line: &str,
-) -> Result<Result<Reply, StoreFault>, Fail>
+    command: &Command,
+    out: &mut String,
+) -> Result<(), Fail>
     requires { HasOriginal (S.files set.old) }
 {
-    let command = command(alloc, line)?;
-    Ok(answer(set, alloc, &command))
-}
-
-/// What is printed of an answer, or that a call found no page.
-fn outcome(alloc: Global, answer: Result<Reply, StoreFault>) -> Result<String, Fail> {
-    match answer {
-        Ok(reply) => said(alloc, reply),
-        Err(StoreFault::NoPage) => Ok(String::from_str(alloc, "no page")?),
+    match answer(set, alloc, command) {
+        Ok(reply) => push_reply(&reply, out),
+        Err(StoreFault::NoPage) => Ok(out.push_str("no page")?),
         Err(StoreFault::OutOfMemory) => Err(Fail::from("out of memory")),
     }
 }
 
-/// What a command answers after these lines, and how often no page was found.
-fn told(set: &mut MemoryBitfiles, alloc: Global, before: &str, line: &str) -> Result<String, Fail>
-    requires { HasOriginal (⟦<MemoryBitfiles as BitfileSet>⟧.files set.old) }
+/// Says what a set answers to the command of a line.
+fn push_line_answered<S: BitfileSet>(
+    set: &mut S,
+    alloc: Global,
+    line: &str,
+    out: &mut String,
+) -> Result<(), Fail>
+    requires { HasOriginal (S.files set.old) }
 {
-    said_all(set, alloc, before)?;
-    let answer = reply_to(set, alloc, line)?;
-    let answer = outcome(alloc, answer)?;
-    Ok(format!(in alloc; "{answer}, {} misses", set.misses())?)
+    let command = command(alloc, line)?;
+    push_answered(set, alloc, &command, out)
 }
 
-/// What a command answers where one changing call finds no page, and how often none was found.
-fn missed(alloc: Global, before: &str, line: &str) -> Result<String, Fail> {
+/// Says what a command answers after these lines, and how often no page was found.
+fn push_told(
+    set: &mut MemoryBitfiles,
+    alloc: Global,
+    before: &str,
+    line: &str,
+    out: &mut String,
+) -> Result<(), Fail>
+    requires { HasOriginal (⟦<MemoryBitfiles as BitfileSet>⟧.files set.old) }
+{
+    said_all(set, alloc, before, &mut String::new(alloc))?;
+    push_line_answered(set, alloc, line, out)?;
+    Ok(write!(out, ", {} misses", set.misses())?)
+}
+
+/// Says what a command answers where one changing call finds no page, and how often none was found.
+fn push_missed(alloc: Global, before: &str, line: &str, out: &mut String) -> Result<(), Fail> {
+    let line = line.strip_prefix("at ").unwrap_or(line);
     let (call, line) = line.split_once(' ').ok_or("a number")?;
-    let mut set = empty_set(alloc, vec![in alloc; call.parse()?]?)?;
-    told(&mut set, alloc, before, line)
+    let call = u64::from(number_of(call).ok_or("a number")?);
+    let mut set = empty_set(alloc, vec![in alloc; call]?)?;
+    push_told(&mut set, alloc, before, line, out)
+}
+
+/// Adds a line with what its command answers.
+fn push_line(alloc: Global, answers: &mut String, before: &str, line: &str) -> Result<(), Fail> {
+    if is_idle(line) {
+        return push_answer(answers, line, "");
+    }
+    let mut out = String::new(alloc);
+    push_missed(alloc, before, line, &mut out)?;
+    push_answer(answers, line, out.as_str())
 }
 
 /// Adds the lines of a block, with what the commands answer.
@@ -54,13 +79,7 @@ pub fn push_misses(alloc: Global, answers: &mut String, lines: &str) -> Result<(
     answers.push_str(before)?;
     answers.push_str("\nat ")?;
     for line in rest.lines() {
-        let line_told = line.strip_prefix("at ").unwrap_or(line);
-        if is_idle(line) {
-            push_answer(answers, line, "")?;
-        } else {
-            let answer = missed(alloc, before, line_told)?;
-            push_answer(answers, line, answer.as_str())?;
-        }
+        push_line(alloc, answers, before, line)?;
     }
     Ok(())
 }

@@ -4,6 +4,7 @@ use fileset_lending::{
     Command, FilesetName, Name, NameList, OutOfMemory, Path, Place, Refusal, Reply,
 };
 use std::alloc::Global;
+use std::str::from_utf8;
 use std::test::Fail;
 
 /// The name of the one fileset.
@@ -11,38 +12,55 @@ pub fn home(alloc: Global) -> Result<FilesetName, OutOfMemory> {
     Ok(FilesetName::from_vec(Vec::from_slice(alloc, b"home")?))
 }
 
-/// The path whose names stand after a `/` each; `/` alone is the root's.
-pub fn path(alloc: Global, text: &str) -> Result<Path, OutOfMemory> {
-    let mut names = Vec::new(alloc);
+/// Adds the names that stand after a `/` each.
+fn push_names(alloc: Global, text: &str, names: &mut Vec<Name>) -> Result<(), OutOfMemory> {
     for name in text.split('/') {
         if !name.is_empty() {
             names.push(Name::from_vec(Vec::from_slice(alloc, name.as_bytes())?))?;
         }
     }
+    Ok(())
+}
+
+/// The path whose names stand after a `/` each; `/` alone is the root's.
+pub fn path(alloc: Global, text: &str) -> Result<Path, OutOfMemory> {
+    let mut names = Vec::new(alloc);
+    push_names(alloc, text, &mut names)?;
     Ok(Path::from_vec(names))
+}
+
+/// The number that digits say.
+pub fn number_of(text: &str) -> Option<u32> {
+    let mut number: u32 = 0;
+    for byte in text.as_bytes() {
+        if *byte < b'0' || b'9' < *byte {
+            return None;
+        }
+        let digit = u32::from(*byte - b'0');
+        number = number.saturating_mul(10).saturating_add(digit);
+    }
+    Some(number)
 }
 
 /// Adds a part that is repeated, and what follows it.
 fn push_repeated(text: &mut String, part: &str) -> Result<(), Fail> {
     let (repeated, rest) = part.split_once('}').ok_or("a closing brace")?;
     let (times, once) = repeated.split_once(' ').ok_or("how often")?;
-    let times: u32 = times.parse()?;
-    for _ in 0..times {
+    for _ in 0..number_of(times).ok_or("a number")? {
         text.push_str(once)?;
     }
     text.push_str(rest)?;
     Ok(())
 }
 
-/// A line whose repeated parts are written out.
-fn spelled(alloc: Global, line: &str) -> Result<String, Fail> {
-    let mut text = String::new(alloc);
+/// Adds a line, its repeated parts written out.
+fn push_spelled(text: &mut String, line: &str) -> Result<(), Fail> {
     let mut parts = line.split('{');
     text.push_str(parts.next().unwrap_or(""))?;
     for part in parts {
-        push_repeated(&mut text, part)?;
+        push_repeated(text, part)?;
     }
-    Ok(text)
+    Ok(())
 }
 
 /// The command of a verb. What is made is of user 1 and group 2.
@@ -61,17 +79,27 @@ fn command_of(verb: &str, place: Place, to: Path) -> Result<Command, Fail> {
     }
 }
 
+/// The place of a path in the one fileset.
+fn place_of(alloc: Global, text: &str) -> Result<Place, OutOfMemory> {
+    let path = path(alloc, text)?;
+    let fileset = home(alloc)?;
+    Ok(Place { fileset, path })
+}
+
+/// The command of a line without repeated parts.
+fn plain_command(alloc: Global, line: &str) -> Result<Command, Fail> {
+    let (verb, rest) = line.split_once(' ').ok_or("a path")?;
+    let (first, second) = rest.split_once(' ').unwrap_or((rest, ""));
+    let to = path(alloc, second)?;
+    let place = place_of(alloc, first)?;
+    command_of(verb, place, to)
+}
+
 /// The command of a line: a verb, a path, and a second path where it has one.
 pub fn command(alloc: Global, line: &str) -> Result<Command, Fail> {
-    let line = spelled(alloc, line)?;
-    let (verb, rest) = line.as_str().split_once(' ').ok_or("a path")?;
-    let (first, second) = rest.split_once(' ').unwrap_or((rest, ""));
-    let place = Place {
-        fileset: home(alloc)?,
-        path: path(alloc, first)?,
-    };
-    let to = path(alloc, second)?;
-    command_of(verb, place, to)
+    let mut text = String::new(alloc);
+    push_spelled(&mut text, line)?;
+    plain_command(alloc, text.as_str())
 }
 
 fn refusal_word(refusal: Refusal) -> &'static str {
@@ -87,31 +115,30 @@ fn refusal_word(refusal: Refusal) -> &'static str {
     }
 }
 
-/// A list: a space between two names, and a `/` after that of a directory.
-fn listed(alloc: Global, list: NameList) -> Result<String, Fail> {
-    let mut text = Vec::new(alloc);
-    for item in list.into_vec() {
-        if !text.is_empty() {
-            text.push(b' ')?;
+/// Says a list: a space between two names, and a `/` after that of a directory.
+fn push_listed(list: &NameList, out: &mut String) -> Result<(), Fail> {
+    for item in list.as_slice() {
+        if !out.is_empty() {
+            out.push(' ')?;
         }
-        text.extend_from_slice(item.name.as_slice())?;
+        out.push_str(from_utf8(item.name.as_slice())?)?;
         if item.directory {
-            text.push(b'/')?;
+            out.push('/')?;
         }
     }
-    if text.is_empty() {
-        text.extend_from_slice(b"no name")?;
+    if out.is_empty() {
+        out.push_str("no name")?;
     }
-    Ok(String::from_str(alloc, std::str::from_utf8(&text)?)?)
+    Ok(())
 }
 
-/// What a reply says.
-pub fn said(alloc: Global, reply: Reply) -> Result<String, Fail> {
+/// Says a reply, where nothing was said before.
+pub fn push_reply(reply: &Reply, out: &mut String) -> Result<(), Fail> {
     match reply {
-        Reply::Done => Ok(String::from_str(alloc, "ok")?),
-        Reply::Refused(refusal) => Ok(String::from_str(alloc, refusal_word(refusal))?),
-        Reply::Count(count) => Ok(format!(in alloc; "{count}")?),
-        Reply::Names(list) => listed(alloc, list),
-        _ => Ok(String::from_str(alloc, "other")?),
+        Reply::Done => Ok(out.push_str("ok")?),
+        Reply::Refused(refusal) => Ok(out.push_str(refusal_word(*refusal))?),
+        Reply::Count(count) => Ok(write!(out, "{count}")?),
+        Reply::Names(list) => push_listed(list, out),
+        _ => Ok(out.push_str("other")?),
     }
 }

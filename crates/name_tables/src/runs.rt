@@ -3,7 +3,7 @@ ghost use Rattle.std.specs.Prelude.{OnOk};
 ghost use Rattle.fileset_lending.specs.name_space.Changes.{HasOriginal};
 
 use crate::blocks::{is_idle, push_answer};
-use crate::reading::{command, home, said};
+use crate::reading::{command, home, push_reply};
 use crate::roots::root_alone;
 use crate::steps::{answer, empty_set};
 use fileset_lending::{BitfileSet, Command, Filesets, OutOfMemory, apply};
@@ -20,6 +20,28 @@ fn one_fileset(alloc: Global) -> Result<Filesets, OutOfMemory> {
     Ok(filesets)
 }
 
+/// Says what the plain filesets say to a command.
+fn plain_answer(
+    alloc: Global,
+    filesets: &mut Filesets,
+    command: &Command,
+    out: &mut String,
+) -> Result<(), Fail> {
+    let reply = apply(alloc, filesets, command);
+    push_reply(&reply, out)
+}
+
+/// Says what the plain filesets say to the command of a line.
+fn plain_line_said(
+    alloc: Global,
+    filesets: &mut Filesets,
+    line: &str,
+    out: &mut String,
+) -> Result<(), Fail> {
+    let command = command(alloc, line)?;
+    plain_answer(alloc, filesets, &command, out)
+}
+
 /// Adds a line with what the plain filesets say to it.
 fn push_plain(
     alloc: Global,
@@ -30,29 +52,46 @@ fn push_plain(
     if is_idle(line) {
         return push_answer(text, line, "");
     }
-    let command = command(alloc, line)?;
-    let said = said(alloc, apply(alloc, filesets, &command))?;
-    push_answer(text, line, said.as_str())
+    let mut out = String::new(alloc);
+    plain_line_said(alloc, filesets, line, &mut out)?;
+    push_answer(text, line, out.as_str())
 }
 
-/// All lines with what plain filesets say to them.
-fn plain_said(alloc: Global, lines: &str) -> Result<String, Fail> {
+/// Adds all lines with what plain filesets say to them.
+fn plain_said(alloc: Global, lines: &str, text: &mut String) -> Result<(), Fail> {
     let mut filesets = one_fileset(alloc)?;
-    let mut text = String::new(alloc);
     for line in lines.lines() {
-        push_plain(alloc, &mut filesets, line, &mut text)?;
+        push_plain(alloc, &mut filesets, line, text)?;
     }
-    Ok(text)
+    Ok(())
 }
 
-/// What the set says to the command of a line.
-fn line_said<S: BitfileSet>(set: &mut S, alloc: Global, line: &str) -> Result<String, Fail>
+/// Says what the set answers to a command.
+fn push_answered<S: BitfileSet>(
+    set: &mut S,
+    alloc: Global,
+    command: &Command,
+    out: &mut String,
+) -> Result<(), Fail>
+    requires { HasOriginal (S.files set.old) }
+    ensures { OnOk result (HasOriginal (S.files set.new)) }
+{
+    let reply = answer(set, alloc, command)?;
+    push_reply(&reply, out)
+}
+
+/// Says what the set answers to the command of a line.
+fn line_said<S: BitfileSet>(
+    set: &mut S,
+    alloc: Global,
+    line: &str,
+    out: &mut String,
+) -> Result<(), Fail>
     requires { HasOriginal (S.files set.old) }
     ensures { OnOk result (HasOriginal (S.files set.new)) }
 {
     let command = command(alloc, line)?;
-    let reply = answer(set, alloc, &command)?;
-    said(alloc, reply)
+    push_answered(set, alloc, &command, out)
 }
 
 /// Adds a line with what the set says to it.
@@ -68,39 +107,64 @@ fn push_said<S: BitfileSet>(
     if is_idle(line) {
         return push_answer(text, line, "");
     }
-    let said = line_said(set, alloc, line)?;
-    push_answer(text, line, said.as_str())
+    let mut out = String::new(alloc);
+    line_said(set, alloc, line, &mut out)?;
+    push_answer(text, line, out.as_str())
 }
 
-/// All lines with what the set says to them.
-pub fn said_all<S: BitfileSet>(set: &mut S, alloc: Global, lines: &str) -> Result<String, Fail>
+/// Adds all lines with what the set says to them.
+pub fn said_all<S: BitfileSet>(
+    set: &mut S,
+    alloc: Global,
+    lines: &str,
+    text: &mut String,
+) -> Result<(), Fail>
     requires { HasOriginal (S.files set.old) }
     ensures { OnOk result (HasOriginal (S.files set.new)) }
 {
-    let mut text = String::new(alloc);
     for line in lines.lines() {
-        push_said(set, alloc, line, &mut text)?;
+        push_said(set, alloc, line, text)?;
     }
-    Ok(text)
+    Ok(())
 }
 
 /// Adds what a set says where plain filesets say otherwise.
-fn push_other(answers: &mut String, plain: &str, set: &str, what: &str) -> Result<(), Fail> {
-    if set != plain {
-        answers.push_str(what)?;
-        answers.push_str(" otherwise:\n")?;
-        answers.push_str(set)?;
+fn push_other<S: BitfileSet>(
+    set: &mut S,
+    alloc: Global,
+    answers: &mut String,
+    lines: &str,
+    plain: &str,
+) -> Result<(), Fail>
+    requires { HasOriginal (S.files set.old) }
+{
+    let mut text = String::new(alloc);
+    said_all(set, alloc, lines, &mut text)?;
+    if text.as_str() != plain {
+        answers.push_str("otherwise:\n")?;
+        answers.push_str(text.as_str())?;
     }
     Ok(())
+}
+
+/// Adds what the root directory alone in memory, and in pages, say to lines where plain filesets say
+/// otherwise.
+fn push_others(alloc: Global, answers: &mut String, lines: &str, plain: &str) -> Result<(), Fail> {
+    push_other(
+        &mut empty_set(alloc, Vec::new(alloc))?,
+        alloc,
+        answers,
+        lines,
+        plain,
+    )?;
+    push_other(&mut root_alone(alloc)?, alloc, answers, lines, plain)
 }
 
 /// Adds lines with what plain filesets say to them, and the root directory alone in memory and in
 /// pages.
 pub fn push_names(alloc: Global, answers: &mut String, lines: &str) -> Result<(), Fail> {
-    let plain = plain_said(alloc, lines)?;
-    let memory = said_all(&mut empty_set(alloc, Vec::new(alloc))?, alloc, lines)?;
-    let stored = said_all(&mut root_alone(alloc)?, alloc, lines)?;
+    let mut plain = String::new(alloc);
+    plain_said(alloc, lines, &mut plain)?;
     answers.push_str(plain.as_str())?;
-    push_other(answers, plain.as_str(), memory.as_str(), "in memory")?;
-    push_other(answers, plain.as_str(), stored.as_str(), "in pages")
+    push_others(alloc, answers, lines, plain.as_str())
 }

@@ -173,13 +173,13 @@ pub fn answer<S: BitfileSet>(
     }
 }
 
-/// What a fault of names says.
-pub fn fault(alloc: Global, word: &str) -> Result<String, Fail> {
+/// Says what a fault of names says.
+pub fn fault(word: &str, out: &mut String) -> Result<(), Fail> {
     let fault = match word {
         "refused" => NameFault::Refused(Refusal::NoPath),
         "no page" => NameFault::NoPage,
         "no memory" => NameFault::OutOfMemory,
         _ => return Err(Fail::from("no such fault")),
     };
-    Ok(format!(in alloc; "{fault}")?)
+    Ok(write!(out, "{fault}")?)
 }

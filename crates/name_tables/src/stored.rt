@@ -2,11 +2,12 @@
 ghost use Rattle.fileset_lending.specs.page_store.Homes.{pages_of};
 ghost use Rattle.fileset_lending.specs.stored_set.Sets.{HasSet};
 
+use crate::reading::number_of;
 use crate::roots::{ROOT, root_alone};
 use crate::runs::said_all;
 use fileset_lending::{
-    BitfileSet, CellAt, Kind, Leftover, MemoryPages, Record, StoredBitfiles, StoredParts, Tag,
-    find_record,
+    BitfileSet, CellAt, Kind, Leftover, MemoryPages, OutOfMemory, Record, StoreFault,
+    StoredBitfiles, StoredParts, Tag, find_record,
 };
 use std::alloc::Global;
 use std::test::Fail;
@@ -23,45 +24,56 @@ fn is_to_go(pages: &MemoryPages, at: &CellAt) -> bool {
     }
 }
 
-/// How many files and directories are listed that were taken away, and how many of them are to be
-/// let go of.
-fn removed(alloc: Global, set: StoredBitfiles<MemoryPages>) -> Result<String, Fail> {
-    let parts = set.into_parts();
+/// How many first cells say that all of their files are to be let go of.
+fn count_to_go(pages: &MemoryPages, removed: &[CellAt]) -> usize {
     let mut going: usize = 0;
-    for at in &parts.removed {
-        if is_to_go(&parts.pages, at) {
+    for at in removed {
+        if is_to_go(pages, at) {
             going = going.saturating_add(1);
         }
     }
-    Ok(format!(in alloc; "{} listed, {going} to be let go of", parts.removed.len())?)
+    going
 }
 
-/// How many pages the root and its index have.
-fn pages(alloc: Global, set: &StoredBitfiles<MemoryPages>) -> Result<String, Fail> {
+/// Says how many files and directories are listed that were taken away, and how many of them are to
+/// be let go of.
+fn push_removed(set: StoredBitfiles<MemoryPages>, out: &mut String) -> Result<(), OutOfMemory> {
+    let parts = set.into_parts();
+    let going = count_to_go(&parts.pages, parts.removed.as_slice());
+    write!(
+        out,
+        "{} listed, {going} to be let go of",
+        parts.removed.len()
+    )
+}
+
+/// Says how many pages the root and its index have.
+fn push_pages(set: &StoredBitfiles<MemoryPages>, out: &mut String) -> Result<(), OutOfMemory> {
     let (pages, index) = (set.dir_pages(ROOT), set.index_pages(ROOT));
-    Ok(format!(in alloc; "{pages} of the root, {index} of its index")?)
+    write!(out, "{pages} of the root, {index} of its index")
 }
 
-/// What the set has at the end.
-fn ended(alloc: Global, set: StoredBitfiles<MemoryPages>, word: &str) -> Result<String, Fail> {
+/// Says what the set has at the end.
+fn push_ended(
+    set: StoredBitfiles<MemoryPages>,
+    word: &str,
+    out: &mut String,
+) -> Result<(), OutOfMemory> {
     match word {
-        "pages" => pages(alloc, &set),
-        "removed" => removed(alloc, set),
-        _ => Err(Fail::from("no such end")),
+        "pages" => push_pages(&set, out),
+        _ => push_removed(set, out),
     }
 }
 
 /// Adds lines with what the root directory alone says to them in pages, and what it has at the end.
 pub fn push_stored(alloc: Global, answers: &mut String, lines: &str) -> Result<(), Fail> {
     let (calls, rest) = lines.split_once("end ").ok_or("an end")?;
+    let word = rest.trim_end();
     let mut set = root_alone(alloc)?;
-    let text = said_all(&mut set, alloc, calls)?;
-    let ended = ended(alloc, set, rest.trim_end())?;
-    answers.push_str(text.as_str())?;
-    answers.push_str(format!(in alloc; "end {} -> {ended}\n", rest.trim_end())?.as_str())?;
-    if rest.ends_with("\n\n") {
-        answers.push('\n')?;
-    }
+    said_all(&mut set, alloc, calls, answers)?;
+    write!(answers, "end {word} -> ")?;
+    push_ended(set, word, answers)?;
+    answers.push_str(if rest.ends_with("\n\n") { "\n\n" } else { "\n" })?;
     Ok(())
 }
 
@@ -80,24 +92,47 @@ fn parent_of(parts: &StoredParts<MemoryPages>, tag: Tag) -> Option<(u32, u16)>
 /// The tag that a word names.
 fn tag_of(word: &str) -> Result<Tag, Fail> {
     let (slot, seq) = word.split_once('.').ok_or("a tag")?;
+    let seq = number_of(seq).ok_or("a sequence")?;
+    if 65_535 < seq {
+        return Err(Fail::from("a sequence"));
+    }
     Ok(Tag {
-        slot: slot.parse()?,
-        seq: seq.parse()?,
+        slot: number_of(slot).ok_or("a slot")?,
+        seq: seq as u16,
     })
 }
 
-/// In which directory a new one says that it stands, of which this is said of two others, one after
-/// the other.
-pub fn last_parent(alloc: Global, line: &str) -> Result<String, Fail> {
-    let (first, second) = line.split_once(' ').ok_or("two tags")?;
-    let (first, second) = (tag_of(first)?, tag_of(second)?);
-    let mut set = root_alone(alloc)?;
+/// Makes a directory, and says of it that it stands in two others, one after the other.
+fn make_in(
+    alloc: Global,
+    set: &mut StoredBitfiles<MemoryPages>,
+    first: Tag,
+    second: Tag,
+) -> Result<Tag, StoreFault> {
     let tag = set.make(alloc, Kind::Directory, 1, 2)?;
     set.set_parent(alloc, tag, first)?;
     set.set_parent(alloc, tag, second)?;
-    let parts = set.into_parts();
-    match parent_of(&parts, tag) {
-        Some((slot, seq)) => Ok(format!(in alloc; "{slot}.{seq}")?),
-        None => Ok(String::from_str(alloc, "none")?),
+    Ok(tag)
+}
+
+/// Says in which directory one says that it stands, once a set is taken apart.
+fn push_parent(
+    set: StoredBitfiles<MemoryPages>,
+    tag: Tag,
+    out: &mut String,
+) -> Result<(), OutOfMemory> {
+    match parent_of(&set.into_parts(), tag) {
+        Some((slot, seq)) => write!(out, "{slot}.{seq}"),
+        None => out.push_str("none"),
     }
+}
+
+/// Says in which directory a new one says that it stands, of which this is said of two others, one
+/// after the other.
+pub fn last_parent(alloc: Global, line: &str, out: &mut String) -> Result<(), Fail> {
+    let (first, second) = line.split_once(' ').ok_or("two tags")?;
+    let (first, second) = (tag_of(first)?, tag_of(second)?);
+    let mut set = root_alone(alloc)?;
+    let tag = make_in(alloc, &mut set, first, second)?;
+    Ok(push_parent(set, tag, out)?)
 }
