@@ -308,8 +308,8 @@ fn say_attributes(out: &mut String, what: &Attributes) -> Result<(), Fail> {
     say_numbers(out, &[what.size, u64::from(what.links)])
 }
 
-/// Says what a tag's file is: its kind, the ids of its owner, whether it is logged, its size and its
-/// links.
+/// Says what a tag's file is: its kind, the ids of its owner, whether it is logged, its size and
+/// its links.
 fn tell(world: &World, tag: Tag, out: &mut String) -> Result<(), Fail>
     requires { IsWorld world.now }
 {

@@ -147,9 +147,9 @@ fn say_marks(pages: &MemoryPages, first: &Option<Home>, out: &mut String) -> Res
     say_numbers(out, &[u64::from(count_index(pages, *first))])
 }
 
-/// Of an index of two pages with these marks, the first one goes and waits for a group: it says whether
-/// that is done, the marks then, how many pages wait once a later group is durable, and how many wait
-/// and are free once the log has passed the group.
+/// Of an index of two pages with these marks, the first one goes and waits for a group: it says
+/// whether that is done, the marks then, how many pages wait once a later group is durable, and how
+/// many wait and are free once the log has passed the group.
 fn say_page_gone(world: &mut World, numbers: &[u64], out: &mut String) -> Result<(), Fail>
     requires { IsIndexOn (pages_of world.old.pages.entries.items) world.old.space world.old.first }
 {

@@ -103,8 +103,8 @@ fn first_of(world: &World, tag: Tag, count: u32, number: u32) -> u8
     }
 }
 
-/// What is told of an index: how many pages it has, how many entries its first cell says that it has,
-/// and the first entries of its first five pages, 0 where it has fewer.
+/// What is told of an index: how many pages it has, how many entries its first cell says that it
+/// has, and the first entries of its first five pages, 0 where it has fewer.
 fn tell(world: &World, tag: Tag, count: u32) -> Result<(u32, u32, [u8; 5]), Fail>
     requires { HasIndex world.now tag count }
 {

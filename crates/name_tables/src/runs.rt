@@ -147,8 +147,8 @@ fn push_other<S: BitfileSet>(
     Ok(())
 }
 
-/// Adds what the root directory alone in memory, and in pages, say to lines where plain filesets say
-/// otherwise.
+/// Adds what the root directory alone in memory, and in pages, say to lines where plain filesets
+/// say otherwise.
 fn push_others(alloc: Global, answers: &mut String, lines: &str, plain: &str) -> Result<(), Fail> {
     push_other(
         &mut empty_set(alloc, Vec::new(alloc))?,
