@@ -107,8 +107,8 @@ fn ask(alloc: Global, desk: &Desk, word: &str, rest: &str, out: &mut String) -> 
     }
 }
 
-/// Begins a page of zeros with these bytes, or one without rows that was full of other bytes before,
-/// or keeps the page as it is.
+/// Begins a page of zeros with these bytes, or one without rows that was full of other bytes
+/// before, or keeps the page as it is.
 fn set(alloc: Global, desk: &mut Desk, word: &str, line: &str) -> Option<()> {
     match word {
         "keep" => desk.kept = desk.page.copy(alloc).ok()?,

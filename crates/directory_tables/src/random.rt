@@ -147,8 +147,8 @@ fn count_right(
     Ok(right)
 }
 
-/// Takes so many steps, and says how many of them went as the list says, and whether the page ends as
-/// the list does.
+/// Takes so many steps, and says how many of them went as the list says, and whether the page ends
+/// as the list does.
 fn push_steps(
     alloc: Global,
     random: &mut Random,

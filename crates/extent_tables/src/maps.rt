@@ -152,8 +152,8 @@ fn cut_seconds(map: &mut ExtentMap, pairs: u16) -> Option<()> {
     Some(())
 }
 
-/// Says how many runs so many pairs of pages are, the second of each on another volume, and how many
-/// are left when the second ones are cut.
+/// Says how many runs so many pairs of pages are, the second of each on another volume, and how
+/// many are left when the second ones are cut.
 fn every_second(map: &mut ExtentMap, pairs: &str, out: &mut String) -> Option<()> {
     let pairs = pairs.parse().ok()?;
     put_pairs(map, pairs)?;

@@ -94,8 +94,8 @@ pub fn write_again(
     Ok((tag, at, steps))
 }
 
-/// Says the steps, the file's runs, how many pages it keeps and whether something is left to be done,
-/// and the free and waiting pages.
+/// Says the steps, the file's runs, how many pages it keeps and whether something is left to be
+/// done, and the free and waiting pages.
 fn say_written(world: &World, at: &CellAt, steps: u32, out: &mut String) -> Result<(), Fail> {
     say_numbers(out, &[u64::from(steps)])?;
     say_rows(out, rows(world, at))?;

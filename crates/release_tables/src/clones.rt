@@ -179,8 +179,8 @@ fn listed_unrelated(alloc: Global, world: &mut World, pair: &Pair) -> Result<Def
     Ok(list)
 }
 
-/// Lets go of two removed files of the pages 0 to 5 and 0 to 2 and of a page of a tag directory that
-/// are on one list.
+/// Lets go of two removed files of the pages 0 to 5 and 0 to 2 and of a page of a tag directory
+/// that are on one list.
 pub fn say_unrelated(alloc: Global, world: &mut World, out: &mut String) -> Result<(), Fail>
     requires { IsWorld world.old }
 {
@@ -272,8 +272,8 @@ fn make_all(alloc: Global, world: &mut World, count: u32) -> Result<(), Fail>
     Ok(())
 }
 
-/// So many other files, a file of so many pages, and one that reads those of them through it that were
-/// frozen; which of the two are listed, and whether a first call is stopped for want of room.
+/// So many other files, a file of so many pages, and one that reads those of them through it that
+/// were frozen; which of the two are listed, and whether a first call is stopped for want of room.
 #[derive(Clone, Copy)]
 struct Scene {
     others: u32,
@@ -344,8 +344,8 @@ fn say_pair(world: &World, pair: &Pair, out: &mut String) -> Result<(), Fail> {
     say_numbers(out, &[world.space.misses()])
 }
 
-/// Lets go of the first of two files, and says the steps, and what is seen of both then; and the runs
-/// that a cell of page 13 names, where other files fill the cells before it.
+/// Lets go of the first of two files, and says the steps, and what is seen of both then; and the
+/// runs that a cell of page 13 names, where other files fill the cells before it.
 fn say_handed_by(
     alloc: Global,
     world: &mut World,
@@ -415,8 +415,9 @@ fn scene_of(numbers: &[u64], is_stopped: bool) -> Scene {
     }
 }
 
-/// Says what is seen of the two files of a scene that are let go of, in as many calls as it takes, or
-/// in two, the first of which is stopped. The first file is cut to a size, or removed if that is 0.
+/// Says what is seen of the two files of a scene that are let go of, in as many calls as it takes,
+/// or in two, the first of which is stopped. The first file is cut to a size, or removed if that is
+/// 0.
 fn say_scene(
     alloc: Global,
     world: &mut World,
@@ -436,8 +437,8 @@ fn say_scene(
     }
 }
 
-/// Says what is seen of the two files that numbers say: a scene, the size to which the first is cut,
-/// and the pages of the clone's.
+/// Says what is seen of the two files that numbers say: a scene, the size to which the first is
+/// cut, and the pages of the clone's.
 pub fn say_handed(
     alloc: Global,
     world: &mut World,

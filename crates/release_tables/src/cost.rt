@@ -109,8 +109,8 @@ fn cost_of(alloc: Global, world: World, mut list: Deferred) -> Result<Cost, Fail
     cost_in(alloc, &mut counted, &mut space, &mut cells, &mut list)
 }
 
-/// The pages of the file that a word says: each second one, from the first one on or from the last one
-/// on (down).
+/// The pages of the file that a word says: each second one, from the first one on or from the last
+/// one on (down).
 fn way_of(word: &str) -> Way {
     match word {
         "trimmed-down" => Way::SecondDown,
@@ -135,9 +135,10 @@ fn listed_of(
     listed(alloc, world, &at)
 }
 
-/// A list of the file that a line says: it has so many extents, or as many before page 20,000 as after
-/// it, by turns (mixed), and so many numbers are left of a trim; or it is removed beside a clone's file with so many extents of its own, which reads those of
-/// its pages through it that were frozen.
+/// A list of the file that a line says: it has so many extents, or as many before page 20,000 as
+/// after it, by turns (mixed), and so many numbers are left of a trim; or it is removed beside a
+/// clone's file with so many extents of its own, which reads those of its pages through it that
+/// were frozen.
 fn listed_by(
     alloc: Global,
     world: &mut World,

@@ -74,8 +74,8 @@ fn answer_of_costs(
     }
 }
 
-/// Whether the last of two costs is at most the first, or the last of three adds to the second at most
-/// twice what that adds to the first.
+/// Whether the last of two costs is at most the first, or the last of three adds to the second at
+/// most twice what that adds to the first.
 fn is_low(costs: &[Cost], word: &str) -> bool {
     if word == "is-at-most" {
         return match costs {

@@ -120,8 +120,8 @@ pub fn make_of(
     Ok(tag)
 }
 
-/// Which pages a file has: the first ones, or every second one, from the first one on or from the last
-/// one on, or every second one and those from page 40,000 on by turns.
+/// Which pages a file has: the first ones, or every second one, from the first one on or from the
+/// last one on, or every second one and those from page 40,000 on by turns.
 #[derive(Clone, Copy)]
 pub enum Way {
     First,
@@ -199,8 +199,8 @@ pub fn remove(alloc: Global, world: &mut World, tag: Tag) -> Result<CellAt, Fail
     Ok(world.files.remove(alloc, &mut world.pages, tag)?)
 }
 
-/// Cuts a file to a size, or takes its name if that is 0: its first cell. Something is left to be done
-/// then.
+/// Cuts a file to a size, or takes its name if that is 0: its first cell. Something is left to be
+/// done then.
 pub fn cut_or_remove(alloc: Global, world: &mut World, tag: Tag, size: u64) -> Result<CellAt, Fail>
     requires { IsWorld world.old }
     ensures world { IfOk result (λ _. IsWorld world.new) }

@@ -76,8 +76,8 @@ fn in_two_calls(
     Ok([(one, after_one), (two, counts(world))])
 }
 
-/// Makes nine files that are cut, and says what two calls are on their list, with a file made between
-/// them.
+/// Makes nine files that are cut, and says what two calls are on their list, with a file made
+/// between them.
 fn say_nine_in(
     alloc: Global,
     world: &mut World,

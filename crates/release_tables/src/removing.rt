@@ -129,8 +129,8 @@ fn say_look(world: &World, list: &Deferred, out: &mut String) -> Result<(), Fail
     say_counts(out, counts(world))
 }
 
-/// Makes a file of six pages, one of six that is cut to two, of which the others are on the list, and
-/// a directory of three pages.
+/// Makes a file of six pages, one of six that is cut to two, of which the others are on the list,
+/// and a directory of three pages.
 fn make_three(alloc: Global, world: &mut World, list: &mut Deferred) -> Result<(), Fail>
     requires { HasStood world.old list.old.list }
     ensures { IfOk result (λ _. HasStood world.new list.new.list) }
@@ -164,8 +164,8 @@ fn go_on(
     say_look(world, list, out)
 }
 
-/// Lists the page of the tag directory, and lets go of all: it says the free and waiting pages then,
-/// once the group is durable, and once the log has passed it.
+/// Lists the page of the tag directory, and lets go of all: it says the free and waiting pages
+/// then, once the group is durable, and once the log has passed it.
 fn end(alloc: Global, world: &mut World, list: &mut Deferred, out: &mut String) -> Result<(), Fail>
     requires { HasStood world.old list.old.list }
 {

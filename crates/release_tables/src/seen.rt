@@ -48,8 +48,8 @@ fn version_of(number: u64) -> Version {
 }
 
 /// Lets go of what was cut of a file, and says the steps, the pages that are kept and whether
-/// something is left to be done, before and after; and the free and waiting pages before, after, and
-/// once the group is durable.
+/// something is left to be done, before and after; and the free and waiting pages before, after,
+/// and once the group is durable.
 fn say_trimmed(
     alloc: Global,
     world: &mut World,
@@ -77,8 +77,8 @@ fn say_trimmed(
     say_counts(out, counts(world))
 }
 
-/// Lets go of what is on a list, and says the steps, and the free and waiting pages after; where it is
-/// a page, once the group is durable too, and once the log has passed it.
+/// Lets go of what is on a list, and says the steps, and the free and waiting pages after; where it
+/// is a page, once the group is durable too, and once the log has passed it.
 fn say_released(
     alloc: Global,
     world: &mut World,
@@ -131,8 +131,8 @@ pub fn say_many_removed(
     say_released(alloc, world, &mut list, version, false, out)
 }
 
-/// Lets go of all that is on a list, and says the steps, and the free and waiting pages before, after,
-/// once the group is durable, and once the log has passed it.
+/// Lets go of all that is on a list, and says the steps, and the free and waiting pages before,
+/// after, once the group is durable, and once the log has passed it.
 pub fn say_all_gone(
     alloc: Global,
     world: &mut World,

@@ -176,8 +176,8 @@ fn home_of(word: &str) -> Option<Option<Home>> {
     }
 }
 
-/// Says the bytes of the first of two pages, whose homes are pages 100 and 101, once the page at the
-/// one home, if one is told, was to lead to the one at the other no more.
+/// Says the bytes of the first of two pages, whose homes are pages 100 and 101, once the page at
+/// the one home, if one is told, was to lead to the one at the other no more.
 fn push_unlinked(alloc: Global, trial: &mut Trial, line: &str, out: &mut String) -> Option<()>
     requires { IsTrial trial.old.pages trial.old.dir trial.old.last }
 {

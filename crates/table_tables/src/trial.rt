@@ -66,8 +66,8 @@ impl Trial {
         }
     }
 
-    /// Adds a page with this index, at page 100 of volume 1 or the one after the last, if that may be
-    /// done.
+    /// Adds a page with this index, at page 100 of volume 1 or the one after the last, if that may
+    /// be done.
     pub fn add(&mut self, alloc: Global, index: u32) -> Option<bool>
         requires { IsTrial self.old.pages self.old.dir self.old.last }
         ensures { IsTrial self.new.pages self.new.dir self.new.last }
