@@ -1,5 +1,5 @@
 -- The text of faults, line by line.
-use Rattle.std.proofs.Common.{◌≡◌, inl, inr, ℕ, ◌+◌, ◌<◌, Option, List, [], ◌∷◌, ◌++◌, length, take, get_or, refl, sym, ap, ◌∙◌, add-one}
+use Rattle.std.proofs.Common.{◌≡◌, inl, inr, ℕ, ◌+◌, ◌<◌, Option, None, Some, IfSome, List, [], ◌∷◌, ◌++◌, length, take, get_or, refl, sym, ap, ◌∙◌, add-one}
 use Rattle.std.proofs.Math.Seq.{take-suc}
 use Rattle.std.proofs.lemmas.Grind.{flat_map-append}
 use Rattle.std.proofs.lemmas.List.{append-nil}
@@ -10,7 +10,8 @@ use Rattle.domain_faults.specs.declared.rows.FaultRow.{FaultRow as Told}
 use Rattle.domain_faults.specs.Meaning.{IsMeaningOf}
 use Rattle.domain_faults.specs.declared.meaning.Meaning.{Meaning}
 use Rattle.domain_faults.specs.declared.meaning.Meaning.TheVariants.{Faulty, Filesets, NoDomain}
-use Rattle.run_parts.specs.Verified.{ListsFaults, PrintEnds, VerifyEnds, fault_line, faults_text, rows_of}
+use Rattle.run_parts.specs.declared.verifying.DomainCounts.{DomainCounts}
+use Rattle.run_parts.specs.Verified.{CountsFilesets, HasFilesets, ListsFaults, PrintEnds, VerifyEnds, fault_line, faults_text, rows_of}
 use Rattle.run_parts.specs.declared.status.Status.{Status}
 use Rattle.run_parts.specs.declared.status.Status.TheVariants as status
 
@@ -34,6 +35,15 @@ pub faults_listed : (disk : Disk) (meaning : Meaning) → (Tells disk → IsMean
 faults_listed disk (NoDomain vol at) means tells = inl (vol, at, means tells, refl)
 faults_listed disk (Faulty rows) means tells = inr (inl (means tells))
 faults_listed disk (Filesets all) means tells = inr (inr (refl, all, means tells))
+
+-- what is counted of a meaning is that of what the disk holds
+pub filesets_counted : (disk : Disk) (meaning : Meaning) (found : Option DomainCounts)
+    → (Tells disk → IsMeaningOf disk.sizes disk.now.contents meaning) → IfSome found (λ counts. HasFilesets meaning counts.filesets)
+    → IfSome found (λ counts. Tells disk → CountsFilesets disk.sizes disk.now.contents counts.filesets)
+filesets_counted disk meaning None means has = has
+filesets_counted disk (Filesets all) (Some counts) means has = λ tells. (all, means tells, has)
+filesets_counted disk (Faulty rows) (Some counts) means has = absurd has
+filesets_counted disk (NoDomain vol at) (Some counts) means has = absurd has
 
 pub verified : (old new : Disk) (rows : List FaultRow) (s : Status) (before after : Option (List ℕ)) → ListsFaults old rows → PrintEnds rows s before after
     → VerifyEnds old new s before after

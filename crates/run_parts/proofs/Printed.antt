@@ -21,7 +21,7 @@ history_text-more history i e within here =
 pub history_text-split : (history : List Entry) (i : ℕ) → history_text history ≡ history_text (take i history) ++ history_text (drop i history)
 history_text-split history i = ap history_text (sym (take-append-drop i history)) ∙ flat_map-append line_of (take i history) (drop i history)
 
--- what comes behind the text waits too
+-- what comes after the text waits too
 HandsOn-longer : (a b : Option (List ℕ)) (text waiting more : List ℕ) → HandsOn a b text waiting → HandsOn a b (text ++ more) (waiting ++ more)
 HandsOn-longer a b text waiting more hands = record {
   front = hands.front;
@@ -53,7 +53,7 @@ AppendsFront-waiting a b c text waiting first part = record {
   grown = Appends-trans a b c _ _ first.grown part.grown;
 }
 
--- and so is it with more behind the text
+-- and so it is with more after the text
 AppendsFront-more : (a b : Option (List ℕ)) (text more : List ℕ) → AppendsFront a b text → AppendsFront a b (text ++ more)
 AppendsFront-more a b text more part = record {
   front = part.front;

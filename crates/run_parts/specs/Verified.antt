@@ -1,5 +1,6 @@
 -- What is printed of an image that is verified.
 use Rattle.std.specs.Prelude.{◌≡◌, ◌⊎◌, ◌==◌, ◌++◌, ℕ, ◌∷◌, [], List, Option, codes, decimal, flat_map, if◌then◌else◌, length}
+use Rattle.std.specs.FinMap as map
 use Rattle.std.specs.Io.KnownBytes.{Appends}
 use Rattle.domain_faults.specs.volume_disk.Disk.{Disk, Tells, raised_at}
 use Rattle.domain_faults.specs.volume_disk.Image.{Image}
@@ -41,6 +42,16 @@ abbrev pub rows_of : Meaning → List FaultRow
 rows_of (NoDomain vol at) = first_row vol at ∷ []
 rows_of (Faulty rows) = rows_there rows.items
 rows_of (Filesets all) = []
+
+-- the filesets of a meaning are so many
+abbrev pub HasFilesets : Meaning → ℕ → Type 0
+HasFilesets (Filesets all) count = count ≡ map.len all
+HasFilesets other count = ⊥
+
+-- so many filesets are what an image means
+abbrev pub CountsFilesets : List ℕ → Image → ℕ → Type 0
+CountsFilesets sizes image count =
+    (all : FilesetMap) × Means sizes image all × (count ≡ map.len all)
 
 -- ** Their text
 

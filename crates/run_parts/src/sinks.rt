@@ -140,3 +140,99 @@ impl<T: Write> Sink for WriterSink<T> {
         self.faults
     }
 }
+
+/// Which codes stand in the lines of faults that were printed.
+#[derive(Clone, Copy, Debug)]
+pub struct FaultCodes {
+    seen: [bool; 16],
+    number: u32,
+}
+
+impl FaultCodes {
+    /// No line yet.
+    fn new() -> FaultCodes {
+        FaultCodes {
+            seen: [false; 16],
+            number: 0,
+        }
+    }
+
+    /// Whether a line ended with this code.
+    pub fn has(&self, code: usize) -> bool {
+        match self.seen.get(code) {
+            Some(seen) => *seen,
+            None => false,
+        }
+    }
+
+    /// Marks the code with which a line ended.
+    fn end_line(&mut self) {
+        if let Some(seen) = self.seen.get_mut(self.number as usize) {
+            *seen = true;
+        }
+        self.number = 0;
+    }
+
+    /// Looks at one more byte of the lines: a code is the last number of its line.
+    fn note(&mut self, byte: u8) {
+        if byte == b'\n' {
+            self.end_line();
+        } else if byte.is_ascii_digit() {
+            let digit = u32::from(byte.saturating_sub(b'0'));
+            self.number = self.number.saturating_mul(10).saturating_add(digit);
+        } else {
+            self.number = 0;
+        }
+    }
+
+    /// Looks at more bytes of the lines.
+    fn note_all(&mut self, bytes: &[u8]) {
+        for byte in bytes {
+            self.note(*byte);
+        }
+    }
+}
+
+/// A sink that passes the lines of faults on to another one, and notes their codes.
+#[derive(Drop)]
+pub struct CodeSink<K> {
+    sink: K,
+    codes: FaultCodes,
+}
+
+impl<K> CodeSink<K> {
+    /// A sink over this one, with no code noted.
+    pub fn new(sink: K) -> Self
+        ensures { result.sink ≡ sink }
+    {
+        CodeSink {
+            sink,
+            codes: FaultCodes::new(),
+        }
+    }
+
+    /// The codes of the lines that were passed on.
+    pub fn codes(&self) -> &FaultCodes {
+        &self.codes
+    }
+}
+
+impl<K: Sink> Sink for CodeSink<K> {
+    ghost held = { λ s. K.held s.sink };
+
+    ghost faults = { λ s. K.faults s.sink };
+
+    fn write(&mut self, bytes: &[u8]) -> Result<usize, Failed> {
+        match self.sink.write(bytes) {
+            Ok(count) => {
+                self.codes.note_all(&bytes[..count]);
+                Ok(count)
+            }
+            Err(Failed) => Err(Failed),
+        }
+    }
+
+    fn faults(&self) -> u64 {
+        self.sink.faults()
+    }
+}

@@ -69,6 +69,12 @@ impl MemorySource {
             faults: 0,
         }
     }
+
+    /// All bytes that it had when it was made, the read ones too.
+    pub fn into_bytes(self) -> Vec<u8> {
+        let MemorySource { bytes, .. } = self;
+        bytes
+    }
 }
 
 impl Source for MemorySource {

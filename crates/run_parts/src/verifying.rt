@@ -1,15 +1,34 @@
 //! Printing the faults of an image.
-ghost use Rattle.std.specs.Prelude.{◌≡◌, ◌≤◌, ◌++◌, IfOk, OnOk, length};
+ghost use Rattle.std.specs.Prelude.{◌≡◌, ◌≤◌, ◌++◌, IfOk, IfSome, OnOk, length};
+ghost use Rattle.domain_faults.specs.volume_disk.Disk.{Tells};
 ghost use Rattle.domain_faults.specs.domain_base.Counts.{HasRisen};
 ghost use Rattle.domain_faults.specs.volume_disk.Run.{OnlyReads};
 ghost use Rattle.domain_faults.specs.Rows.{rows_there};
-ghost use Rattle.run_parts.specs.Verified.{PrintEnds, VerifyEnds, fault_line, faults_text, first_code, rows_of, status_of_read_fault};
+ghost use Rattle.run_parts.specs.Verified.{CountsFilesets, HasFilesets, PrintEnds, VerifyEnds, fault_line, faults_text, first_code, rows_of, status_of_read_fault};
 
 use crate::sinks::Sink;
 use crate::status::Status;
 use crate::transfer::write_all;
 use domain_faults::{FaultRow, Meaning, OutOfMemory, Rack, ReadFault, push_number, read_image};
+use script_text::Owner;
 use std::alloc::Global;
+
+/// What is counted of a domain without a fault.
+#[derive(Clone, Copy, Debug, PartialEq, Eq)]
+pub struct DomainCounts {
+    /// Its filesets.
+    pub filesets: u64,
+    /// Their files and directories, without the roots.
+    pub files: u64,
+}
+
+/// How verifying ended. Of a domain without a fault it is also counted what it has, if there is
+/// memory for that.
+#[derive(Clone, Copy, Debug, PartialEq, Eq)]
+pub struct Findings {
+    pub status: Status,
+    pub counts: Option<DomainCounts>,
+}
 
 /// The code of the fault at the first page that does not belong to a domain: 1 for a label, 2 for
 /// the anchors, 3 for a group of the log.
@@ -98,18 +117,57 @@ fn print_faults<K: Sink>(alloc: Global, sink: &mut K, meaning: &Meaning) -> Stat
     }
 }
 
-/// Prints a line for each fault of the domain on a rack, which is only read. Returns `Found` with
-/// the number of faults, or `Ok` if there are none. Prints nothing if a read failed.
-pub fn verify<R: Rack, K: Sink>(alloc: Global, rack: &mut R, sink: &mut K) -> Status
+/// How many files and directories are in the filesets that an image means.
+fn count_files(alloc: Global, meaning: &Meaning) -> Result<u64, OutOfMemory> {
+    let Meaning::Filesets { all } = meaning else {
+        return Ok(0);
+    };
+    let mut files: u64 = 0;
+    for item in all.items(alloc)? {
+        if let Some(slot) = all.slot(&item.fileset) {
+            let usage = slot.tree.usage(alloc, Owner::Fileset)?;
+            files = files.saturating_add(usage.files);
+        }
+    }
+    Ok(files)
+}
+
+/// What is counted of what an image means; None if it means no filesets, or memory runs out.
+fn counts_of(alloc: Global, meaning: &Meaning) -> Option<DomainCounts>
+    ensures { IfSome result (λ counts. HasFilesets meaning.now counts.filesets) }
+{
+    let Meaning::Filesets { all } = meaning else {
+        return None;
+    };
+    let Ok(files) = count_files(alloc, meaning) else {
+        return None;
+    };
+    Some(DomainCounts {
+        filesets: all.len() as u64,
+        files,
+    })
+}
+
+/// Prints a line for each fault of the domain on a rack, which is only read. The status is `Found`
+/// with the number of faults, or `Ok` if there are none. Nothing is printed if a read failed.
+pub fn verify<R: Rack, K: Sink>(alloc: Global, rack: &mut R, sink: &mut K) -> Findings
     ensures reads { OnlyReads (R.disk rack.old) (R.disk rack.new) }
-    ensures ends { VerifyEnds (R.disk rack.old) (R.disk rack.new) result
+    ensures ends { VerifyEnds (R.disk rack.old) (R.disk rack.new) result.status
         (K.held sink.old) (K.held sink.new) }
-    ensures sink_fault { result ≡ Status.SinkFault
+    ensures counted { let old = R.disk rack.old in IfSome result.counts
+        (λ counts. Tells old → CountsFilesets old.sizes old.now.contents counts.filesets) }
+    ensures sink_fault { result.status ≡ Status.SinkFault
         → HasRisen (K.faults sink.old) (K.faults sink.new) }
     ensures never_falls { K.faults sink.old ≤ K.faults sink.new }
 {
     match read_image(alloc, rack) {
-        Ok(meaning) => print_faults(alloc, sink, &meaning),
-        Err(fault) => status_of(&fault),
+        Ok(meaning) => Findings {
+            status: print_faults(alloc, sink, &meaning),
+            counts: counts_of(alloc, &meaning),
+        },
+        Err(fault) => Findings {
+            status: status_of(&fault),
+            counts: None,
+        },
     }
 }

@@ -2,21 +2,21 @@
 ghost use Rattle.std.specs.Prelude.{◌≡◌, ◌==◌, ◌+◌, ◌≤◌, map, slice_index, string_bytes};
 ghost use Rattle.std.specs.Char.{is_ascii_digit};
 ghost use Rattle.std.specs.List.{list_all};
-ghost use Rattle.run_parts.specs.Usage.{are_plain_digits, asked_pages, form_end, form_of, image_form, make_form, run_form, try_form, verb_form};
+ghost use Rattle.run_parts.specs.Usage.{are_plain_digits, asked_pages, form_end, form_of, image_form, images_form, make_form, more_images, run_form, script_form, try_form, verb_form, version_form};
 
 use domain_faults::Version;
-use domain_faults::limits::MAX_VOLUME_PAGES;
+use domain_faults::limits::{MAX_VOLUME_PAGES, MAX_VOLUMES};
 
 /// What a command line asks for.
 #[derive(Clone, Copy, Debug, PartialEq, Eq)]
 pub enum Form {
     /// A script over a new domain in memory, on a volume of `pages` pages.
     Try { pages: u32 },
-    /// A script over the domain in an image.
+    /// A script over the domain in images, one for each volume.
     Run,
     /// An empty domain of this version in an image.
     Make { version: Version },
-    /// The faults of an image.
+    /// The faults of the domain in images, one for each volume.
     Verify,
 }
 
@@ -79,9 +79,9 @@ fn try_asked(words: &[String]) -> Result<Form, u32>
     }
 }
 
-/// The form of an image whose name comes after `count` words.
+/// The form of one image, whose name comes after `count` words.
 fn image_asked(words: &[String], count: u32, form: Form) -> Result<Form, u32>
-    requires { count ≤ 2 }
+    requires { count ≤ 3 }
     ensures { result ≡ image_form count form (map string_bytes words.now) }
 {
     let Some(word) = words.first() else {
@@ -94,7 +94,54 @@ fn image_asked(words: &[String], count: u32, form: Form) -> Result<Form, u32>
     end_form(rest, count + 1, form)
 }
 
-/// The form of `run`, from the words after it: a script, and an image.
+/// The form of at most `most` more images, whose names come after `count` words.
+fn more_asked(words: &[String], most: u32, count: u32, form: Form) -> Result<Form, u32>
+    requires { count + most ≤ 20 }
+    ensures { result ≡ more_images most count form (map string_bytes words.now) }
+{
+    let Some(word) = words.first() else {
+        return Ok(form);
+    };
+    let rest = &words[1..];
+    if word.as_str().is_empty() || most == 0 {
+        return Err(count);
+    }
+    more_asked(rest, most - 1, count + 1, form)
+}
+
+/// The form of one to eight images, whose names come after `count` words.
+fn images_asked(words: &[String], count: u32, form: Form) -> Result<Form, u32>
+    requires { count ≤ 3 }
+    ensures { result ≡ images_form count form (map string_bytes words.now) }
+{
+    if words.is_empty() {
+        return Err(count);
+    }
+    more_asked(words, MAX_VOLUMES, count, form)
+}
+
+/// The form of `run` from its script on, which comes after `count` words.
+fn script_asked(words: &[String], count: u32) -> Result<Form, u32>
+    requires { count ≤ 2 }
+    ensures { result ≡ script_form count (map string_bytes words.now) }
+{
+    let Some(word) = words.first() else {
+        return Err(count);
+    };
+    let rest = &words[1..];
+    if word.as_str().is_empty() {
+        return Err(count);
+    }
+    images_asked(rest, count + 1, Form::Run)
+}
+
+/// The word of `run` that has images opened for reading alone.
+pub const LOOK_WORD: &str = "-r";
+
+/// The word of `mkfdmn` that has an image overwritten, whatever it holds.
+pub const OVER_WORD: &str = "-o";
+
+/// The form of `run`, from the words after it: a script, and images.
 fn run_asked(words: &[String]) -> Result<Form, u32>
     ensures { result ≡ run_form (map string_bytes words.now) }
 {
@@ -102,10 +149,25 @@ fn run_asked(words: &[String]) -> Result<Form, u32>
         return Err(1);
     };
     let rest = &words[1..];
-    if word.as_str().is_empty() {
-        return Err(1);
+    if word.as_str() == LOOK_WORD {
+        return script_asked(rest, 2);
     }
-    image_asked(rest, 2, Form::Run)
+    script_asked(words, 1)
+}
+
+/// The form of `mkfdmn` for this version, from the words after the first `count`.
+fn version_asked(words: &[String], count: u32, version: Version) -> Result<Form, u32>
+    requires { count ≤ 2 }
+    ensures { result ≡ version_form count version (map string_bytes words.now) }
+{
+    let Some(word) = words.first() else {
+        return Err(count);
+    };
+    let rest = &words[1..];
+    if word.as_str() == OVER_WORD {
+        return image_asked(rest, count + 1, Form::Make { version });
+    }
+    image_asked(words, count, Form::Make { version })
 }
 
 /// The form of `mkfdmn`, from the words after it.
@@ -116,12 +178,10 @@ fn make_asked(words: &[String]) -> Result<Form, u32>
         return Err(1);
     };
     let rest = &words[1..];
-    let version = Version::Three;
     if word.as_str() == "-3" {
-        return image_asked(rest, 2, Form::Make { version });
+        return version_asked(rest, 2, Version::Three);
     }
-    let version = Version::Four;
-    image_asked(words, 1, Form::Make { version })
+    version_asked(words, 1, Version::Four)
 }
 
 /// What the command line asks for. If it is not understood, the error is how many words stand
@@ -138,7 +198,7 @@ pub fn form_asked(words: &[String]) -> Result<Form, u32>
         "try" => try_asked(rest),
         "run" => run_asked(rest),
         "mkfdmn" => make_asked(rest),
-        "verify" => image_asked(rest, 1, Form::Verify),
+        "verify" => images_asked(rest, 1, Form::Verify),
         _ => Err(0),
     }
 }
