@@ -1,4 +1,5 @@
-//! The program: it runs scripts over new filesets, makes domains in images, and verifies images.
+//! The program: it runs scripts over domains, makes and verifies them in images, puts files in and
+//! takes them out.
 #![tactic(auto)]
 
 use advfs_run::program;

@@ -1,5 +1,5 @@
 -- How a run ends, by its parts.
-use Rattle.std.proofs.Common.{inl, inr, ◌≡◌, ◌∙◌, ◌⊎◌, ℕ, List, [], ◌++◌, Option, Some, None, Result, Ok, Err, sym, ap, subst, ⊎_elim, map}
+use Rattle.std.proofs.Common.{inl, inr, ◌≡◌, ◌∙◌, ◌⊎◌, ℕ, List, [], ◌++◌, Option, Some, None, Result, Ok, Err, refl, sym, ap, subst, ⊎_elim, map}
 use Rattle.std.proofs.lemmas.List.{append-nil}
 use Rattle.std.proofs.lemmas.List.Elements.{All-nil}
 use Rattle.std.specs.Io.KnownBytes.{Appends}
@@ -20,7 +20,8 @@ use Rattle.run_parts.specs.declared.status.Status.{Status}
 use Rattle.run_parts.specs.declared.status.Status.TheVariants as status
 use Rattle.run_parts.specs.declared.status.Unattached.{Unattached}
 use Rattle.run_parts.specs.declared.status.Unattached.TheVariants as unfit
-use Rattle.advfs_run.specs.Run.{EndsFor, HasBegun, HasSections, IsLargeFor, IsPrinted, IsRun, LeadsFor, LeavesContents, NotBegun, PrintsAs, RunsFor, StopsFor}
+use Rattle.run_parts.specs.declared.verifying.DomainCounts.{DomainCounts}
+use Rattle.advfs_run.specs.Run.{CountsFor, EndsFor, HasBegun, HasSections, IsLargeFor, IsPrinted, IsRun, LeadsFor, LeavesContents, NotBegun, PrintsAs, RunsFor, StopsFor}
 
 -- ---- no command was answered
 
@@ -345,3 +346,19 @@ StopsFor-verify form old new is = subst (λ (f : Result Form ℕ). StopsFor f ol
 
 pub StopsFor-make : (form : Result Form ℕ) (version : Version) (old new : Disk) → Ok (a_form.Make version) ≡ form → StopsFor (Ok (a_form.Make version)) old new → StopsFor form old new
 StopsFor-make form version old new is stops = subst (λ (f : Result Form ℕ). StopsFor f old new) is stops
+
+-- ---- what was counted, by the form of the words
+
+pub CountsFor-none : (form : Result Form ℕ) (disk : Disk) (found : Option DomainCounts) → found ≡ None → CountsFor form disk found
+CountsFor-none form disk found is = subst (λ (counts : Option DomainCounts). CountsFor form disk counts) (sym is) (at form)
+  where
+    at : (f : Result Form ℕ) → CountsFor f disk None
+    at (Err word) = refl
+    at (Ok (a_form.Try pages)) = refl
+    at (Ok a_form.Run) = refl
+    at (Ok (a_form.Make version)) = refl
+    at (Ok a_form.Verify) = tt
+
+pub CountsFor-verify : (form : Result Form ℕ) (disk : Disk) (found : Option DomainCounts) → Ok a_form.Verify ≡ form → CountsFor (Ok a_form.Verify) disk found
+    → CountsFor form disk found
+CountsFor-verify form disk found is counted = subst (λ (f : Result Form ℕ). CountsFor f disk found) is counted

@@ -1,5 +1,5 @@
 -- How a run ends, by what its words ask for.
-use Rattle.std.specs.Prelude.{◌≡◌, ◌≢◌, ◌⊎◌, ◌≤◌, ℕ, Option, Result, Ok, Err, List, []}
+use Rattle.std.specs.Prelude.{◌≡◌, ◌≢◌, ◌⊎◌, ◌≤◌, ℕ, IfSome, None, Option, Result, Ok, Err, List, []}
 use Rattle.domain_attaching.specs.domain_base.Limits.{min_first_volume_pages}
 use Rattle.domain_attaching.specs.domain_base.declared.version.Version.TheVariants.{Four}
 use Rattle.domain_attaching.specs.volume_disk.Disk.{Disk, Tells, volume_pages}
@@ -15,7 +15,8 @@ use Rattle.run_parts.specs.Answering.{SameByNumber}
 use Rattle.run_parts.specs.Made.{MakeEnds, TellsOfSmall}
 use Rattle.run_parts.specs.Reading.{HasRead, IsScript}
 use Rattle.run_parts.specs.Transfer.{AppendsFront}
-use Rattle.run_parts.specs.Verified.{VerifyEnds}
+use Rattle.run_parts.specs.Verified.{CountsFilesets, VerifyEnds}
+use Rattle.run_parts.specs.declared.verifying.DomainCounts.{DomainCounts}
 use Rattle.run_parts.specs.declared.words.Form.{Form}
 use Rattle.run_parts.specs.declared.words.Form.TheVariants.{Make, Run, Try, Verify}
 use Rattle.run_parts.specs.declared.status.Status.{Status}
@@ -118,7 +119,7 @@ EndsFor (Ok Run) old new (ended.VolumeSmall n) = ⊥
 EndsFor (Ok Run) old new (ended.Found faults) = ⊥
 EndsFor other old new status = Unit {0}
 
--- a volume that is named behind a history is one of which a write or a sync has failed
+-- a volume that is named after a history is one of which a write or a sync has failed
 abbrev pub IsLostBehind : Disk → Disk → Status → List Entry → Type 0
 IsLostBehind old new status history =
     (vol : ℕ) → status ≡ ended.VolumeFault vol → history ≢ [] → WriteFailed old new vol
@@ -131,6 +132,12 @@ abbrev pub VerifyEndsFor : Result Form ℕ → Disk → Disk → Status → Opti
 VerifyEndsFor (Ok Verify) old new status before after =
     OnlyReads old new × VerifyEnds old new status before after
 VerifyEndsFor other old new status before after = Unit {0}
+
+-- what was counted of an image that was verified: its filesets, if the rack tells what it holds
+abbrev pub CountsFor : Result Form ℕ → Disk → Option DomainCounts → Type 0
+CountsFor (Ok Verify) disk found = IfSome found (λ counts. Tells disk
+    → CountsFilesets disk.sizes disk.now.contents counts.filesets)
+CountsFor other disk found = found ≡ None
 
 -- making touches the first volume alone, and ends by its status as `MakeEnds` says, which tells of
 -- a volume that is too small; of other words nothing is said
@@ -150,7 +157,7 @@ StopsFor other old new = Unit {0}
 
 -- ** The text
 
--- a status behind which a history is printed whole, and by the form
+-- a status after which a history is printed whole, and by the form
 abbrev pub IsPrinted : Status → Type 0
 IsPrinted ended.Ok = Unit {0}
 IsPrinted (ended.VolumeFault vol) = Unit {0}

@@ -36,7 +36,7 @@ abbrev pub Keeps : Disk → State → Type 0
 Keeps disk s =
     (image : Image) → MayLeave disk.now image → ∥ MeansState disk.sizes image s ∥₁
 
--- and has an anchor with the volumes of a state, and no group of a log behind it
+-- and has an anchor with the volumes of a state, and no group of a log after it
 abbrev pub KeepsVolumes : Disk → State → Type 0
 KeepsVolumes disk s = ∥ ((anchor : Anchor) × HasVolumesOf anchor s × HasNoGroup disk anchor) ∥₁
 

@@ -1,26 +1,33 @@
 //! The program around `run`: its words, the rack that they ask for, standard input and output, and
 //! the exit number.
-ghost use Rattle.std.specs.Prelude.{◌≡◌, ◌⊎◌, ℕ, false, [], ◌∷◌, IfOk, List, Ok, map, length, string_bytes};
-ghost use Rattle.run_parts.specs.Usage.{FitsForm, form_of};
-ghost use Rattle.run_parts.specs.declared.words.Form.TheVariants.{Run, Try};
+ghost use Rattle.std.specs.Prelude.{◌≡◌, false, [], ◌∷◌, IfOk, Ok, map, string_bytes};
+ghost use Rattle.run_parts.specs.Usage.{form_of};
+ghost use Rattle.run_parts.specs.declared.words.Form.TheVariants.{Make, Run, Try, Verify};
 ghost use Rattle.std.specs.Process.{exit_status};
 ghost use Rattle.memory_disk.specs.Memory.{memory_disk, started};
 ghost use Rattle.run_parts.specs.Exit.{exit_number};
-ghost use Rattle.run_parts.specs.declared.status.Status.{Status as StatusOf};
-ghost use Rattle.memory_disk.specs.Files.{file_disk};
+ghost use Rattle.advfs_run.specs.Exits.{IsExit};
 
 use crate::NoGate;
+use crate::errands::{Verb, do_errand};
+use crate::images::{Access, Images};
+use crate::opening::{
+    Refused, check_empty, only_looks, open_images, open_one, script_given, script_named,
+};
 use crate::running::run;
-use domain_attaching::OutOfMemory;
-use domain_attaching::limits::PAGE_BYTES;
-use memory_disk::{FileRack, MemoryRack};
+use crate::telling::{
+    first_image, only_reads, overwrites, script_word, tell, tell_codes, tell_longer, tell_made,
+    tell_refused, tell_sound, word_at,
+};
+use domain_attaching::{OutOfMemory, Version};
+use memory_disk::MemoryRack;
 use run_parts::{
-    Form, HELP, ReaderSource, ScriptFault, Source, Status, VERSION, WriterSink, form_asked,
-    write_all, zeros,
+    BadLine, CodeSink, Form, HELP, MemorySource, ReaderSource, Status, VERSION, WriterSink,
+    form_asked, write_all, zeros,
 };
 use std::alloc::Global;
 use std::env::FillError;
-use std::fs::{File, OpenOptions};
+use std::fs::File;
 use std::process::ExitCode;
 use std::rt::{Env, Files};
 use std::{io, str};
@@ -63,124 +70,150 @@ pub fn new_rack(alloc: Global, pages: u32) -> Result<MemoryRack, OutOfMemory>
     MemoryRack::new(alloc, &[pages], &[], false)
 }
 
-/// How the program ends.
-enum Outcome {
-    /// A run ended.
-    Ended(Status),
-    /// The file that is named after `word` words could not be opened.
-    Closed { word: usize, error: io::Error },
-}
-
-/// A rack whose volume is a file. Only the whole pages of the file count.
-fn rack_of(alloc: Global, file: File) -> io::Result<FileRack>
-    ensures { IfOk result (λ rack. length (file_disk rack).sizes ≡ 1) }
-{
-    let bytes = file.metadata()?.len();
-    let pages = u32::try_from(bytes / PAGE_BYTES as u64).unwrap_or(u32::MAX);
-    Ok(FileRack::new(vec![in alloc; file]?, vec![in alloc; pages]?))
-}
-
-/// Opens an image: for reading and writing, or for reading alone if it is only verified.
-fn open_image(
-    rt: &impl Files<File = File>,
+/// Tells how a run of a script ended; of a bad line also its text and its words.
+fn tell_script(
+    rt: &impl Eprint,
     alloc: Global,
-    name: &str,
-    form: Form,
-) -> io::Result<FileRack>
-    ensures { IfOk result (λ rack. length (file_disk rack).sizes ≡ 1) }
-{
-    let writes = !matches!(form, Form::Verify);
-    let file = OpenOptions::new().read(true).write(writes).open(rt, name)?;
-    rack_of(alloc, file)
-}
-
-/// The word after `word` others, or an empty one if there are no more.
-fn word_at(words: &[String], word: usize) -> &str {
-    match words.get(word) {
-        Some(name) => name.as_str(),
-        None => "",
+    words: &[String],
+    status: Status,
+    text: &[u8],
+) -> io::Result<()> {
+    tell(rt, words, status)?;
+    match status {
+        Status::BadScript { line, kind } => match BadLine::of(alloc, text, line, kind) {
+            Ok(bad) => eprintln!(rt; "{bad}"),
+            Err(_) => Ok(()),
+        },
+        _ => Ok(()),
     }
 }
 
-/// Runs over an image, which is the last word, with a script from this source.
-fn start_on_image<S: Source>(
-    rt: &(impl Print + Files<File = File>),
-    alloc: Global,
-    words: &[String],
-    form: Form,
-    source: &mut S,
-) -> Outcome
-    requires asked { Ok form ≡ form_of (map string_bytes words.now) }
-    requires image { (sizes : List ℕ) → length sizes ≡ 1 → FitsForm sizes form }
-{
-    let word = words.len().saturating_sub(1);
-    let rack = match open_image(rt, alloc, word_at(words, word), form) {
-        Ok(rack) => rack,
-        Err(error) => return Outcome::Closed { word, error },
-    };
-    let mut sink = WriterSink::new(io::writer(rt));
-    let ended = run(alloc, words, source, rack, &mut sink, &NoGate);
-    Outcome::Ended(ended.status)
+/// The pages of each image.
+fn sizes_of(alloc: Global, images: &Images) -> Result<Vec<u32>, OutOfMemory> {
+    let mut sizes = Vec::new(alloc);
+    for image in images.list() {
+        sizes.push(image.pages())?;
+    }
+    Ok(sizes)
 }
 
-/// The word that names the script of `run`.
-const SCRIPT_WORD: usize = 1;
-
-/// Runs a script over an image. The script is read from a file, or from standard input if its name
-/// is a hyphen.
+/// Runs a script over a domain in images.
 fn start_script(
-    rt: &(impl Input + Print + Files<File = File>),
+    rt: &(impl Input + Print + Eprint + Files<File = File>),
     alloc: Global,
     words: &[String],
-) -> Outcome
+) -> Result<Status, Refused>
     requires { Ok Run ≡ form_of (map string_bytes words.now) }
 {
-    let name = word_at(words, SCRIPT_WORD);
-    if name == "-" {
-        let mut source = ReaderSource::new(rt.reader());
-        return start_on_image(rt, alloc, words, Form::Run, &mut source);
+    let text = script_named(rt, alloc, words, script_word(words))?;
+    let looks = only_reads(words) || only_looks(text.as_slice());
+    let access = if looks { Access::Reads } else { Access::Writes };
+    let images = open_images(rt, alloc, words, first_image(words)..words.len(), access)?;
+    let sizes = sizes_of(alloc, &images)?;
+    let rack = images.into_rack(alloc)?;
+    let mut source = MemorySource::new(text, Vec::new(alloc));
+    let mut sink = WriterSink::new(io::writer(rt));
+    let ended = run(alloc, words, &mut source, rack, &mut sink, &NoGate);
+    let status = ended.status;
+    let text = source.into_bytes();
+    let _ = tell_script(rt, alloc, words, status, text.as_slice());
+    if status == Status::Ok {
+        let _ = tell_longer(rt, words, ended.rack, sizes.as_slice());
     }
-    let file = match OpenOptions::new().read(true).open(rt, name) {
-        Ok(file) => file,
-        Err(error) => return Outcome::Closed {
-            word: SCRIPT_WORD,
-            error,
-        },
-    };
-    let mut source = ReaderSource::new(file);
-    start_on_image(rt, alloc, words, Form::Run, &mut source)
+    Ok(status)
 }
 
 /// Runs a script from standard input over a new domain in memory, on a volume of `pages` pages.
 fn start_new(
-    rt: &(impl Input + Print),
+    rt: &(impl Input + Print + Eprint),
     alloc: Global,
     words: &[String],
     pages: u32,
-) -> Result<Outcome, OutOfMemory>
+) -> Result<Status, Refused>
     requires { Ok (Try pages) ≡ form_of (map string_bytes words.now) }
 {
+    let text = script_given(rt, alloc)?;
     let rack = new_rack(alloc, pages)?;
+    let mut source = MemorySource::new(text, Vec::new(alloc));
+    let mut sink = WriterSink::new(io::writer(rt));
+    let ended = run(alloc, words, &mut source, rack, &mut sink, &NoGate);
+    let text = source.into_bytes();
+    let _ = tell_script(rt, alloc, words, ended.status, text.as_slice());
+    Ok(ended.status)
+}
+
+/// Makes an empty domain in an image, which is the last word.
+fn start_make(
+    rt: &(impl Input + Print + Eprint + Files<File = File>),
+    alloc: Global,
+    words: &[String],
+    version: Version,
+) -> Result<Status, Refused>
+    requires { Ok (Make version) ≡ form_of (map string_bytes words.now) }
+{
+    let word = first_image(words);
+    let images = open_one(rt, alloc, words, word)?;
+    if !overwrites(words) {
+        check_empty(&images, word)?;
+    }
+    let sizes = sizes_of(alloc, &images)?;
+    let rack = images.into_rack(alloc)?;
     let mut source = ReaderSource::new(rt.reader());
     let mut sink = WriterSink::new(io::writer(rt));
     let ended = run(alloc, words, &mut source, rack, &mut sink, &NoGate);
-    Ok(Outcome::Ended(ended.status))
+    let status = ended.status;
+    if status == Status::Ok {
+        let _ = tell_made(rt, words, ended.rack, sizes.as_slice());
+    }
+    let _ = tell(rt, words, status);
+    Ok(status)
+}
+
+/// Verifies images.
+fn start_verify(
+    rt: &(impl Input + Print + Eprint + Files<File = File>),
+    alloc: Global,
+    words: &[String],
+) -> Result<Status, Refused>
+    requires { Ok Verify ≡ form_of (map string_bytes words.now) }
+{
+    let images = open_images(
+        rt,
+        alloc,
+        words,
+        first_image(words)..words.len(),
+        Access::Reads,
+    )?;
+    let sizes = sizes_of(alloc, &images)?;
+    let rack = images.into_rack(alloc)?;
+    let mut source = ReaderSource::new(rt.reader());
+    let mut sink = CodeSink::new(WriterSink::new(io::writer(rt)));
+    let ended = run(alloc, words, &mut source, rack, &mut sink, &NoGate);
+    let status = ended.status;
+    if status == Status::Ok {
+        let _ = tell_sound(rt, words, ended.rack, sizes.as_slice(), ended.counts);
+    }
+    let _ = tell(rt, words, status);
+    let _ = tell_codes(rt, sink.codes());
+    Ok(status)
 }
 
 /// Does what the words ask for, over standard input and output.
 fn start(
-    rt: &(impl Env + Input + Print + Files<File = File>),
+    rt: &(impl Env + Input + Print + Eprint + Files<File = File>),
     alloc: Global,
     words: &[String],
-) -> Result<Outcome, OutOfMemory> {
+) -> Result<Status, Refused> {
+    if let Some(verb) = Verb::of(word_at(words, 0)) {
+        do_errand(rt, alloc, words, verb)?;
+        return Ok(Status::Ok);
+    }
     match form_asked(words) {
-        Err(word) => Ok(Outcome::Ended(Status::Usage { word })),
+        Err(word) => Err(Refused::Ended(Status::Usage { word })),
         Ok(Form::Try { pages }) => start_new(rt, alloc, words, pages),
-        Ok(Form::Run) => Ok(start_script(rt, alloc, words)),
-        Ok(form) => {
-            let mut source = ReaderSource::new(rt.reader());
-            Ok(start_on_image(rt, alloc, words, form, &mut source))
-        }
+        Ok(Form::Run) => start_script(rt, alloc, words),
+        Ok(Form::Make { version }) => start_make(rt, alloc, words, version),
+        Ok(Form::Verify) => start_verify(rt, alloc, words),
     }
 }
 
@@ -200,35 +233,35 @@ pub fn exit_code(status: Status) -> ExitCode
     ExitCode::from(status.exit_number())
 }
 
-/// The exit number if a file could not be opened.
-const CLOSED: u8 = 12;
+/// The exit number if a file is not taken.
+const NOT_TAKEN: u8 = 12;
 
-/// Tells on standard error how a run ended, unless it ended well. For a bad script it also tells
-/// what the numbers mean.
-fn tell(rt: &impl Eprint, status: Status) -> io::Result<()> {
-    match status {
-        Status::Ok => Ok(()),
-        Status::BadScript { line, kind } => {
-            eprintln!(rt; "advfs: {status}")?;
-            eprintln!(rt; "{}", ScriptFault::Bad { line, kind })
-        }
-        _ => eprintln!(rt; "advfs: {status}"),
+/// The exit number if an image in which a domain was to be made holds something.
+const OCCUPIED: u8 = 13;
+
+/// The exit number if a command was refused of a script that the program made.
+const NOT_ANSWERED: u8 = 14;
+
+/// The exit code for what was not done.
+fn refused_code(refused: &Refused) -> ExitCode
+    ensures { IsExit (exit_status result) }
+{
+    match refused {
+        Refused::Ended(status) => exit_code(*status),
+        Refused::Occupied { .. } => ExitCode::from(OCCUPIED),
+        Refused::Answer(_) => ExitCode::from(NOT_ANSWERED),
+        Refused::Script { .. } | Refused::Image { .. } => ExitCode::from(NOT_TAKEN),
     }
 }
 
-/// Tells on standard error which file could not be opened, and why.
-fn tell_closed(rt: &impl Eprint, name: &str, error: &io::Error) -> io::Result<()> {
-    eprintln!(rt; "advfs: {name} cannot be opened: {error}")
-}
-
-/// The whole program. It ends with the number of a status, or with 12 if a script or an image that
-/// the words name could not be opened.
+/// The whole program. It ends with the number of a status; with 12 if a script or an image that the
+/// words name is not taken; with 13 if a domain was to be made where something stands; or with 14
+/// if a command of a script that it made itself was refused.
 pub fn program(
     rt: &(impl Env + Input + Print + Eprint + Files<File = File>),
     alloc: Global,
 ) -> ExitCode
-    ensures { ((status : StatusOf) × (exit_status result ≡ exit_number status))
-        ⊎ (exit_status result ≡ 12) }
+    ensures { IsExit (exit_status result) }
 {
     let Ok(words) = words_given(rt, alloc) else {
         return exit_code(Status::OutOfMemory);
@@ -237,17 +270,10 @@ pub fn program(
         return exit_code(print_text(rt, text));
     }
     match start(rt, alloc, &words) {
-        Ok(Outcome::Ended(status)) => {
-            let _ = tell(rt, status);
-            exit_code(status)
-        }
-        Ok(Outcome::Closed { word, error }) => {
-            let _ = tell_closed(rt, word_at(&words, word), &error);
-            ExitCode::from(CLOSED)
-        }
-        Err(OutOfMemory) => {
-            let _ = tell(rt, Status::OutOfMemory);
-            exit_code(Status::OutOfMemory)
+        Ok(status) => exit_code(status),
+        Err(refused) => {
+            let _ = tell_refused(rt, &words, &refused);
+            refused_code(&refused)
         }
     }
 }

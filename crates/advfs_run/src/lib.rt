@@ -4,11 +4,17 @@
 #![tactic(auto)]
 
 mod command_line;
+mod errands;
 mod gates;
+mod images;
 mod laws;
+mod looks;
+mod opening;
 mod running;
 mod runs;
 mod statuses;
+mod telling;
+mod transfers;
 mod turns;
 
 pub use command_line::{exit_code, new_rack, program};
@@ -22,6 +28,7 @@ pub use turns::{answer_sections, take_turn};
 pub use domain_attaching::{Actor, Command, Entry, Filesets, Rack, VolIx, apply, limits};
 pub use memory_disk::MemoryRack;
 pub use run_parts::{
-    FaultKind, Form, HELP, MemorySink, MemorySource, PrintError, ReadError, ScriptFault, Section,
-    Status, Unattached, VERSION, form_asked, history_line, read_script, zeros,
+    DomainCounts, FaultKind, Form, HELP, MemorySink, MemorySource, PrintError, ReadError,
+    ScriptFault, Section, Status, Unattached, VERSION, form_asked, history_line, read_script,
+    zeros,
 };

@@ -1,6 +1,6 @@
 //! The whole of a run: the words, the script, its commands over a domain, and the printing. Also
 //! the making of a domain, and the verifying of an image.
-ghost use Rattle.std.specs.Prelude.{◌≡◌, ◌≢◌, ◌≤◌, ℕ, [], List, All, Err, IfErr, IfOk, MatchResult, Ok, flat_map, map, string_bytes};
+ghost use Rattle.std.specs.Prelude.{◌≡◌, ◌≢◌, ◌≤◌, ℕ, [], List, All, Err, IfErr, IfOk, MatchResult, None, Ok, flat_map, map, string_bytes};
 ghost use Rattle.std.specs.Io.KnownBytes.{Appends, Consumes};
 ghost use Rattle.domain_attaching.specs.domain_base.Counts.{HasRisen};
 ghost use Rattle.domain_attaching.specs.log_recovery.Settling.{Anywhere};
@@ -12,8 +12,10 @@ ghost use Rattle.advfs_run.specs.Quiet.{TellNoFault};
 ghost use Rattle.run_parts.specs.Reading.{GetsNoScript, HasRead};
 ghost use Rattle.run_parts.specs.Transfer.{AppendsFront};
 ghost use Rattle.run_parts.specs.Usage.{FitsForm, form_of};
+ghost use Rattle.run_parts.specs.declared.words.Form.TheVariants.{Run};
 ghost use Rattle.advfs_run.specs.Runs.{AreStampedWithin, ClosesAs};
 ghost use Rattle.advfs_run.specs.Run.{
+  CountsFor,
   EndsFor,
   HasReadFor,
   HasSections,
@@ -34,20 +36,22 @@ ghost use Rattle.advfs_run.specs.Run.{
   VerifyEndsFor,
 };
 
-use crate::{Gate, Ran, run_new, run_on};
+use crate::{Gate, NoGate, Ran, run_new, run_on};
 use domain_attaching::{Entry, Rack, Version};
 use run_parts::{
-    Form, Section, Sink, Source, Status, form_asked, in_order, make, print_history, take_script,
-    verify,
+    DomainCounts, Findings, Form, MemorySource, Section, Sink, Source, Status, form_asked,
+    in_order, make, print_history, take_script, verify,
 };
 use std::alloc::Global;
 
-/// How a run ended: its status, the rack that it was given, and the history of its commands.
+/// How a run ended: its status, the rack that it was given, the history of its commands, and what
+/// was counted of a domain that was verified.
 #[derive(Drop)]
 pub struct Ended<R> {
     pub status: Status,
     pub rack: R,
     pub history: Vec<Entry>,
+    pub counts: Option<DomainCounts>,
 }
 
 impl<R> Ended<R> {
@@ -56,11 +60,13 @@ impl<R> Ended<R> {
         ensures status { result.status ≡ status }
         ensures rack { result.rack ≡ rack }
         ensures history { result.history.items ≡ [] }
+        ensures counts { result.counts ≡ None }
     {
         Ended {
             status,
             rack,
             history: Vec::new(alloc),
+            counts: None,
         }
     }
 }
@@ -119,6 +125,7 @@ fn print_ran<R: Rack, K: Sink>(alloc: Global, ran: Ran<R>, sink: &mut K) -> Ende
     ensures status { PrintsAs ran.end result.status }
     ensures rack { result.rack ≡ ran.rack }
     ensures history { result.history.items ≡ ran.history.items }
+    ensures counts { result.counts ≡ None }
     ensures printed { IsPrinted result.status
         → Appends (K.held sink.old) (K.held sink.new) (history_text ran.history.items) }
     ensures printed_front { AppendsFront (K.held sink.old) (K.held sink.new)
@@ -136,6 +143,7 @@ fn print_ran<R: Rack, K: Sink>(alloc: Global, ran: Ran<R>, sink: &mut K) -> Ende
         status,
         rack,
         history,
+        counts: None,
     }
 }
 
@@ -162,6 +170,7 @@ fn run_script<S: Source, R: Rack, K: Sink, G: Gate>(
     ensures lost { IsLostBehind (R.disk rack) (R.disk result.rack) result.status
         result.history.items }
     ensures rack { LacksScript result.status → result.rack ≡ rack }
+    ensures counts { result.counts ≡ None }
     ensures printed { IsPrinted result.status
         → Appends (K.held sink.old) (K.held sink.new) (history_text result.history.items) }
     ensures printed_front { AppendsFront (K.held sink.old) (K.held sink.new)
@@ -182,6 +191,24 @@ fn run_script<S: Source, R: Rack, K: Sink, G: Gate>(
         Ok(ran) => print_ran(alloc, ran, sink),
         Err((rack, status)) => Ended::unanswered(alloc, status, rack),
     }
+}
+
+/// Answers a script that is given as a text, as `run` does over the domain that the rack holds.
+pub(crate) fn run_text<R: Rack, K: Sink>(
+    alloc: Global,
+    script: Vec<u8>,
+    rack: R,
+    sink: &mut K,
+) -> Ended<R>
+    ensures runs { RunsFor (Ok Run) (R.disk rack) (R.disk result.rack) result.status
+        result.history.items }
+    ensures quiet { TellNoFault result.history.items }
+    ensures ends { EndsFor (Ok Run) (R.disk rack) (R.disk result.rack) result.status }
+    ensures printed { IsPrinted result.status
+        → Appends (K.held sink.old) (K.held sink.new) (history_text result.history.items) }
+{
+    let mut source = MemorySource::new(script, Vec::new(alloc));
+    run_script(alloc, Form::Run, &mut source, rack, sink, &NoGate)
 }
 
 /// Does what the words ask for. `try` and `run` read a script, answer each of its commands over a
@@ -220,7 +247,9 @@ pub fn run<S: Source, R: Rack + Send, K: Sink, G: Gate + Sync>(
     ensures printed_front { PrintsFor (form_of (map string_bytes words.now))
         (K.held sink.old) (K.held sink.new) result.history.items }
 
-    // The faults that are printed for an image, and the domain that is made.
+    // The faults that are printed for an image, what is counted of it, and the domain that is made.
+    ensures counted { CountsFor (form_of (map string_bytes words.now)) (R.disk rack)
+        result.counts }
     ensures verified { VerifyEndsFor (form_of (map string_bytes words.now)) (R.disk rack)
         (R.disk result.rack) result.status (K.held sink.old) (K.held sink.new) }
     ensures made { MakeEndsFor (form_of (map string_bytes words.now)) (R.disk rack)
@@ -246,15 +275,19 @@ pub fn run<S: Source, R: Rack + Send, K: Sink, G: Gate + Sync>(
     ensures sink_count { K.faults sink.old ≤ K.faults sink.new }
 {
     let mut rack = rack;
-    let (status, history) = match form_asked(words) {
-        Err(word) => (Status::Usage { word }, Vec::new(alloc)),
-        Ok(Form::Make { version }) => (make(alloc, &mut rack, version), Vec::new(alloc)),
-        Ok(Form::Verify) => (verify(alloc, &mut rack, sink), Vec::new(alloc)),
+    let (status, counts) = match form_asked(words) {
+        Err(word) => (Status::Usage { word }, None),
+        Ok(Form::Make { version }) => (make(alloc, &mut rack, version), None),
+        Ok(Form::Verify) => {
+            let Findings { status, counts } = verify(alloc, &mut rack, sink);
+            (status, counts)
+        }
         Ok(form) => return run_script(alloc, form, script, rack, sink, gate),
     };
     Ended {
         status,
         rack,
-        history,
+        history: Vec::new(alloc),
+        counts,
     }
 }

@@ -4,6 +4,3 @@ use Rattle.advfs_run.proofs.command_line.program.Goals as goal
 
 pub returns-in_default : goal.returns-in_default
 returns-in_default g c = inl (OutOfMemory, c.exit_code.ensures)
-
-pub returns : goal.returns
-returns g c = inl (OutOfMemory, c.exit_code-in-Err.ensures)

@@ -4,7 +4,7 @@ use Rattle.domain_attaching.proofs.OfLogRecovery.Settled.{anywhere}
 use Rattle.domain_attaching.specs.volume_disk.Image.{NoPlace}
 use Rattle.domain_attaching.proofs.OfVolumeDisk.Laws.{touches-none}
 use Rattle.domain_attaching.specs.domain_making.Making.{IsOnFirst}
-use Rattle.advfs_run.proofs.Endings.{StopsFor-err, StopsFor-make, StopsFor-verify}
+use Rattle.advfs_run.proofs.Endings.{CountsFor-none, StopsFor-err, StopsFor-make, StopsFor-verify}
 use Rattle.advfs_run.proofs.running.run.Goals as goal
 use Rattle.advfs_run.proofs.running.run.Goals.{in-Err, in-Ok-Make, in-Ok-Verify}
 
@@ -23,3 +23,6 @@ returns-clause-touches g c =
       | in-Ok-Make w ↦ rw (w.rack-is) (anywhere disk _ IsOnFirst w.make.ensures.touches)
       | in-Ok-Verify w ↦ rw (w.rack-is) (anywhere disk _ NoPlace w.verify.ensures.reads.touches)
     ]
+
+pub returns-in-Ok-clause-counted : goal.returns-in-Ok-clause-counted
+returns-in-Ok-clause-counted g c = CountsFor-none _ _ _ c.run_script.ensures.counts
