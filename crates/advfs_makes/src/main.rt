@@ -1,0 +1,9 @@
+//! The program again: it makes an empty domain in an image of zeros, and prints nothing.
+#![tactic(auto)]
+
+use advfs_run::program;
+use std::process::ExitCode;
+
+fn main(rt: HostRuntime) -> ExitCode {
+    program(&rt, rt.alloc())
+}

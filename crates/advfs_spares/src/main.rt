@@ -1,0 +1,10 @@
+//! The program again: it makes no domain in a file that holds something, and ends with the number for
+//! that.
+#![tactic(auto)]
+
+use advfs_run::program;
+use std::process::ExitCode;
+
+fn main(rt: HostRuntime) -> ExitCode {
+    program(&rt, rt.alloc())
+}
