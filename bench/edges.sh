@@ -41,7 +41,7 @@ printf 'client 1\nshowfsets\n' >"$folder/looks"
 ends 12 "no image" "$top/advfs" run "$folder/script" "$folder/none"
 ends 12 "no script" "$top/advfs" run "$folder/none" "$image"
 ends 12 "a folder for an image" "$top/advfs" run "$folder/script" "$folder"
-ends 2 "the image named twice" "$top/advfs" run "$folder/script" "$image" "$image"
+ends 12 "the image named twice" "$top/advfs" run "$folder/script" "$image" "$image"
 ends 8 "standard output is full" to_full "$top/advfs" run "$folder/looks" "$image"
 
 if [ "$(id -u)" = 0 ]; then
