@@ -57,5 +57,6 @@ verified old new rows status.SourceFault before after lists prints = absurd prin
 verified old new rows status.TooLong before after lists prints = absurd prints
 verified old new rows (status.BadScript line kind) before after lists prints = absurd prints
 verified old new rows (status.VolumeSmall pages) before after lists prints = absurd prints
+verified old new rows (status.Occupied page) before after lists prints = absurd prints
 verified old new rows (status.NotADomain vol at) before after lists prints = absurd prints
 verified old new rows (status.Unfit why) before after lists prints = absurd prints

@@ -1,4 +1,5 @@
 pub mod Faults
+pub mod Guarded
 pub mod Pieces
 pub mod Printed
 pub mod Reading

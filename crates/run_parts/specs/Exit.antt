@@ -22,6 +22,7 @@ exit_number status.SinkFault = 8
 exit_number (status.Found faults) = 9
 exit_number status.OutOfMemory = 10
 exit_number (status.VolumeSmall pages) = 11
+exit_number (status.Occupied page) = 13
 exit_number (status.Unfit why) = 15
 
 -- the status of a script that could not be read

@@ -1,5 +1,5 @@
 -- Which words of a command line are a form.
-use Rattle.std.specs.Prelude.{ℕ, suc, ◌≡◌, ◌^◌, ◌-◌, Bool, ◌&&◌, not, if◌then◌else◌, nat_le, ◌==◌, length, slice_index, Option, Some, None, option_and_then, Result, Ok, Err, List, [], ◌∷◌, codes}
+use Rattle.std.specs.Prelude.{ℕ, suc, ◌≡◌, ◌^◌, ◌-◌, Bool, true, false, ◌&&◌, not, if◌then◌else◌, nat_le, ◌==◌, length, slice_index, Option, Some, None, option_and_then, Result, Ok, Err, List, [], ◌∷◌, codes}
 use Rattle.std.specs.Char.{is_ascii_digit}
 use Rattle.std.specs.List.{list_all}
 use Rattle.std.specs.Option.{option_map_or}
@@ -71,8 +71,8 @@ run_form (word ∷ words) =
 abbrev pub version_form : ℕ → Version → List (List ℕ) → Result Form ℕ
 version_form count version [] = Err count
 version_form count version (word ∷ words) =
-    if bytes_eq word (codes "-o") then image_form (suc count) (Make version) words
-    else image_form count (Make version) (word ∷ words)
+    if bytes_eq word (codes "-o") then image_form (suc count) (Make version true) words
+    else image_form count (Make version false) (word ∷ words)
 
 -- the words after `mkfdmn`: an image, after `-3` for a domain of version 3
 abbrev pub make_form : List (List ℕ) → Result Form ℕ
@@ -98,5 +98,5 @@ form_of (verb ∷ words) = verb_form verb words
 -- the volumes that a rack has for a form: those of a domain that is run or verified may be any
 abbrev pub FitsForm : List ℕ → Form → Type 0
 FitsForm sizes (Try pages) = sizes ≡ pages ∷ []
-FitsForm sizes (Make version) = length sizes ≡ 1
+FitsForm sizes (Make version overwrites) = length sizes ≡ 1
 FitsForm sizes other = Unit {0}

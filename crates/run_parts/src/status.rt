@@ -67,6 +67,9 @@ pub enum Status {
     OutOfMemory,
     /// The volume on which a domain was to be made has only `pages` pages, fewer than 160.
     VolumeSmall { pages: u32 },
+    /// The volume on which a domain was to be made holds something: this is the first of its pages
+    /// that is not all zeros, of those that each domain uses.
+    Occupied { page: u32 },
     /// There is a domain that breaks no rule, but it is not attached.
     Unfit { why: Unattached },
 }
@@ -88,6 +91,7 @@ impl Status {
             Status::Found { .. } => 9,
             Status::OutOfMemory => 10,
             Status::VolumeSmall { .. } => 11,
+            Status::Occupied { .. } => 13,
             Status::Unfit { .. } => 15,
         }
     }
@@ -110,6 +114,7 @@ impl fmt::Display for Status {
             Status::Found { faults } => write!(f, "Found {faults}"),
             Status::OutOfMemory => f.write_str("OutOfMemory"),
             Status::VolumeSmall { pages } => write!(f, "VolumeSmall {pages}"),
+            Status::Occupied { page } => write!(f, "Occupied {page}"),
             Status::Unfit { why } => write!(f, "Unfit: {why}"),
         }
     }

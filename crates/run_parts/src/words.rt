@@ -14,8 +14,9 @@ pub enum Form {
     Try { pages: u32 },
     /// A script over the domain in images, one for each volume.
     Run,
-    /// An empty domain of this version in an image.
-    Make { version: Version },
+    /// An empty domain of this version in an image. Unless it is overwritten, an image that holds
+    /// something is refused.
+    Make { version: Version, overwrites: bool },
     /// The faults of the domain in images, one for each volume.
     Verify,
 }
@@ -165,9 +166,17 @@ fn version_asked(words: &[String], count: u32, version: Version) -> Result<Form,
     };
     let rest = &words[1..];
     if word.as_str() == OVER_WORD {
-        return image_asked(rest, count + 1, Form::Make { version });
+        let form = Form::Make {
+            version,
+            overwrites: true,
+        };
+        return image_asked(rest, count + 1, form);
     }
-    image_asked(words, count, Form::Make { version })
+    let form = Form::Make {
+        version,
+        overwrites: false,
+    };
+    image_asked(words, count, form)
 }
 
 /// The form of `mkfdmn`, from the words after it.
