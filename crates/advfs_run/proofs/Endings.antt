@@ -1,5 +1,5 @@
 -- How a run ends, by its parts.
-use Rattle.std.proofs.Common.{inl, inr, ◌≡◌, ◌∙◌, ◌⊎◌, ℕ, List, [], ◌++◌, Option, Some, None, Result, Ok, Err, refl, sym, ap, subst, ⊎_elim, map}
+use Rattle.std.proofs.Common.{inl, inr, ◌≡◌, ◌∙◌, ◌⊎◌, ℕ, Bool, List, [], ◌++◌, Option, Some, None, Result, Ok, Err, refl, sym, ap, subst, ⊎_elim, map}
 use Rattle.std.proofs.lemmas.List.{append-nil}
 use Rattle.std.proofs.lemmas.List.Elements.{All-nil}
 use Rattle.std.specs.Io.KnownBytes.{Appends}
@@ -53,6 +53,7 @@ module _ (left : Option (List ℕ)) (read : List ℕ) (history : List Entry) (no
   unread (status.VolumeFault vol) gets = absurd gets
   unread status.SinkFault gets = absurd gets
   unread (status.Found faults) gets = absurd gets
+  unread (status.Occupied page) gets = absurd gets
   unread status.OutOfMemory gets = inl (none, gets)
   unread (status.VolumeSmall pages) gets = absurd gets
   unread (status.Unfit why) gets = absurd gets
@@ -67,6 +68,7 @@ module _ (left : Option (List ℕ)) (read : List ℕ) (history : List Entry) (no
   unread_begun (status.VolumeFault vol) gets begun = begun
   unread_begun status.SinkFault gets begun = gets
   unread_begun (status.Found faults) gets begun = begun
+  unread_begun (status.Occupied page) gets begun = begun
   unread_begun status.OutOfMemory gets begun = begun
   unread_begun (status.VolumeSmall pages) gets begun = begun
   unread_begun (status.Unfit why) gets begun = begun
@@ -81,6 +83,7 @@ module _ (left : Option (List ℕ)) (read : List ℕ) (history : List Entry) (no
   unread_ends (a_form.Try pages) old new (status.VolumeFault vol) run gets = absurd gets
   unread_ends (a_form.Try pages) old new status.SinkFault run gets = tt
   unread_ends (a_form.Try pages) old new (status.Found faults) run gets = absurd gets
+  unread_ends (a_form.Try pages) old new (status.Occupied page) run gets = absurd gets
   unread_ends (a_form.Try pages) old new status.OutOfMemory run gets = tt
   unread_ends (a_form.Try pages) old new (status.VolumeSmall n) run gets = absurd gets
   unread_ends (a_form.Try pages) old new (status.Unfit why) run gets = absurd gets
@@ -93,10 +96,11 @@ module _ (left : Option (List ℕ)) (read : List ℕ) (history : List Entry) (no
   unread_ends a_form.Run old new (status.VolumeFault vol) run gets = absurd gets
   unread_ends a_form.Run old new status.SinkFault run gets = tt
   unread_ends a_form.Run old new (status.Found faults) run gets = absurd gets
+  unread_ends a_form.Run old new (status.Occupied page) run gets = absurd gets
   unread_ends a_form.Run old new status.OutOfMemory run gets = tt
   unread_ends a_form.Run old new (status.VolumeSmall n) run gets = absurd gets
   unread_ends a_form.Run old new (status.Unfit why) run gets = absurd gets
-  unread_ends (a_form.Make version) old new s run gets = absurd run
+  unread_ends (a_form.Make version overwrites) old new s run gets = absurd run
   unread_ends a_form.Verify old new s run gets = absurd run
 
   pub unread_printed : (s : Status) → GetsNoScript left read s → ¬ IsPrinted s
@@ -109,6 +113,7 @@ module _ (left : Option (List ℕ)) (read : List ℕ) (history : List Entry) (no
   unread_printed (status.VolumeFault vol) gets printed = gets
   unread_printed status.SinkFault gets printed = printed
   unread_printed (status.Found faults) gets printed = printed
+  unread_printed (status.Occupied page) gets printed = printed
   unread_printed status.OutOfMemory gets printed = printed
   unread_printed (status.VolumeSmall pages) gets printed = printed
   unread_printed (status.Unfit why) gets printed = printed
@@ -126,6 +131,7 @@ module _ (left : Option (List ℕ)) (read : List ℕ) (history : List Entry) (no
     unbegun_read (a_form.Try pages) old new (status.VolumeFault vol) not_begun = inl (none, (has.script, has.is_script))
     unbegun_read (a_form.Try pages) old new status.SinkFault not_begun = absurd not_begun
     unbegun_read (a_form.Try pages) old new (status.Found faults) not_begun = absurd not_begun
+    unbegun_read (a_form.Try pages) old new (status.Occupied page) not_begun = absurd not_begun
     unbegun_read (a_form.Try pages) old new status.OutOfMemory not_begun = inl (none, IsNoLonger-from_short read has.is_script.short)
     unbegun_read (a_form.Try pages) old new (status.VolumeSmall n) not_begun = (none, (has.script, has.is_script))
     unbegun_read (a_form.Try pages) old new (status.Unfit why) not_begun = absurd not_begun
@@ -138,10 +144,11 @@ module _ (left : Option (List ℕ)) (read : List ℕ) (history : List Entry) (no
     unbegun_read a_form.Run old new (status.VolumeFault vol) not_begun = inl (none, (has.script, has.is_script))
     unbegun_read a_form.Run old new status.SinkFault not_begun = absurd not_begun
     unbegun_read a_form.Run old new (status.Found faults) not_begun = absurd not_begun
+    unbegun_read a_form.Run old new (status.Occupied page) not_begun = absurd not_begun
     unbegun_read a_form.Run old new status.OutOfMemory not_begun = inl (none, IsNoLonger-from_short read has.is_script.short)
     unbegun_read a_form.Run old new (status.VolumeSmall n) not_begun = absurd not_begun
     unbegun_read a_form.Run old new (status.Unfit why) not_begun = (none, (has.script, has.is_script))
-    unbegun_read (a_form.Make version) old new s not_begun = absurd not_begun
+    unbegun_read (a_form.Make version overwrites) old new s not_begun = absurd not_begun
     unbegun_read a_form.Verify old new s not_begun = absurd not_begun
 
 pub unbegun_begun : (form : Form) (old new : Disk) (s : Status) → NotBegun form old new s → ¬ HasBegun s
@@ -154,6 +161,7 @@ unbegun_begun (a_form.Try pages) old new (status.NotADomain vol at) not_begun be
 unbegun_begun (a_form.Try pages) old new (status.VolumeFault vol) not_begun begun = begun
 unbegun_begun (a_form.Try pages) old new status.SinkFault not_begun begun = not_begun
 unbegun_begun (a_form.Try pages) old new (status.Found faults) not_begun begun = begun
+unbegun_begun (a_form.Try pages) old new (status.Occupied page) not_begun begun = begun
 unbegun_begun (a_form.Try pages) old new status.OutOfMemory not_begun begun = begun
 unbegun_begun (a_form.Try pages) old new (status.VolumeSmall n) not_begun begun = begun
 unbegun_begun (a_form.Try pages) old new (status.Unfit why) not_begun begun = begun
@@ -166,10 +174,11 @@ unbegun_begun a_form.Run old new (status.NotADomain vol at) not_begun begun = be
 unbegun_begun a_form.Run old new (status.VolumeFault vol) not_begun begun = begun
 unbegun_begun a_form.Run old new status.SinkFault not_begun begun = not_begun
 unbegun_begun a_form.Run old new (status.Found faults) not_begun begun = begun
+unbegun_begun a_form.Run old new (status.Occupied page) not_begun begun = begun
 unbegun_begun a_form.Run old new status.OutOfMemory not_begun begun = begun
 unbegun_begun a_form.Run old new (status.VolumeSmall n) not_begun begun = begun
 unbegun_begun a_form.Run old new (status.Unfit why) not_begun begun = begun
-unbegun_begun (a_form.Make version) old new s not_begun begun = not_begun
+unbegun_begun (a_form.Make version overwrites) old new s not_begun begun = not_begun
 unbegun_begun a_form.Verify old new s not_begun begun = not_begun
 
 pub unbegun_ends : (form : Form) (old new : Disk) (s : Status) → NotBegun form old new s → EndsFor (Ok form) old new s
@@ -182,6 +191,7 @@ unbegun_ends (a_form.Try pages) old new (status.NotADomain vol at) not_begun = n
 unbegun_ends (a_form.Try pages) old new (status.VolumeFault vol) not_begun = not_begun
 unbegun_ends (a_form.Try pages) old new status.SinkFault not_begun = tt
 unbegun_ends (a_form.Try pages) old new (status.Found faults) not_begun = not_begun
+unbegun_ends (a_form.Try pages) old new (status.Occupied page) not_begun = not_begun
 unbegun_ends (a_form.Try pages) old new status.OutOfMemory not_begun = tt
 unbegun_ends (a_form.Try pages) old new (status.VolumeSmall n) not_begun = not_begun
 unbegun_ends (a_form.Try pages) old new (status.Unfit why) not_begun = not_begun
@@ -194,16 +204,17 @@ unbegun_ends a_form.Run old new (status.NotADomain vol at) not_begun = not_begun
 unbegun_ends a_form.Run old new (status.VolumeFault vol) not_begun = not_begun.0
 unbegun_ends a_form.Run old new status.SinkFault not_begun = tt
 unbegun_ends a_form.Run old new (status.Found faults) not_begun = not_begun
+unbegun_ends a_form.Run old new (status.Occupied page) not_begun = not_begun
 unbegun_ends a_form.Run old new status.OutOfMemory not_begun = tt
 unbegun_ends a_form.Run old new (status.VolumeSmall n) not_begun = not_begun
 unbegun_ends a_form.Run old new (status.Unfit why) not_begun = not_begun
-unbegun_ends (a_form.Make version) old new s not_begun = tt
+unbegun_ends (a_form.Make version overwrites) old new s not_begun = tt
 unbegun_ends a_form.Verify old new s not_begun = tt
 
 pub unbegun_run : (form : Form) (old new : Disk) (s : Status) (history : List Entry) → IsRun (Ok form) → history ≡ [] → ¬ HasBegun s → LeavesContents old new → RunsFor (Ok form) old new s history
 unbegun_run (a_form.Try pages) old new s history run none begun left = inl (none, begun)
 unbegun_run a_form.Run old new s history run none begun left = inl (none, begun, left)
-unbegun_run (a_form.Make version) old new s history run none begun left = none
+unbegun_run (a_form.Make version overwrites) old new s history run none begun left = none
 unbegun_run a_form.Verify old new s history run none begun left = none
 
 -- what a domain has is left where it was not attached
@@ -225,6 +236,7 @@ left_so old new (status.NotADomain vol at) not_begun = inr (inl not_begun.0)
 left_so old new (status.VolumeFault vol) not_begun = inr (inr not_begun.1)
 left_so old new status.SinkFault not_begun = absurd not_begun
 left_so old new (status.Found faults) not_begun = absurd not_begun
+left_so old new (status.Occupied page) not_begun = absurd not_begun
 left_so old new status.OutOfMemory not_begun = inr (inr not_begun)
 left_so old new (status.VolumeSmall n) not_begun = absurd not_begun
 left_so old new (status.Unfit why) not_begun = left_unfit old new why not_begun
@@ -232,7 +244,7 @@ left_so old new (status.Unfit why) not_begun = left_unfit old new why not_begun
 pub refused_run : (form : Form) (old new : Disk) (s : Status) (history : List Entry) → history ≡ [] → NotBegun form old new s → RunsFor (Ok form) old new s history
 refused_run (a_form.Try pages) old new s history none not_begun = inl (none, unbegun_begun (a_form.Try pages) old new s not_begun)
 refused_run a_form.Run old new s history none not_begun = inl (none, unbegun_begun a_form.Run old new s not_begun, left_so old new s not_begun)
-refused_run (a_form.Make version) old new s history none not_begun = absurd not_begun
+refused_run (a_form.Make version overwrites) old new s history none not_begun = absurd not_begun
 refused_run a_form.Verify old new s history none not_begun = absurd not_begun
 
 -- ---- a run that has begun
@@ -253,6 +265,7 @@ closed_read left read history old new (status.NotADomain vol at) is closed = abs
 closed_read left read history old new (status.VolumeFault vol) is closed = inr is
 closed_read left read history old new status.SinkFault is closed = absurd closed
 closed_read left read history old new (status.Found faults) is closed = absurd closed
+closed_read left read history old new (status.Occupied page) is closed = absurd closed
 closed_read left read history old new status.OutOfMemory is closed = absurd closed
 closed_read left read history old new (status.VolumeSmall n) is closed = absurd closed
 closed_read left read history old new (status.Unfit why) is closed = absurd closed
@@ -267,6 +280,7 @@ closed_ends (a_form.Try pages) old new (status.NotADomain vol at) run large clos
 closed_ends (a_form.Try pages) old new (status.VolumeFault vol) run large closed = inr closed
 closed_ends (a_form.Try pages) old new status.SinkFault run large closed = tt
 closed_ends (a_form.Try pages) old new (status.Found faults) run large closed = closed
+closed_ends (a_form.Try pages) old new (status.Occupied page) run large closed = closed
 closed_ends (a_form.Try pages) old new status.OutOfMemory run large closed = tt
 closed_ends (a_form.Try pages) old new (status.VolumeSmall n) run large closed = absurd closed
 closed_ends (a_form.Try pages) old new (status.Unfit why) run large closed = closed
@@ -279,10 +293,11 @@ closed_ends a_form.Run old new (status.NotADomain vol at) run large closed = abs
 closed_ends a_form.Run old new (status.VolumeFault vol) run large closed = inr closed
 closed_ends a_form.Run old new status.SinkFault run large closed = tt
 closed_ends a_form.Run old new (status.Found faults) run large closed = closed
+closed_ends a_form.Run old new (status.Occupied page) run large closed = closed
 closed_ends a_form.Run old new status.OutOfMemory run large closed = tt
 closed_ends a_form.Run old new (status.VolumeSmall n) run large closed = closed
 closed_ends a_form.Run old new (status.Unfit why) run large closed = absurd closed
-closed_ends (a_form.Make version) old new end run large closed = tt
+closed_ends (a_form.Make version overwrites) old new end run large closed = tt
 closed_ends a_form.Verify old new end run large closed = tt
 
 -- the status once its history was printed, or was not
@@ -302,13 +317,13 @@ module _ (end s : Status) (prints : PrintsAs end s) where
       sink : (f : Form) → IsRun (Ok f) → EndsFor (Ok f) old new status.SinkFault
       sink (a_form.Try pages) is = tt
       sink a_form.Run is = tt
-      sink (a_form.Make version) is = tt
+      sink (a_form.Make version overwrites) is = tt
       sink a_form.Verify is = tt
 
       memory : (f : Form) → IsRun (Ok f) → EndsFor (Ok f) old new status.OutOfMemory
       memory (a_form.Try pages) is = tt
       memory a_form.Run is = tt
-      memory (a_form.Make version) is = tt
+      memory (a_form.Make version overwrites) is = tt
       memory a_form.Verify is = tt
 
   pub ended_lost : (old new : Disk) → ClosesAs old new end → (vol : ℕ) → s ≡ status.VolumeFault vol → WriteFailed old new vol
@@ -324,7 +339,7 @@ module _ (end s : Status) (prints : PrintsAs end s) where
   pub ended_run : (form : Form) (old new : Disk) (history : List Entry) → ClosesAs old new end → LeadsFor form old new history (end ≡ status.Ok) → RunsFor (Ok form) old new s history
   ended_run (a_form.Try pages) old new history closes leads = inr (record { end = end; prints = prints; closes = closes; leads = leads })
   ended_run a_form.Run old new history closes leads = inr (record { end = end; prints = prints; closes = closes; leads = leads })
-  ended_run (a_form.Make version) old new history closes leads = absurd leads
+  ended_run (a_form.Make version overwrites) old new history closes leads = absurd leads
   ended_run a_form.Verify old new history closes leads = absurd leads
 
 -- ---- stops, by the form of the words
@@ -338,14 +353,14 @@ StopsFor-run form asked old new run is = subst (λ (f : Result Form ℕ). StopsF
     at : (f : Form) → IsRun (Ok f) → StopsFor (Ok f) old new
     at (a_form.Try pages) asks = tt
     at a_form.Run asks = tt
-    at (a_form.Make version) asks = absurd asks
+    at (a_form.Make version overwrites) asks = absurd asks
     at a_form.Verify asks = absurd asks
 
 pub StopsFor-verify : (form : Result Form ℕ) (old new : Disk) → Ok a_form.Verify ≡ form → StopsFor form old new
 StopsFor-verify form old new is = subst (λ (f : Result Form ℕ). StopsFor f old new) is tt
 
-pub StopsFor-make : (form : Result Form ℕ) (version : Version) (old new : Disk) → Ok (a_form.Make version) ≡ form → StopsFor (Ok (a_form.Make version)) old new → StopsFor form old new
-StopsFor-make form version old new is stops = subst (λ (f : Result Form ℕ). StopsFor f old new) is stops
+pub StopsFor-make : (form : Result Form ℕ) (version : Version) (overwrites : Bool) (old new : Disk) → Ok (a_form.Make version overwrites) ≡ form → StopsFor (Ok (a_form.Make version overwrites)) old new → StopsFor form old new
+StopsFor-make form version overwrites old new is stops = subst (λ (f : Result Form ℕ). StopsFor f old new) is stops
 
 -- ---- what was counted, by the form of the words
 
@@ -356,7 +371,7 @@ CountsFor-none form disk found is = subst (λ (counts : Option DomainCounts). Co
     at (Err word) = refl
     at (Ok (a_form.Try pages)) = refl
     at (Ok a_form.Run) = refl
-    at (Ok (a_form.Make version)) = refl
+    at (Ok (a_form.Make version overwrites)) = refl
     at (Ok a_form.Verify) = tt
 
 pub CountsFor-verify : (form : Result Form ℕ) (disk : Disk) (found : Option DomainCounts) → Ok a_form.Verify ≡ form → CountsFor (Ok a_form.Verify) disk found

@@ -3,8 +3,8 @@ use Rattle.std.specs.Prelude.{◌≡◌, ◌⊎◌, ℕ}
 use Rattle.run_parts.specs.Exit.{exit_number}
 use Rattle.run_parts.specs.declared.status.Status.{Status}
 
--- the number of a status; or 12, where a script or an image was not taken; 13, where a domain was to
--- be made and something stands; 14, where a command was refused of a script that the program made
+-- the number of a status; or 12, where a script or an image was not taken; or 14, where a command
+-- was refused of a script that the program made
 abbrev pub IsExit : ℕ → Type 0
 IsExit number = ((status : Status) × (number ≡ exit_number status))
-    ⊎ (number ≡ 12) ⊎ (number ≡ 13) ⊎ (number ≡ 14)
+    ⊎ (number ≡ 12) ⊎ (number ≡ 14)

@@ -12,7 +12,7 @@ use Rattle.run_parts.specs.script_text.declared.script.Section.{Section}
 use Rattle.domain_attaching.specs.Settling.{StaysReadSince}
 use Rattle.advfs_run.specs.Runs.{BeginsNot, ClosesAs, HasFailed, LeadsFromNew, MakesNone, RunsFrom, WriteFailed, WritesPassed}
 use Rattle.run_parts.specs.Answering.{SameByNumber}
-use Rattle.run_parts.specs.Made.{MakeEnds, TellsOfSmall}
+use Rattle.run_parts.specs.Made.{Guards, MakeEnds, TellsOfSmall}
 use Rattle.run_parts.specs.Reading.{HasRead, IsScript}
 use Rattle.run_parts.specs.Transfer.{AppendsFront}
 use Rattle.run_parts.specs.Verified.{CountsFilesets, VerifyEnds}
@@ -111,12 +111,14 @@ EndsFor (Ok (Try pages)) old new (ended.NotADomain vol at) = ⊥
 EndsFor (Ok (Try pages)) old new (ended.Unfit why) = ⊥
 EndsFor (Ok (Try pages)) old new (ended.VolumeFault vol) = HasFailed old new vol
 EndsFor (Ok (Try pages)) old new (ended.Found faults) = ⊥
+EndsFor (Ok (Try pages)) old new (ended.Occupied page) = ⊥
 EndsFor (Ok Run) old new ended.Ok = WritesPassed old new
 EndsFor (Ok Run) old new (ended.NotADomain vol at) = NotBegun Run old new (ended.NotADomain vol at)
 EndsFor (Ok Run) old new (ended.Unfit why) = NotBegun Run old new (ended.Unfit why)
 EndsFor (Ok Run) old new (ended.VolumeFault vol) = HasFailed old new vol
 EndsFor (Ok Run) old new (ended.VolumeSmall n) = ⊥
 EndsFor (Ok Run) old new (ended.Found faults) = ⊥
+EndsFor (Ok Run) old new (ended.Occupied page) = ⊥
 EndsFor other old new status = Unit {0}
 
 -- a volume that is named after a history is one of which a write or a sync has failed
@@ -140,16 +142,18 @@ CountsFor (Ok Verify) disk found = IfSome found (λ counts. Tells disk
 CountsFor other disk found = found ≡ None
 
 -- making touches the first volume alone, and ends by its status as `MakeEnds` says, which tells of
--- a volume that is too small; of other words nothing is said
+-- a volume that is too small; it guards a volume that holds something, unless that may be
+-- overwritten; of other words nothing is said
 abbrev pub MakeEndsFor : Result Form ℕ → Disk → Disk → Status → Type 0
-MakeEndsFor (Ok (Make version)) old new status =
-    Touches old new IsOnFirst × MakeEnds version old new status × TellsOfSmall old status
+MakeEndsFor (Ok (Make version overwrites)) old new status =
+    Touches old new IsOnFirst × MakeEnds version overwrites old new status
+    × TellsOfSmall old status × Guards overwrites old new
 MakeEndsFor other old new status = Unit {0}
 
 -- a stop as a domain is made leaves no anchor that counts, or the empty domain, where none counted;
 -- else also what was there, but for the gates of anchors
 abbrev pub StopsFor : Result Form ℕ → Disk → Disk → Type 0
-StopsFor (Ok (Make version)) old new =
+StopsFor (Ok (Make version overwrites)) old new =
     let pages = pages_in_use version old.sizes in
     (Tells old → LeavesOnly old new (IsBeforeNoneOrEmpty old version pages))
     × (Tells old → AreSlotsReady old → LeavesOnly old new (IsNoneOrEmpty old.sizes version pages))

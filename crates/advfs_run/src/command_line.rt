@@ -11,13 +11,11 @@ ghost use Rattle.advfs_run.specs.Exits.{IsExit};
 use crate::NoGate;
 use crate::errands::{Verb, do_errand};
 use crate::images::{Access, Images};
-use crate::opening::{
-    Refused, check_empty, only_looks, open_images, open_one, script_given, script_named,
-};
+use crate::opening::{Refused, only_looks, open_images, open_one, script_given, script_named};
 use crate::running::run;
 use crate::telling::{
-    first_image, only_reads, overwrites, script_word, tell, tell_codes, tell_longer, tell_made,
-    tell_refused, tell_sound, word_at,
+    first_image, only_reads, script_word, tell, tell_codes, tell_longer, tell_making, tell_refused,
+    tell_sound, word_at,
 };
 use domain_attaching::{OutOfMemory, Version};
 use memory_disk::MemoryRack;
@@ -148,24 +146,19 @@ fn start_make(
     alloc: Global,
     words: &[String],
     version: Version,
+    overwrites: bool,
 ) -> Result<Status, Refused>
-    requires { Ok (Make version) ≡ form_of (map string_bytes words.now) }
+    requires { Ok (Make version overwrites) ≡ form_of (map string_bytes words.now) }
 {
     let word = first_image(words);
     let images = open_one(rt, alloc, words, word)?;
-    if !overwrites(words) {
-        check_empty(&images, word)?;
-    }
     let sizes = sizes_of(alloc, &images)?;
     let rack = images.into_rack(alloc)?;
     let mut source = ReaderSource::new(rt.reader());
     let mut sink = WriterSink::new(io::writer(rt));
     let ended = run(alloc, words, &mut source, rack, &mut sink, &NoGate);
     let status = ended.status;
-    if status == Status::Ok {
-        let _ = tell_made(rt, words, ended.rack, sizes.as_slice());
-    }
-    let _ = tell(rt, words, status);
+    let _ = tell_making(rt, words, status, ended.rack, sizes.as_slice());
     Ok(status)
 }
 
@@ -212,7 +205,12 @@ fn start(
         Err(word) => Err(Refused::Ended(Status::Usage { word })),
         Ok(Form::Try { pages }) => start_new(rt, alloc, words, pages),
         Ok(Form::Run) => start_script(rt, alloc, words),
-        Ok(Form::Make { version }) => start_make(rt, alloc, words, version),
+        Ok(
+            Form::Make {
+                version,
+                overwrites,
+            },
+        ) => start_make(rt, alloc, words, version, overwrites),
         Ok(Form::Verify) => start_verify(rt, alloc, words),
     }
 }
@@ -236,9 +234,6 @@ pub fn exit_code(status: Status) -> ExitCode
 /// The exit number if a file is not taken.
 const NOT_TAKEN: u8 = 12;
 
-/// The exit number if an image in which a domain was to be made holds something.
-const OCCUPIED: u8 = 13;
-
 /// The exit number if a command was refused of a script that the program made.
 const NOT_ANSWERED: u8 = 14;
 
@@ -248,15 +243,13 @@ fn refused_code(refused: &Refused) -> ExitCode
 {
     match refused {
         Refused::Ended(status) => exit_code(*status),
-        Refused::Occupied { .. } => ExitCode::from(OCCUPIED),
         Refused::Answer(_) => ExitCode::from(NOT_ANSWERED),
         Refused::Script { .. } | Refused::Image { .. } => ExitCode::from(NOT_TAKEN),
     }
 }
 
 /// The whole program. It ends with the number of a status; with 12 if a script or an image that the
-/// words name is not taken; with 13 if a domain was to be made where something stands; or with 14
-/// if a command of a script that it made itself was refused.
+/// words name is not taken; or with 14 if a command was refused of a script that it made itself.
 pub fn program(
     rt: &(impl Env + Input + Print + Eprint + Files<File = File>),
     alloc: Global,

@@ -2,9 +2,7 @@
 ghost use Rattle.std.specs.Prelude.{◌≡◌, ◌+◌, ◌≤◌, IfOk, OnErr, OnOk, length, vec_len};
 
 use domain_attaching::OutOfMemory;
-use domain_attaching::limits::{
-    BLOCK_BYTES, BLOCKS_PER_PAGE, MAX_VOLUMES, MIN_FIRST_VOLUME_PAGES, PAGE_BYTES,
-};
+use domain_attaching::limits::{BLOCK_BYTES, BLOCKS_PER_PAGE, MAX_VOLUMES, PAGE_BYTES};
 use memory_disk::FileRack;
 use std::alloc::Global;
 use std::fs::{self, File, Metadata, OpenOptions, TryLockError};
@@ -32,8 +30,6 @@ pub enum Access {
 pub enum ImageFault {
     /// It cannot be opened.
     Closed(io::Error),
-    /// Its bytes cannot be read.
-    Unread(io::Error),
     /// It is a folder.
     Folder,
     /// It is a pipe, a socket or a device of characters, whose bytes have no places.
@@ -54,7 +50,6 @@ impl fmt::Display for ImageFault {
     fn fmt<W: fmt::Write>(&self, f: &mut fmt::Formatter<W>) -> fmt::Result {
         match self {
             ImageFault::Closed(error) => write!(f, "cannot be opened: {error}"),
-            ImageFault::Unread(error) => write!(f, "cannot be read: {error}"),
             ImageFault::Folder => f.write_str("cannot be opened: it is a folder"),
             ImageFault::Stream => {
                 f.write_str("cannot be opened: it is neither a file nor a block device")
@@ -223,7 +218,6 @@ pub struct Image {
 impl Image {
     /// Opens a file as an image, locked against what other programs must not do meanwhile.
     fn open(rt: &impl Files<File = File>, name: &str, access: Access) -> Result<Image, ImageFault> {
-        check_kind(&known(fs::metadata(rt, name))?)?;
         let mut file = open_locked(rt, name, access)?;
         let metadata = known(file.metadata())?;
         let bytes = known(size_of(&mut file, &metadata))?;
@@ -238,35 +232,6 @@ impl Image {
     /// How many whole pages of 8,192 bytes it has.
     pub fn pages(&self) -> u32 {
         self.pages
-    }
-
-    /// Whether a block of 512 bytes has a byte that is not zero.
-    fn is_used(&self, block: u32) -> io::Result<bool> {
-        let mut bytes = [0; BLOCK_BYTES];
-        self.file.read_exact_at(&mut bytes, first_byte(block))?;
-        Ok(bytes.iter().any(|byte| *byte != 0))
-    }
-
-    /// The first of the pages that each domain uses, 0 to 159, that has a byte other than zero;
-    /// None if there is none, or if the image is smaller.
-    pub fn first_used_page(&self) -> io::Result<Option<u32>> {
-        if self.pages < MIN_FIRST_VOLUME_PAGES {
-            return Ok(None);
-        }
-        for block in 0..MIN_FIRST_VOLUME_PAGES * BLOCKS_PER_PAGE {
-            if self.is_used(block)? {
-                return Ok(Some(block / BLOCKS_PER_PAGE));
-            }
-        }
-        Ok(None)
-    }
-
-    /// What its label says; None if it has none, or is too small for one.
-    pub fn label(&self) -> io::Result<Option<ImageLabel>> {
-        if self.pages == 0 {
-            return Ok(None);
-        }
-        label_of(&self.file)
     }
 }
 
@@ -310,13 +275,15 @@ impl Images {
         if self.list.len() >= MAX_VOLUMES as usize {
             return Err(ImageFault::TooMany);
         }
-        let image = Image::open(rt, name, access)?;
+        let metadata = known(fs::metadata(rt, name))?;
+        check_kind(&metadata)?;
+        let identity = Identity::of(&metadata);
         for other in self.list.iter() {
-            if other.identity == image.identity {
+            if other.identity == identity {
                 return Err(ImageFault::Twice);
             }
         }
-        match self.list.push(image) {
+        match self.list.push(Image::open(rt, name, access)?) {
             Ok(()) => Ok(()),
             Err(_) => Err(ImageFault::OutOfMemory),
         }

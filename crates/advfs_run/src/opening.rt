@@ -2,7 +2,7 @@
 ghost use Rattle.std.specs.Prelude.{◌≡◌, IfOk};
 ghost use Rattle.advfs_run.specs.Images.{image_count};
 
-use crate::images::{Access, Image, ImageFault, ImageLabel, Images};
+use crate::images::{Access, ImageFault, Images};
 use crate::telling::word_at;
 use domain_attaching::OutOfMemory;
 use domain_attaching::limits::MAX_SCRIPT_BYTES;
@@ -17,22 +17,9 @@ use std::{io, str};
 #[derive(Drop)]
 pub(crate) enum Refused {
     /// The script that is named after `word` words cannot be opened.
-    Script {
-        word: usize,
-        error: io::Error,
-    },
+    Script { word: usize, error: io::Error },
     /// The image that is named after `word` words is not taken.
-    Image {
-        word: usize,
-        fault: ImageFault,
-    },
-    /// The image in which a domain was to be made holds something: the first page that is not all
-    /// zeros, and what the label says if there is one.
-    Occupied {
-        word: usize,
-        page: u32,
-        label: Option<ImageLabel>,
-    },
+    Image { word: usize, fault: ImageFault },
     /// What was to be done first ended with this status.
     Ended(Status),
     /// A command of a script that the program made was refused: its line of a history.
@@ -146,29 +133,5 @@ pub(crate) fn open_one(
     match images.add(rt, word_at(words, word), Access::Writes) {
         Ok(()) => Ok(images),
         Err(fault) => Err(Refused::Image { word, fault }),
-    }
-}
-
-/// What an image holds where each domain has its first pages: the first page that is not all zeros,
-/// with what the label says.
-fn held_by(image: &Image) -> io::Result<Option<(u32, Option<ImageLabel>)>> {
-    match image.first_used_page()? {
-        Some(page) => Ok(Some((page, image.label()?))),
-        None => Ok(None),
-    }
-}
-
-/// Refuses an image that holds something where each domain has its first pages.
-pub(crate) fn check_empty(images: &Images, word: usize) -> Result<(), Refused> {
-    let Some(image) = images.list().first() else {
-        return Ok(());
-    };
-    match held_by(image) {
-        Ok(None) => Ok(()),
-        Ok(Some((page, label))) => Err(Refused::Occupied { word, page, label }),
-        Err(error) => Err(Refused::Image {
-            word,
-            fault: ImageFault::Unread(error),
-        }),
     }
 }

@@ -215,7 +215,8 @@ pub(crate) fn run_text<R: Rack, K: Sink>(
 /// domain, and print the history: `try` over a new domain of version 4 that is made on the rack's
 /// volume, `run` over the domain that the rack has. The domain is closed before the history is
 /// printed. The gate is passed before each turn of a client and after its last, with the client's
-/// number less one. `mkfdmn` makes an empty domain on the rack's volume and prints nothing.
+/// number less one. `mkfdmn` makes an empty domain on the rack's volume and prints nothing; if the
+/// volume holds something, only `mkfdmn -o` does.
 /// `verify` prints the faults of the domain on the rack, and writes nothing to it.
 pub fn run<S: Source, R: Rack + Send, K: Sink, G: Gate + Sync>(
     alloc: Global,
@@ -277,7 +278,12 @@ pub fn run<S: Source, R: Rack + Send, K: Sink, G: Gate + Sync>(
     let mut rack = rack;
     let (status, counts) = match form_asked(words) {
         Err(word) => (Status::Usage { word }, None),
-        Ok(Form::Make { version }) => (make(alloc, &mut rack, version), None),
+        Ok(
+            Form::Make {
+                version,
+                overwrites,
+            },
+        ) => (make(alloc, &mut rack, version, overwrites), None),
         Ok(Form::Verify) => {
             let Findings { status, counts } = verify(alloc, &mut rack, sink);
             (status, counts)

@@ -22,11 +22,6 @@ pub(crate) fn only_reads(words: &[String]) -> bool {
     word_at(words, 0) == "run" && word_at(words, 1) == LOOK_WORD
 }
 
-/// Whether `mkfdmn` overwrites what an image holds.
-pub(crate) fn overwrites(words: &[String]) -> bool {
-    word_at(words, 1) == OVER_WORD || word_at(words, 2) == OVER_WORD
-}
-
 /// The place of the word that names the script of `run`.
 pub(crate) fn script_word(words: &[String]) -> usize {
     if only_reads(words) { 2 } else { 1 }
@@ -129,7 +124,9 @@ fn tell_no_domain(rt: &impl Eprint, words: &[String], vol: u32, at: u32) -> io::
     let name = volume_name(words, vol);
     match at {
         0 => eprintln!(rt; "{name}: page 0 is not the label of volume {vol} of the domain.")?,
-        1 => eprintln!(rt; "{name}: no anchor counts, so there is no domain.")?,
+        1 => eprintln!(rt;
+            "{name}: no anchor counts: there is no domain, or its images stand in another order."
+        )?,
         _ => eprintln!(rt; "{name}: page {at} breaks a rule of domains.")?,
     }
     eprintln!(rt; "Nothing was written. `advfs verify` prints all faults of the image.")
@@ -184,10 +181,20 @@ fn tell_too_long(rt: &impl Eprint, words: &[String]) -> io::Result<()> {
     }
 }
 
+/// Tells that an image in which a domain was to be made holds something.
+fn tell_occupied(rt: &impl Eprint, words: &[String], page: u32) -> io::Result<()> {
+    let name = volume_name(words, 1);
+    eprintln!(rt;
+        "{name} is not empty: page {page} is not all zeros. Nothing was written. \
+        `advfs mkfdmn {OVER_WORD} {name}` overwrites what it holds."
+    )
+}
+
 /// Tells in words what a status means, and what to do next.
 fn tell_words(rt: &impl Eprint, words: &[String], status: Status) -> io::Result<()> {
     match status {
         Status::Ok | Status::Found { .. } | Status::BadScript { .. } => Ok(()),
+        Status::Occupied { page } => tell_occupied(rt, words, page),
         Status::Usage { word } => tell_usage(rt, words, word as usize),
         Status::SourceFault => {
             let name = script_name(words);
@@ -224,7 +231,7 @@ pub(crate) fn tell(rt: &impl Eprint, words: &[String], status: Status) -> io::Re
 /// What each code of a fault means, from code 1 on.
 const CODE_WORDS: [&str; 10] = [
     "the label of a volume: the wrong file, an incomplete one, or volumes in another order",
-    "no anchor counts, or it is out of range: there is no domain",
+    "no anchor counts: there is no domain, or its images stand in another order",
     "a group of the log: keep the image, and take a copy from your backup",
     "the table of filesets: it is not known for sure which files there are",
     "cells: it is not known for sure which files there are",
@@ -361,14 +368,35 @@ fn tell_images(
     Ok(())
 }
 
-/// Tells what was made.
-pub(crate) fn tell_made(
+/// Tells of each image that is a volume of a domain which domain that is.
+fn tell_labels(rt: &impl Eprint, words: &[String], rack: FileRack) -> io::Result<()> {
+    let files = rack.into_files();
+    for (i, file) in files.iter().enumerate() {
+        let name = word_at(words, first_image(words).saturating_add(i));
+        if let Some(label) = label_of(file)? {
+            let (number, version, pages) = (label.number, label.version, Grouped(label.pages));
+            eprintln!(rt;
+                "{name} holds volume {number} of a domain of version {version}, with {pages} pages."
+            )?;
+        }
+    }
+    Ok(())
+}
+
+/// Tells what was made, or why nothing was.
+pub(crate) fn tell_making(
     rt: &impl Eprint,
     words: &[String],
+    status: Status,
     rack: FileRack,
     sizes: &[u32],
 ) -> io::Result<()> {
-    tell_images(rt, words, rack, sizes, false, None)
+    tell(rt, words, status)?;
+    match status {
+        Status::Ok => tell_images(rt, words, rack, sizes, false, None),
+        Status::Occupied { .. } => tell_labels(rt, words, rack),
+        _ => Ok(()),
+    }
 }
 
 /// Tells of a domain without a fault what it has.
@@ -380,32 +408,6 @@ pub(crate) fn tell_sound(
     counts: Option<DomainCounts>,
 ) -> io::Result<()> {
     tell_images(rt, words, rack, sizes, true, counts)
-}
-
-/// Tells that an image in which a domain was to be made holds something.
-fn tell_occupied(
-    rt: &impl Eprint,
-    name: &str,
-    page: u32,
-    label: Option<ImageLabel>,
-) -> io::Result<()> {
-    eprintln!(rt; "advfs: Occupied {page}")?;
-    match label {
-        Some(
-            ImageLabel {
-                version,
-                number,
-                pages,
-                ..
-            },
-        ) => eprintln!(rt;
-            "{name} holds volume {number} of a domain of version {version}, with {pages} pages."
-        )?,
-        None => eprintln!(rt; "{name} is not empty: page {page} is not all zeros.")?,
-    }
-    eprintln!(rt;
-        "Nothing was written. `advfs mkfdmn {OVER_WORD} {name}` overwrites what it holds."
-    )
 }
 
 /// Tells which command was refused, with its reply. A line of a history begins with its client.
@@ -436,9 +438,6 @@ pub(crate) fn tell_refused(
         Refused::Image { word, fault } => {
             let name = word_at(words, *word);
             eprintln!(rt; "advfs: {name} {fault}")
-        }
-        Refused::Occupied { word, page, label } => {
-            tell_occupied(rt, word_at(words, *word), *page, *label)
         }
         Refused::Ended(status) => tell(rt, words, *status),
         Refused::Answer(line) => tell_answer(rt, words, line.as_slice()),

@@ -201,11 +201,16 @@ pub(crate) fn put(
     }
 }
 
-/// A script that reads the pages of a file from an offset on, as many as it has room for.
-fn reading_script(alloc: Global, place: &str, offset: u64) -> Result<Vec<u8>, OutOfMemory> {
+/// A script that reads so many pages of a file from an offset on, or as many as it has room for.
+fn reading_script(
+    alloc: Global,
+    place: &str,
+    offset: u64,
+    pages: u64,
+) -> Result<Vec<u8>, OutOfMemory> {
     let mut script = new_script(alloc)?;
     let mut offset = offset;
-    for _ in 0..COMMANDS {
+    for _ in 0..pages.min(COMMANDS as u64) {
         if script.len() >= SCRIPT_BYTES {
             return Ok(script);
         }
@@ -218,25 +223,32 @@ fn reading_script(alloc: Global, place: &str, offset: u64) -> Result<Vec<u8>, Ou
     Ok(script)
 }
 
-/// Prints what reads of whole pages gave. Returns how many bytes they were, or None if the file has
-/// ended with them.
-fn print_pages(rt: &impl Print, alloc: Global, history: &[Entry]) -> Result<Option<u64>, Refused> {
+/// How many pages a file has to be read: those of its size, or one if it has no size, so that the
+/// read tells why.
+fn pages_to_read(asked: Option<&Entry>) -> u64 {
+    match asked {
+        Some(entry) => match entry.reply {
+            Reply::FileStat { size, .. } => size.div_ceil(PAGE_BYTES as u64),
+            _ => 1,
+        },
+        None => 1,
+    }
+}
+
+/// Prints what reads of pages gave. Returns how many bytes they were.
+fn print_pages(rt: &impl Print, alloc: Global, history: &[Entry]) -> Result<u64, Refused> {
     let mut sink = WriterSink::new(io::writer(rt));
     let mut count: u64 = 0;
     for entry in history {
         let Reply::Read(bytes) = &entry.reply else {
             return Err(answer_refused(alloc, entry));
         };
-        let page = bytes.as_slice();
-        if write_all(&mut sink, page).is_err() {
+        if write_all(&mut sink, bytes.as_slice()).is_err() {
             return Err(Refused::Ended(Status::SinkFault));
-        }
-        if page.len() < PAGE_BYTES {
-            return Ok(None);
         }
         count = count.saturating_add(PAGE_BYTES as u64);
     }
-    Ok(Some(count))
+    Ok(count)
 }
 
 /// Prints the bytes of the file at a place.
@@ -246,15 +258,21 @@ pub(crate) fn get(
     place: &str,
     rack: FileRack,
 ) -> Result<(), Refused> {
-    let mut rack = rack;
+    let mut asking = new_script(alloc)?;
+    push_words(&mut asking, "stat", place)?;
+    asking.push(b'\n')?;
+    let (mut rack, asked) = answers_to(alloc, asking, rack)?;
+    let end = pages_to_read(asked.as_slice().first()).saturating_mul(PAGE_BYTES as u64);
     let mut offset: u64 = 0;
     for _ in 0..FILE_PAGES {
-        let (back, history) = answers_to(alloc, reading_script(alloc, place, offset)?, rack)?;
-        rack = back;
-        match print_pages(rt, alloc, history.as_slice())? {
-            Some(count) if count > 0 => offset = offset.saturating_add(count),
-            _ => return Ok(()),
+        if offset >= end {
+            return Ok(());
         }
+        let pages = (end - offset).div_ceil(PAGE_BYTES as u64);
+        let script = reading_script(alloc, place, offset, pages)?;
+        let (back, history) = answers_to(alloc, script, rack)?;
+        rack = back;
+        offset = offset.saturating_add(print_pages(rt, alloc, history.as_slice())?);
     }
     Ok(())
 }
