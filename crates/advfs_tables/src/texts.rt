@@ -14,7 +14,7 @@ static KINDS: [FaultKind; 8] = [
     FaultKind::TooManyCommands,
 ];
 
-static STATUSES: [Status; 12] = [
+static STATUSES: [Status; 13] = [
     Status::Ok,
     Status::Usage { word: 3 },
     Status::SourceFault,
@@ -29,6 +29,7 @@ static STATUSES: [Status; 12] = [
     Status::Found { faults: 12 },
     Status::OutOfMemory,
     Status::VolumeSmall { pages: 159 },
+    Status::Occupied { page: 2 },
     Status::Unfit {
         why: Unattached::Cloned,
     },
