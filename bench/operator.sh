@@ -44,6 +44,7 @@ script() {
 
 script make "mkfset home" "create home:/a 10 20"
 script look "showfsets" "list home:/"
+script change "create home:/c 10 20"
 truncate -s 4M home.img
 ends "a bad script on an empty image" 6 "no anchor counts" "$advfs" run make home.img
 
@@ -62,7 +63,8 @@ ends "mkfdmn on a small file" 11 "a domain needs 160" "$advfs" mkfdmn small.img
 # scripts that write and scripts that look
 "$advfs" run make home.img >out 2>told || { echo "run failed"; cat told; failed=1; }
 ends "a script that looks" 0 "" "$advfs" run look home.img
-ends "run -r with a script that writes" 7 "home.img" "$advfs" run -r make home.img
+ends "run -r with a script that writes" 7 "open for reading alone" \
+    "$advfs" run -r change home.img
 if [ "$(id -u)" != 0 ]; then
     chmod a-w home.img
     ends "a look at an image that may not be written" 0 "" "$advfs" run look home.img
@@ -157,7 +159,10 @@ ends "two volumes" 0 "two.img: sound; version 4, 512 pages" "$advfs" verify one.
 ends "the counts of two volumes" 0 "one.img: sound; version 4, 0 filesets, 0 files, 512 pages" \
     "$advfs" verify one.img two.img
 ends "the first of two volumes" 6 "" "$advfs" run look one.img
-ends "two volumes in the other order" 9 "code 1: the label" "$advfs" verify two.img one.img
+ends "two volumes in the other order" 9 "its images stand in another order" \
+    "$advfs" verify two.img one.img
+ends "a look at two volumes in the other order" 6 "its images stand in another order" \
+    "$advfs" run look two.img one.img
 script both "mkfset home" "create home:/a 0 0" "write home:/a 0 41x8192" "showfdmn"
 "$advfs" run both one.img two.img >out 2>told || { echo "run on two failed"; cat told; failed=1; }
 grep -qE 'showfdmn -> ok 1:512:[0-9]+:[0-9]+:L 2:512:[0-9]+:[0-9]+:-' out || {

@@ -1,7 +1,8 @@
 #!/bin/sh
-# Makes a tree of 1,000 files, puts it into a new domain with bench/import.sh, takes it out again
-# with bench/export.sh, and compares the two. It needs some 50 MB in the folder that is named, or in
-# the one for temporary files. ADVFS is the program, if it is not ./advfs.
+# Makes a tree of 1,000 files, ten in each directory, puts it into a new domain with
+# bench/import.sh, takes it out again with bench/export.sh, and compares the two. It needs some 50 MB
+# in the folder that is named, or in the one for temporary files. ADVFS is the program, if it is not
+# ./advfs, and DIRECTORIES the number of directories, if it is not 100.
 top=$(cd "$(dirname "$0")/.." && pwd) || exit 1
 advfs=${ADVFS:-$top/advfs}
 "$advfs" --version >&2 || exit 1
@@ -12,7 +13,7 @@ cd "$folder" || exit 1
 # sizes of files: none, around a page, and some pages
 sizes="0 1 511 8191 8192 8193 20000 65536 3 100"
 number=0
-while [ $number -lt 100 ]; do
+while [ $number -lt "${DIRECTORIES:-100}" ]; do
     directory="tree/part $((number % 7))/d$number"
     mkdir -p "$directory" || exit 1
     for size in $sizes; do
