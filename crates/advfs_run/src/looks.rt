@@ -5,7 +5,7 @@ ghost use Rattle.std.specs.Prelude.{◌<◌, ◌≤◌, ◌^◌};
 use crate::opening::Refused;
 use crate::running::run_text;
 use crate::telling::{first_image, word_at};
-use crate::transfers::{answer_refused, answers_to, new_script, push_words};
+use crate::transfers::{answer_refused, answers_to, look, new_script, push_words};
 use client_commands::Reply;
 use domain_attaching::limits::PAGE_BYTES;
 use domain_attaching::{Entry, OutOfMemory};
@@ -64,14 +64,6 @@ fn printed(answer: io::Result<()>) -> Result<(), Refused> {
         Ok(()) => Ok(()),
         Err(_) => Err(Refused::Ended(Status::SinkFault)),
     }
-}
-
-/// A script with one command.
-fn look(alloc: Global, command: &str, word: &str) -> Result<Vec<u8>, OutOfMemory> {
-    let mut script = new_script(alloc)?;
-    push_words(&mut script, command, word)?;
-    script.push(b'\n')?;
-    Ok(script)
 }
 
 /// The reply to a look that is the only command of its history.

@@ -64,6 +64,14 @@ pub(crate) fn push_words(
     Ok(())
 }
 
+/// A script with one command.
+pub(crate) fn look(alloc: Global, command: &str, word: &str) -> Result<Vec<u8>, OutOfMemory> {
+    let mut script = new_script(alloc)?;
+    push_words(&mut script, command, word)?;
+    script.push(b'\n')?;
+    Ok(script)
+}
+
 /// Adds a number after a space.
 fn push_next(script: &mut Vec<u8>, number: u64) -> Result<(), OutOfMemory> {
     script.push(b' ')?;
@@ -258,10 +266,7 @@ pub(crate) fn get(
     place: &str,
     rack: FileRack,
 ) -> Result<(), Refused> {
-    let mut asking = new_script(alloc)?;
-    push_words(&mut asking, "stat", place)?;
-    asking.push(b'\n')?;
-    let (mut rack, asked) = answers_to(alloc, asking, rack)?;
+    let (mut rack, asked) = answers_to(alloc, look(alloc, "stat", place)?, rack)?;
     let end = pages_to_read(asked.as_slice().first()).saturating_mul(PAGE_BYTES as u64);
     let mut offset: u64 = 0;
     for _ in 0..FILE_PAGES {
