@@ -1,5 +1,5 @@
-//! The program again: it makes no domain in a file that holds something, and ends with the number for
-//! that.
+//! The program again: it makes no domain in a file that holds something, and ends with the number
+//! for that.
 #![tactic(auto)]
 
 use advfs_run::program;
