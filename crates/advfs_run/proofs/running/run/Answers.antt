@@ -21,7 +21,7 @@ returns-clause-touches g c =
     elim c.match-form_asked.branch [
       | in-Err w ↦ rw (w.rack-is) (touches-none disk Anywhere)
       | in-Ok-Make w ↦ rw (w.rack-is) (anywhere disk _ IsOnFirst w.make.ensures.touches)
-      | in-Ok-Verify w ↦ rw (w.rack-is) (anywhere disk _ NoPlace w.verify.ensures.reads.touches)
+      | in-Ok-Verify w ↦ rw (w.rack-is) (anywhere disk _ NoPlace w.verify-status.ensures.reads.touches)
     ]
 
 pub returns-in-Ok-clause-counted : goal.returns-in-Ok-clause-counted
