@@ -143,6 +143,18 @@ ends "a look at an image longer than its domain" 0 "the domain uses the first 51
     "$advfs" run look long.img
 ends "zeros" 9 "code 2: no anchor counts" "$advfs" verify zeros.img
 
+# a block device, whose size is not that of its file
+truncate -s 4M block.img
+device=$(losetup -f --show block.img 2>/dev/null)
+if [ "$device" ]; then
+    ends "mkfdmn on a block device" 0 "512 pages (4.0 MiB)" "$advfs" mkfdmn "$device"
+    ends "verify of a block device" 0 "sound; version 4" "$advfs" verify "$device"
+    ends "a block device named twice" 12 "it is named twice" "$advfs" verify "$device" "$device"
+    losetup -d "$device"
+else
+    echo "a block device: not tried, since none may be set up here"
+fi
+
 # a domain of two volumes: the second is written here by hand, as docs/FORMAT.md has it
 at() {
     dd of="$1" bs=1 seek="$2" conv=notrunc 2>/dev/null
