@@ -2,7 +2,7 @@
 //! takes them out.
 #![tactic(auto)]
 
-use advfs_run::program;
+use advfs_program::program;
 use std::process::ExitCode;
 
 fn main(rt: HostRuntime) -> ExitCode {

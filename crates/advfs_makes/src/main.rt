@@ -1,7 +1,7 @@
 //! The program again: it makes an empty domain in an image of zeros, and prints nothing.
 #![tactic(auto)]
 
-use advfs_run::program;
+use advfs_program::program;
 use std::process::ExitCode;
 
 fn main(rt: HostRuntime) -> ExitCode {

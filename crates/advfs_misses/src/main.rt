@@ -1,7 +1,7 @@
 //! The program again: it ends with the number for a file that is not taken, since there is none.
 #![tactic(auto)]
 
-use advfs_run::program;
+use advfs_program::program;
 use std::process::ExitCode;
 
 fn main(rt: HostRuntime) -> ExitCode {

@@ -2,8 +2,6 @@ pub mod Quiet
 pub mod Runs
 pub mod Statuses
 pub mod Run
-pub mod Exits
-pub mod Images
 pub use Rattle.domain_attaching.specs.domain_base
 pub use Rattle.domain_attaching.specs.fileset_model
 pub use Rattle.domain_attaching.specs.fileset_values

@@ -3,32 +3,30 @@
 //! clauses.
 #![tactic(auto)]
 
-mod command_line;
-mod errands;
 mod gates;
-mod images;
 mod laws;
-mod looks;
-mod opening;
+mod racks;
 mod running;
 mod runs;
 mod statuses;
-mod telling;
-mod transfers;
 mod turns;
 
-pub use command_line::{exit_code, new_rack, program};
 pub use gates::{Gate, NoGate};
 pub use laws::a_script_is_served;
-pub use running::{Ended, run};
+pub use racks::new_rack;
+pub use running::{Ended, run, run_text};
 pub use runs::{Ran, run_new, run_on};
 pub use turns::{answer_sections, take_turn};
 
 // What stands below and is named above.
-pub use domain_attaching::{Actor, Command, Entry, Filesets, Rack, VolIx, apply, limits};
-pub use memory_disk::MemoryRack;
+pub use client_commands::{Refusal, Reply};
+pub use domain_attaching::{
+    Actor, Command, Entry, Filesets, OutOfMemory, Rack, Version, VolIx, apply, limits,
+};
+pub use memory_disk::{FileRack, MemoryRack};
 pub use run_parts::{
-    DomainCounts, FaultKind, Form, HELP, MemorySink, MemorySource, PrintError, ReadError,
-    ScriptFault, Section, Status, Unattached, VERSION, form_asked, history_line, read_script,
-    zeros,
+    BadLine, CodeSink, DomainCounts, FaultCodes, FaultKind, Form, HELP, LOOK_WORD, MemorySink,
+    MemorySource, OVER_WORD, PrintError, ReadError, ReaderSource, ScriptFault, Section, Source,
+    Status, Unattached, VERSION, WriterSink, form_asked, halves, history_line, is_place,
+    push_number, read_all, read_script, small_number, write_all, zeros,
 };

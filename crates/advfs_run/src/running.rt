@@ -194,12 +194,7 @@ fn run_script<S: Source, R: Rack, K: Sink, G: Gate>(
 }
 
 /// Answers a script that is given as a text, as `run` does over the domain that the rack holds.
-pub(crate) fn run_text<R: Rack, K: Sink>(
-    alloc: Global,
-    script: Vec<u8>,
-    rack: R,
-    sink: &mut K,
-) -> Ended<R>
+pub fn run_text<R: Rack, K: Sink>(alloc: Global, script: Vec<u8>, rack: R, sink: &mut K) -> Ended<R>
     ensures runs { RunsFor (Ok Run) (R.disk rack) (R.disk result.rack) result.status
         result.history.items }
     ensures quiet { TellNoFault result.history.items }

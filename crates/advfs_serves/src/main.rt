@@ -1,7 +1,7 @@
 //! The program again: it answers a script over a domain that an image holds, and changes it.
 #![tactic(auto)]
 
-use advfs_run::program;
+use advfs_program::program;
 use std::process::ExitCode;
 
 fn main(rt: HostRuntime) -> ExitCode {

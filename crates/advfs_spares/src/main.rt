@@ -2,7 +2,7 @@
 //! for that.
 #![tactic(auto)]
 
-use advfs_run::program;
+use advfs_program::program;
 use std::process::ExitCode;
 
 fn main(rt: HostRuntime) -> ExitCode {

@@ -1,9 +1,8 @@
 //! Images: files of the operating system that are opened as the volumes of a rack.
 ghost use Rattle.std.specs.Prelude.{◌≡◌, ◌+◌, ◌≤◌, IfOk, OnErr, OnOk, length, vec_len};
 
-use domain_attaching::OutOfMemory;
-use domain_attaching::limits::{BLOCK_BYTES, BLOCKS_PER_PAGE, MAX_VOLUMES, PAGE_BYTES};
-use memory_disk::FileRack;
+use advfs_run::limits::{BLOCK_BYTES, BLOCKS_PER_PAGE, MAX_VOLUMES, PAGE_BYTES};
+use advfs_run::{FileRack, OutOfMemory};
 use std::alloc::Global;
 use std::fs::{self, File, Metadata, OpenOptions, TryLockError};
 use std::io::{Seek, SeekFrom};
@@ -243,8 +242,8 @@ pub struct Images {
 }
 
 impl Images {
-    ghost use Rattle.memory_disk.specs.Files.{file_disk};
-    ghost use Rattle.advfs_run.specs.Images.{image_count};
+    ghost use Rattle.advfs_run.specs.memory_disk.Files.{file_disk};
+    ghost use Rattle.advfs_program.specs.Images.{image_count};
 
     /// No image yet.
     pub fn new(alloc: Global) -> Images

@@ -4,8 +4,7 @@
 use crate::errands::{LINES_WORD, OWNER_WORD};
 use crate::images::{ImageLabel, free_pages, label_of};
 use crate::opening::Refused;
-use memory_disk::FileRack;
-use run_parts::{DomainCounts, FaultCodes, LOOK_WORD, OVER_WORD, Status};
+use advfs_run::{DomainCounts, FaultCodes, FileRack, LOOK_WORD, OVER_WORD, Status};
 use std::fs::File;
 use std::{fmt, io, str};
 

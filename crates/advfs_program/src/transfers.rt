@@ -3,12 +3,11 @@
 
 use crate::errands::FileOwner;
 use crate::opening::Refused;
-use crate::running::{Ended, run_text};
-use client_commands::{Refusal, Reply};
-use domain_attaching::limits::{FILE_BYTES, FILE_PAGES, PAGE_BYTES};
-use domain_attaching::{Command, Entry, OutOfMemory};
-use memory_disk::FileRack;
-use run_parts::{ReaderSource, Status, WriterSink, history_line, push_number, read_all, write_all};
+use advfs_run::limits::{FILE_BYTES, FILE_PAGES, PAGE_BYTES};
+use advfs_run::{
+    Command, Ended, Entry, FileRack, OutOfMemory, ReaderSource, Refusal, Reply, Status, WriterSink,
+    history_line, push_number, read_all, run_text, write_all,
+};
 use std::alloc::Global;
 use std::io;
 

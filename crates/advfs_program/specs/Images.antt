@@ -1,6 +1,6 @@
 -- Images that are open.
 use Rattle.std.specs.Prelude.{ℕ, length}
-use Rattle.advfs_run.specs.declared.images.Images.{Images}
+use Rattle.advfs_program.specs.declared.images.Images.{Images}
 
 -- how many there are
 abbrev pub image_count : Images → ℕ

@@ -1,27 +1,22 @@
 //! The program around `run`: its words, the rack that they ask for, standard input and output, and
 //! the exit number.
-ghost use Rattle.std.specs.Prelude.{◌≡◌, false, [], ◌∷◌, IfOk, Ok, map, string_bytes};
-ghost use Rattle.run_parts.specs.Usage.{form_of};
-ghost use Rattle.run_parts.specs.declared.words.Form.TheVariants.{Make, Run, Try, Verify};
+ghost use Rattle.std.specs.Prelude.{◌≡◌, Ok, map, string_bytes};
+ghost use Rattle.advfs_run.specs.run_parts.Usage.{form_of};
+ghost use Rattle.advfs_run.specs.run_parts.declared.words.Form.TheVariants.{Make, Run, Try, Verify};
 ghost use Rattle.std.specs.Process.{exit_status};
-ghost use Rattle.memory_disk.specs.Memory.{memory_disk, started};
-ghost use Rattle.run_parts.specs.Exit.{exit_number};
-ghost use Rattle.advfs_run.specs.Exits.{IsExit};
+ghost use Rattle.advfs_run.specs.run_parts.Exit.{exit_number};
+ghost use Rattle.advfs_program.specs.Exits.{IsExit};
 
-use crate::NoGate;
 use crate::errands::{Verb, do_errand};
 use crate::images::{Access, Images};
 use crate::opening::{Refused, only_looks, open_images, open_one, script_given, script_named};
-use crate::running::run;
 use crate::telling::{
     first_image, only_reads, script_word, tell, tell_codes, tell_longer, tell_making, tell_refused,
     tell_sound, word_at,
 };
-use domain_attaching::{OutOfMemory, Version};
-use memory_disk::MemoryRack;
-use run_parts::{
-    BadLine, CodeSink, Form, HELP, MemorySource, ReaderSource, Status, VERSION, WriterSink,
-    form_asked, write_all, zeros,
+use advfs_run::{
+    BadLine, CodeSink, Form, HELP, MemorySource, NoGate, OutOfMemory, ReaderSource, Status,
+    VERSION, Version, WriterSink, form_asked, new_rack, run, write_all, zeros,
 };
 use std::alloc::Global;
 use std::env::FillError;
@@ -57,15 +52,6 @@ fn text_asked(words: &[String]) -> Option<&'static str> {
         "--version" if words.len() == 1 => Some(VERSION),
         _ => None,
     }
-}
-
-/// A new rack in memory with one volume of `pages` pages of 8,192 bytes. Nothing is pending on it,
-/// no call has been counted yet, and no call fails. An error is returned only if memory runs out.
-pub fn new_rack(alloc: Global, pages: u32) -> Result<MemoryRack, OutOfMemory>
-    ensures { IfOk result (λ rack. memory_disk rack
-        ≡ started (pages ∷ []) (λ _ _. 0) [] false) }
-{
-    MemoryRack::new(alloc, &[pages], &[], false)
 }
 
 /// Tells how a run of a script ended; of a bad line also its text and its words.

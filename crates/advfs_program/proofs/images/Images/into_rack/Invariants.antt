@@ -1,5 +1,5 @@
 use Rattle.std.proofs.Common.{◌≡◌, length}
-use Rattle.advfs_run.proofs.images.Images.into_rack.Given as goal
+use Rattle.advfs_program.proofs.images.Images.into_rack.Given as goal
 
 abbrev pub invariant-loop-image : goal.invariant-loop-image
 invariant-loop-image l = record {

@@ -1,12 +1,11 @@
 //! The files that the words name: a script, and images.
 ghost use Rattle.std.specs.Prelude.{◌≡◌, IfOk};
-ghost use Rattle.advfs_run.specs.Images.{image_count};
+ghost use Rattle.advfs_program.specs.Images.{image_count};
 
 use crate::images::{Access, ImageFault, Images};
 use crate::telling::word_at;
-use domain_attaching::OutOfMemory;
-use domain_attaching::limits::MAX_SCRIPT_BYTES;
-use run_parts::{ReaderSource, Source, Status, read_all};
+use advfs_run::limits::MAX_SCRIPT_BYTES;
+use advfs_run::{OutOfMemory, ReaderSource, Source, Status, read_all};
 use std::alloc::Global;
 use std::fs::{File, OpenOptions};
 use std::ops::Range;
@@ -28,8 +27,8 @@ pub(crate) enum Refused {
 
 impl From<OutOfMemory> for Refused {
     ghost use Rattle.std.specs.Prelude.{◌≡◌};
-    ghost use Rattle.run_parts.specs.declared.status.Status.TheVariants as status;
-    ghost use Rattle.advfs_run.specs.declared.opening.Refused.TheVariants.{Ended};
+    ghost use Rattle.advfs_run.specs.run_parts.declared.status.Status.TheVariants as status;
+    ghost use Rattle.advfs_program.specs.declared.opening.Refused.TheVariants.{Ended};
 
     ghost from_gives = { λ _ refused. refused ≡ Ended status.OutOfMemory };
 

@@ -3,14 +3,10 @@
 ghost use Rattle.std.specs.Prelude.{◌<◌, ◌≤◌, ◌^◌};
 
 use crate::opening::Refused;
-use crate::running::run_text;
 use crate::telling::{first_image, word_at};
 use crate::transfers::{answer_refused, answers_to, look, new_script, push_words};
-use client_commands::Reply;
-use domain_attaching::limits::PAGE_BYTES;
-use domain_attaching::{Entry, OutOfMemory};
-use memory_disk::FileRack;
-use run_parts::{Status, WriterSink, history_line};
+use advfs_run::limits::PAGE_BYTES;
+use advfs_run::{Entry, FileRack, OutOfMemory, Reply, Status, WriterSink, history_line, run_text};
 use std::alloc::Global;
 use std::{fmt, io, str};
 
