@@ -129,6 +129,8 @@ ends "an image named twice by a link" 12 "link.img cannot be opened: it is named
     "$advfs" run make home.img link.img
 ends "nine images" 2 "with one to eight images" "$advfs" verify 1 2 3 4 5 6 7 8 9
 ends "no image" 12 "none.img cannot be opened: No such file" "$advfs" verify none.img
+ends "no image for a script" 12 "none.img cannot be opened: No such file" \
+    "$advfs" run look none.img
 ends "no script" 12 "none cannot be opened: No such file" "$advfs" run none home.img
 ends "a folder for an image" 12 "it is a folder" "$advfs" verify .
 ends "a device of characters" 12 "neither a file nor a block device" "$advfs" verify /dev/null

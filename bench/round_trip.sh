@@ -1,8 +1,8 @@
 #!/bin/sh
 # Makes a tree of 1,000 files, ten in each directory, puts it into a new domain with
-# bench/import.sh, takes it out again with bench/export.sh, and compares the two. It needs some 50 MB
-# in the folder that is named, or in the one for temporary files. ADVFS is the program, if it is not
-# ./advfs, and DIRECTORIES the number of directories, if it is not 100.
+# bench/import.sh, takes it out again with bench/export.sh, and compares the two. It needs some 50
+# MB in the folder that is named, or in the one for temporary files. ADVFS is the program, if it is
+# not ./advfs, and DIRECTORIES the number of directories, if it is not 100.
 top=$(cd "$(dirname "$0")/.." && pwd) || exit 1
 advfs=${ADVFS:-$top/advfs}
 "$advfs" --version >&2 || exit 1
