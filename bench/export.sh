@@ -2,8 +2,8 @@
 # Takes the directories and files that are in a directory of a domain out into a new directory of
 # this machine:
 #   bench/export.sh IMAGE FS:/PATH DIRECTORY
-# Names with a newline are left out, and told. It ends with 0 if all files are taken out. ADVFS is
-# the program, if it is not ./advfs.
+# Names with a newline, and names that would lead out of the new directory, are left out, and told.
+# It ends with 0 if all files are taken out. ADVFS is the program, if it is not ./advfs.
 top=$(cd "$(dirname "$0")/.." && pwd) || exit 1
 if [ $# != 3 ]; then
     echo "usage: bench/export.sh IMAGE FS:/PATH DIRECTORY" >&2
@@ -43,7 +43,7 @@ echo >"$work/folders"
 while IFS= read -r folder; do
     [ "$folder" ] && listed=$place$folder || listed=$start
     "$advfs" list -m "$image" "$listed" >"$work/list" </dev/null || exit
-    sed 's/^.* -> ok *//' "$work/list" | tr ' ' '\n' | sed '/^$/d' >"$work/names"
+    sed 's/^[^ ]* list [^ ]* -> ok *//' "$work/list" | tr ' ' '\n' | sed '/^$/d' >"$work/names"
     while IFS= read -r name; do
         path=$folder/${name%/}
         case $path in
@@ -53,10 +53,17 @@ while IFS= read -r folder; do
             continue
             ;;
         esac
-        file=.$(echo "$path" | decode)
+        file=.$(printf '%s\n' "$path" | decode)
+        case $file in
+        */../* | */..)
+            echo "export: left out: $place$path" >&2
+            failed=1
+            continue
+            ;;
+        esac
         case $name in
         */)
-            mkdir "$file" && echo "$path" >>"$work/folders" || failed=1
+            mkdir "$file" && printf '%s\n' "$path" >>"$work/folders" || failed=1
             ;;
         *)
             "$advfs" get "$image" "$place$path" >"$file" </dev/null || failed=1

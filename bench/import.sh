@@ -3,8 +3,8 @@
 #   bench/import.sh IMAGE FS:/PATH DIRECTORY
 # The directory FS:/PATH has to be there. Directories that are there already are used, and files
 # that are there already are replaced. Each new file and directory gets the numbers of its owner and
-# group here. Links and devices are left out, and told; so are names with a newline. It ends with 0
-# if all files are put. ADVFS is the program, if it is not ./advfs.
+# group here. Links and devices are left out, and told; so are names with a newline, and then it ends
+# with 1. It ends with 0 if all files are put. ADVFS is the program, if it is not ./advfs.
 top=$(cd "$(dirname "$0")/.." && pwd) || exit 1
 if [ $# != 3 ]; then
     echo "usage: bench/import.sh IMAGE FS:/PATH DIRECTORY" >&2
@@ -65,6 +65,8 @@ while IFS= read -r file && IFS= read -r name <&3; do
     "$advfs" put --owner "$owner" "$image" "$place/$name" <"$file" || failed=1
 done <"$work/files" 3<"$work/names"
 
+[ -z "$(find . \( -type f -o -type d \) -path '*
+*' -print)" ] || failed=1
 find . ! -type d ! -type f -o -path '*
 *' | sed 's/^/import: left out: /' >&2
 exit $failed

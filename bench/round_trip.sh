@@ -1,5 +1,5 @@
 #!/bin/sh
-# Makes a tree of 1,000 files, ten in each directory, puts it into a new domain with
+# Makes a tree of 1,100 files, eleven in each directory, puts it into a new domain with
 # bench/import.sh, takes it out again with bench/export.sh, and compares the two. It needs some 50
 # MB in the folder that is named, or in the one for temporary files. ADVFS is the program, if it is
 # not ./advfs, and DIRECTORIES the number of directories, if it is not 100.
@@ -19,6 +19,7 @@ while [ $number -lt "${DIRECTORIES:-100}" ]; do
     for size in $sizes; do
         head -c "$size" /dev/urandom >"$directory/file of $size%"
     done
+    echo text >"$directory/back\\tslash \\0057"
     number=$((number + 1))
 done
 
