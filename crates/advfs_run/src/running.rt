@@ -1,6 +1,6 @@
 //! The whole of a run: the words, the script, its commands over a domain, and the printing. Also
 //! the making of a domain, and the verifying of an image.
-ghost use Rattle.std.specs.Prelude.{◌≡◌, ◌≢◌, ◌≤◌, ℕ, [], List, All, Err, IfErr, IfOk, MatchResult, None, Ok, flat_map, map, string_bytes};
+ghost use Rattle.std.specs.Prelude.{◌≡◌, ◌≢◌, ◌≤◌, ℕ, [], List, All, Err, IfErr, IfOk, MatchResult, None, Ok, Option, Some, flat_map, map, string_bytes};
 ghost use Rattle.std.specs.Io.KnownBytes.{Appends, Consumes};
 ghost use Rattle.domain_attaching.specs.domain_base.Counts.{HasRisen};
 ghost use Rattle.domain_attaching.specs.log_recovery.Settling.{Anywhere};
@@ -195,12 +195,21 @@ fn run_script<S: Source, R: Rack, K: Sink, G: Gate>(
 
 /// Answers a script that is given as a text, as `run` does over the domain that the rack holds.
 pub fn run_text<R: Rack, K: Sink>(alloc: Global, script: Vec<u8>, rack: R, sink: &mut K) -> Ended<R>
+    ensures read { (left : Option (List ℕ)) × (read : List ℕ)
+        × Consumes (Some script.items) left read
+        × HasRead left read result.status result.history.items }
+    ensures touches { Touches (R.disk rack) (R.disk result.rack) Anywhere }
+    ensures stamps { AreStampedWithin (R.disk rack) (R.disk result.rack) result.history.items }
+    ensures lost { IsLostBehind (R.disk rack) (R.disk result.rack) result.status
+        result.history.items }
     ensures runs { RunsFor (Ok Run) (R.disk rack) (R.disk result.rack) result.status
         result.history.items }
     ensures quiet { TellNoFault result.history.items }
     ensures ends { EndsFor (Ok Run) (R.disk rack) (R.disk result.rack) result.status }
     ensures printed { IsPrinted result.status
         → Appends (K.held sink.old) (K.held sink.new) (history_text result.history.items) }
+    ensures printed_front { AppendsFront (K.held sink.old) (K.held sink.new)
+        (history_text result.history.items) }
 {
     let mut source = MemorySource::new(script, Vec::new(alloc));
     run_script(alloc, Form::Run, &mut source, rack, sink, &NoGate)
