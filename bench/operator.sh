@@ -84,6 +84,28 @@ else
     echo "standard output that takes nothing: not tried, since /dev/full is missing"
 fi
 
+# standard streams that are closed: an image must not take their place
+mute() {
+    "$@" >&-
+}
+silent() {
+    "$@" 2>&-
+}
+deaf() {
+    "$@" <&-
+}
+ends "standard output is closed" 8 "a full device, or a closed pipe" \
+    mute "$advfs" run look home.img
+ends "standard error is closed" 13 "" silent "$advfs" mkfdmn home.img
+ends "standard error is closed, a bad script" 6 "" silent "$advfs" run look small.img
+ends "standard input is closed" 3 "standard input could not be read" \
+    deaf "$advfs" put home.img home:/stdin
+ends "what was not put" 14 "E3 no-path" "$advfs" get home.img home:/stdin
+cp home.img copy.img
+mute "$advfs" run change copy.img 2>told
+[ $? = 8 ] || { echo "a run without standard output does not end with 8"; failed=1; }
+ends "an image after that" 0 "sound" "$advfs" verify copy.img
+
 # locks: an image has one program that writes, or some that look
 if command -v flock >/dev/null; then
     ends "run on a used image" 12 "home.img cannot be opened: another program uses it" \
@@ -206,6 +228,9 @@ ends "put into no fileset" 14 "-> E1 no-fileset" "$advfs" put home.img none:/a
 ends "put over a directory" 2 "\`home:/\` does not fit" "$advfs" put home.img home:/
 ends "put with a wrong owner" 2 "\`10\` does not fit" \
     "$advfs" put --owner 10 home.img home:/a
+"$advfs" get home.img home:/file | "$advfs" put home.img home:/copy
+ends "put of what get prints" 0 "" "$advfs" get home.img home:/copy
+cmp -s out short || { echo "put does not take what get prints of the same image"; failed=1; }
 head -c 5000000 /dev/zero >large
 to_small() {
     "$advfs" put other.img home:/large <large

@@ -20,7 +20,7 @@ use advfs_run::{
 };
 use std::alloc::Global;
 use std::env::FillError;
-use std::fs::File;
+use std::fs::{File, OpenOptions};
 use std::process::ExitCode;
 use std::rt::{Env, Files};
 use std::{io, str};
@@ -234,6 +234,12 @@ fn refused_code(refused: &Refused) -> ExitCode
     }
 }
 
+/// The root directory, open for reading: it gives no bytes and takes none. It keeps the number of a
+/// standard stream that is closed from the files that are opened after it.
+fn held_number(rt: &impl Files<File = File>) -> Option<File> {
+    OpenOptions::new().read(true).open(rt, "/").ok()
+}
+
 /// The whole program. It ends with the number of a status; with 12 if a script or an image that the
 /// words name is not taken; or with 14 if a command was refused of a script that it made itself.
 pub fn program(
@@ -242,6 +248,9 @@ pub fn program(
 ) -> ExitCode
     ensures { IsExit (exit_status result) }
 {
+    let _input = held_number(rt);
+    let _output = held_number(rt);
+    let _error = held_number(rt);
     let Ok(words) = words_given(rt, alloc) else {
         return exit_code(Status::OutOfMemory);
     };

@@ -149,11 +149,16 @@ pub(crate) fn do_errand(
     if let Err(status) = check_words(alloc, words, verb) {
         return Err(Refused::Ended(status));
     }
+    let bytes = if verb == Verb::Put {
+        transfers::bytes_given(rt, alloc)?
+    } else {
+        Vec::new(alloc)
+    };
     let rack = rack_asked(rt, alloc, words, verb)?;
     let place = word_at(words, end_of_images(words, verb));
     let lines = word_at(words, 1) == LINES_WORD;
     match verb {
-        Verb::Put => transfers::put(rt, alloc, place, owner, rack),
+        Verb::Put => transfers::put(alloc, place, owner, bytes.as_slice(), rack),
         Verb::Get => transfers::get(rt, alloc, place, rack),
         Verb::List if lines => looks::print_lines(rt, alloc, "list", place, rack),
         Verb::List => looks::list(rt, alloc, place, rack),

@@ -167,7 +167,7 @@ fn put_part(alloc: Global, script: Vec<u8>, rack: FileRack) -> Result<FileRack, 
 }
 
 /// Puts bytes into the file at a place, which is made if it is not there; what it held is lost.
-fn put_bytes(
+pub(crate) fn put(
     alloc: Global,
     place: &str,
     owner: FileOwner,
@@ -193,17 +193,11 @@ fn put_bytes(
     Ok(())
 }
 
-/// Puts standard input into the file at a place.
-pub(crate) fn put(
-    rt: &impl Input,
-    alloc: Global,
-    place: &str,
-    owner: FileOwner,
-    rack: FileRack,
-) -> Result<(), Refused> {
+/// The bytes of standard input, as many as a file may have.
+pub(crate) fn bytes_given(rt: &impl Input, alloc: Global) -> Result<Vec<u8>, Refused> {
     let mut source = ReaderSource::new(rt.reader());
     match read_all(alloc, &mut source, FILE_BYTES as usize) {
-        Ok(bytes) => put_bytes(alloc, place, owner, bytes.as_slice(), rack),
+        Ok(bytes) => Ok(bytes),
         Err(error) => Err(Refused::Ended(Status::from(error))),
     }
 }
