@@ -52,7 +52,7 @@ ends "a bad script on an empty image" 6 "no anchor counts" "$advfs" run make hom
 "$advfs" mkfdmn home.img 2>told || { echo "mkfdmn failed"; exit 1; }
 grep -qF "home.img: version 4, 512 pages (4.0 MiB), 379 free" told || { cat told; failed=1; }
 ends "mkfdmn over a domain" 13 "volume 1 of a domain of version 4" "$advfs" mkfdmn home.img
-ends "mkfdmn -3 over a domain" 13 "mkfdmn -o" "$advfs" mkfdmn -3 home.img
+ends "mkfdmn -3 over a domain" 13 "mkfdmn -3 -o home.img" "$advfs" mkfdmn -3 home.img
 truncate -s 4M other.img
 printf x | dd of=other.img bs=1 seek=20000 conv=notrunc 2>/dev/null
 ends "mkfdmn over something" 13 "page 2 is not all zeros" "$advfs" mkfdmn other.img
@@ -63,7 +63,7 @@ ends "mkfdmn on a small file" 11 "a domain needs 160" "$advfs" mkfdmn small.img
 # scripts that write and scripts that look
 "$advfs" run make home.img >out 2>told || { echo "run failed"; cat told; failed=1; }
 ends "a script that looks" 0 "" "$advfs" run look home.img
-ends "run -r with a script that writes" 7 "open for reading alone" \
+ends "run -r with a script that writes" 7 "open read-only because of -r" \
     "$advfs" run -r change home.img
 if [ "$(id -u)" != 0 ]; then
     chmod a-w home.img
@@ -154,8 +154,8 @@ ends "no image" 12 "none.img cannot be opened: No such file" "$advfs" verify non
 ends "no image for a script" 12 "none.img cannot be opened: No such file" \
     "$advfs" run look none.img
 ends "no script" 12 "none cannot be opened: No such file" "$advfs" run none home.img
-ends "a folder for an image" 12 "it is a folder" "$advfs" verify .
-ends "a device of characters" 12 "neither a file nor a block device" "$advfs" verify /dev/null
+ends "a directory for an image" 12 "it is a directory" "$advfs" verify .
+ends "a character device" 12 "neither a file nor a block device" "$advfs" verify /dev/null
 mkfifo pipe.img
 ends "a pipe" 12 "neither a file nor a block device" "$advfs" verify pipe.img
 cp home.img long.img
@@ -170,14 +170,14 @@ ends "zeros" 9 "code 2: no anchor counts" "$advfs" verify zeros.img
 # a block device, whose size is not that of its file
 truncate -s 4M block.img
 device=$(losetup -f --show block.img 2>/dev/null)
-if [ "$device" ]; then
+if [ "$device" ] && dd if=/dev/zero of="$device" bs=512 count=1 2>/dev/null; then
     ends "mkfdmn on a block device" 0 "512 pages (4.0 MiB)" "$advfs" mkfdmn "$device"
     ends "verify of a block device" 0 "sound; version 4" "$advfs" verify "$device"
     ends "a block device named twice" 12 "it is named twice" "$advfs" verify "$device" "$device"
-    losetup -d "$device"
 else
-    echo "a block device: not tried, since none may be set up here"
+    echo "a block device: not tried, since none may be set up and written here"
 fi
+[ -z "$device" ] || losetup -d "$device"
 
 # a domain of two volumes: the second is written here by hand, as docs/FORMAT.md has it
 at() {
@@ -244,7 +244,7 @@ shows() {
 ends "list" 0 "" "$advfs" list home.img home:/
 shows "list" "^file +10 +20 +100 B  file\$"
 ends "list -m" 0 "" "$advfs" list -m home.img home:/
-shows "list -m" "^c1 list home:/ -> ok a empty file"
+shows "list -m" "^c1 list home:/ -> ok a copy empty file"
 ends "list of what is not there" 14 "list none:/ -> E1 no-fileset" "$advfs" list home.img none:/
 ends "showfsets" 0 "" "$advfs" showfsets home.img
 shows "showfsets" "^home +[0-9]+ +- +[0-9.]+ KiB +-\$"
@@ -255,9 +255,10 @@ shows "showfdmn -m" "^c1 showfdmn -> ok 1:512:"
 
 # words of the command line
 ends "no words" 2 "advfs --help lists the commands" "$advfs"
-ends "an unknown command" 2 "\`mkfs\` is no command of advfs" "$advfs" mkfs home.img
+ends "an unknown command" 2 "\`mkfs\` is not a command of advfs" "$advfs" mkfs home.img
 ends "the form that comes nearest" 2 "The form of mkfdmn is: advfs mkfdmn [-3] [-o] IMAGE" \
     "$advfs" mkfs home.img
+ends "an option out of place" 2 "look at \`-3\`" "$advfs" mkfdmn -o -3 home.img
 ends "a missing word" 2 "advfs run [-r] SCRIPT IMAGE.." "$advfs" run make
 ends "a word too many" 2 "advfs mkfdmn [-3] [-o] IMAGE" "$advfs" mkfdmn home.img home.img
 

@@ -11,8 +11,8 @@ use crate::errands::{Verb, do_errand};
 use crate::images::{Access, Images};
 use crate::opening::{Refused, only_looks, open_images, open_one, script_given, script_named};
 use crate::telling::{
-    first_image, only_reads, script_word, tell, tell_codes, tell_longer, tell_making, tell_refused,
-    tell_sound, word_at,
+    first_image, only_reads, script_word, tell, tell_codes, tell_longer, tell_look_fault,
+    tell_making, tell_refused, tell_sound, word_at,
 };
 use advfs_run::{
     BadLine, CodeSink, Form, HELP, MemorySource, NoGate, OutOfMemory, ReaderSource, Status,
@@ -62,7 +62,12 @@ fn tell_script(
     status: Status,
     text: &[u8],
 ) -> io::Result<()> {
-    tell(rt, words, status)?;
+    match status {
+        Status::VolumeFault { vol } if !only_reads(words) && only_looks(text) => {
+            return tell_look_fault(rt, words, vol);
+        }
+        _ => tell(rt, words, status)?,
+    }
     match status {
         Status::BadScript { line, kind } => match BadLine::of(alloc, text, line, kind) {
             Ok(bad) => eprintln!(rt; "{bad}"),
@@ -255,7 +260,9 @@ pub fn program(
         return exit_code(Status::OutOfMemory);
     };
     if let Some(text) = text_asked(&words) {
-        return exit_code(print_text(rt, text));
+        let status = print_text(rt, text);
+        let _ = tell(rt, &words, status);
+        return exit_code(status);
     }
     match start(rt, alloc, &words) {
         Ok(status) => exit_code(status),

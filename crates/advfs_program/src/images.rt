@@ -29,9 +29,9 @@ pub enum Access {
 pub enum ImageFault {
     /// It cannot be opened.
     Closed(io::Error),
-    /// It is a folder.
-    Folder,
-    /// It is a pipe, a socket or a device of characters, whose bytes have no places.
+    /// It is a directory.
+    Directory,
+    /// It is a pipe, a socket or a character device, whose bytes have no places.
     Stream,
     /// Another program uses it.
     InUse,
@@ -39,7 +39,7 @@ pub enum ImageFault {
     NotLocked(io::Error),
     /// It is the same file as an image before it.
     Twice,
-    /// There are eight images before it.
+    /// There are eight images already, and a domain has at most eight volumes.
     TooMany,
     /// There was no memory for it.
     OutOfMemory,
@@ -49,14 +49,16 @@ impl fmt::Display for ImageFault {
     fn fmt<W: fmt::Write>(&self, f: &mut fmt::Formatter<W>) -> fmt::Result {
         match self {
             ImageFault::Closed(error) => write!(f, "cannot be opened: {error}"),
-            ImageFault::Folder => f.write_str("cannot be opened: it is a folder"),
+            ImageFault::Directory => f.write_str("cannot be opened: it is a directory"),
             ImageFault::Stream => {
                 f.write_str("cannot be opened: it is neither a file nor a block device")
             }
             ImageFault::InUse => f.write_str("cannot be opened: another program uses it"),
             ImageFault::NotLocked(error) => write!(f, "cannot be locked: {error}"),
             ImageFault::Twice => f.write_str("cannot be opened: it is named twice"),
-            ImageFault::TooMany => f.write_str("cannot be opened: there are eight before it"),
+            ImageFault::TooMany => f.write_str(
+                "cannot be opened: a domain has at most eight volumes",
+            ),
             ImageFault::OutOfMemory => f.write_str("cannot be opened: out of memory"),
         }
     }
@@ -96,7 +98,7 @@ impl Identity {
 /// Refuses what has no bytes at places.
 fn check_kind(metadata: &Metadata) -> Result<(), ImageFault> {
     if metadata.is_dir() {
-        return Err(ImageFault::Folder);
+        return Err(ImageFault::Directory);
     }
     if metadata.is_file() || metadata.file_type().is_block_device() {
         return Ok(());

@@ -1,5 +1,5 @@
-//! The program around `run`: its words, the files that they name under their locks, files that go in
-//! and out, what a domain shows, and what is told on standard error.
+//! The program around `run`: its words, the files that they name under their locks, files that go
+//! in and out, what a domain shows, and what is told on standard error.
 #![tactic(auto)]
 
 mod command_line;

@@ -4,7 +4,7 @@
 use crate::errands::{LINES_WORD, OWNER_WORD};
 use crate::images::{ImageLabel, free_pages, label_of};
 use crate::opening::Refused;
-use advfs_run::{DomainCounts, FaultCodes, FileRack, LOOK_WORD, OVER_WORD, Status};
+use advfs_run::{DomainCounts, FaultCodes, FileRack, LOOK_WORD, OVER_WORD, Status, Unattached};
 use std::fs::File;
 use std::{fmt, io, str};
 
@@ -91,12 +91,23 @@ const VERBS: [&str; 9] = [
 
 /// Tells the forms whose first word begins as this one does, which is no first word.
 fn tell_nearest(rt: &impl Eprint, word: &str) -> io::Result<()> {
-    eprintln!(rt; "`{word}` is no command of advfs.")?;
+    eprintln!(rt; "`{word}` is not a command of advfs.")?;
     for verb in VERBS.iter() {
         if verb.as_bytes().first() == word.as_bytes().first() {
             if let Some(form) = form_line(*verb) {
                 eprintln!(rt; "The form of {verb} is: {form}")?;
             }
+        }
+    }
+    Ok(())
+}
+
+/// Tells where options stand, if there is a word that looks like one.
+fn tell_options(rt: &impl Eprint, words: &[String]) -> io::Result<()> {
+    for word in words.iter().skip(1) {
+        let odd = word.as_str();
+        if odd.starts_with('-') && odd != "-" {
+            return eprintln!(rt; "Options stand first, in the order of the form: look at `{odd}`.");
         }
     }
     Ok(())
@@ -114,8 +125,9 @@ fn tell_usage(rt: &impl Eprint, words: &[String], word: usize) -> io::Result<()>
     if word >= words.len() {
         return eprintln!(rt; "A word is missing at the end. The form is: {form}");
     }
+    tell_options(rt, words)?;
     let there = word_at(words, word);
-    eprintln!(rt; "`{there}` does not fit as word {word} after advfs {verb}. The form is: {form}")
+    eprintln!(rt; "`{there}` does not fit as word {word}. The form is: {form}")
 }
 
 /// Tells what is wrong with a page at which a domain was looked for.
@@ -131,15 +143,40 @@ fn tell_no_domain(rt: &impl Eprint, words: &[String], vol: u32, at: u32) -> io::
     eprintln!(rt; "Nothing was written. `advfs verify` prints all faults of the image.")
 }
 
+/// Tells of an image that is open for reading alone, and of which a call failed.
+fn tell_unsettled(rt: &impl Eprint) -> io::Result<()> {
+    eprintln!(rt;
+        "It is open for reading alone, so nothing was written. If its log is not settled, run a \
+        script with `sync` over it first."
+    )
+}
+
+/// Tells of a volume that is open for reading alone, since the script only looks, and of which a
+/// call failed.
+pub(crate) fn tell_look_fault(rt: &impl Eprint, words: &[String], vol: u32) -> io::Result<()> {
+    let (status, name) = (Status::VolumeFault { vol }, volume_name(words, vol));
+    eprintln!(rt; "advfs: {status}")?;
+    eprintln!(rt; "{name}: the operating system refused a read, a write or a sync.")?;
+    tell_unsettled(rt)
+}
+
 /// Tells of a volume whose reads, writes or syncs failed.
 fn tell_volume_fault(rt: &impl Eprint, words: &[String], vol: u32) -> io::Result<()> {
     let name = volume_name(words, vol);
     eprintln!(rt; "{name}: the operating system refused a read, a write or a sync.")?;
     match word_at(words, 0) {
         "verify" => eprintln!(rt; "Nothing was written. Check the device."),
-        "mkfdmn" => eprintln!(rt; "Check the device, and make the domain again."),
+        "mkfdmn" => eprintln!(rt;
+            "Check the device. Without -o nothing was written if a read failed; else what the \
+            image held is lost, and the domain has to be made again."
+        ),
+        "put" => eprintln!(rt;
+            "The file may be missing or incomplete: `advfs verify` tells whether the image is \
+            still a domain."
+        ),
+        "get" | "list" | "showfdmn" | "showfsets" => tell_unsettled(rt),
         _ if only_reads(words) => eprintln!(rt;
-            "It is open for reading alone, as -r asks for, so nothing was written."
+            "It is open read-only because of -r, so nothing was written."
         ),
         _ => eprintln!(rt;
             "If replies were printed, a part of them may be written: `advfs verify` \
@@ -180,12 +217,28 @@ fn tell_too_long(rt: &impl Eprint, words: &[String]) -> io::Result<()> {
     }
 }
 
+/// Tells that a domain without a fault is not taken.
+fn tell_unfit(rt: &impl Eprint, words: &[String], why: Unattached) -> io::Result<()> {
+    let name = volume_name(words, 1);
+    match why {
+        Unattached::NoNumbers => eprintln!(rt;
+            "{name}: the numbers of its log are used up. What the image means is as before: copy \
+            its files with the program that made it."
+        ),
+        _ => eprintln!(rt;
+            "{name}: the domain has no fault, but this program does not take it yet. Nothing was \
+            written. It can be looked at with `advfs verify` only."
+        ),
+    }
+}
+
 /// Tells that an image in which a domain was to be made holds something.
 fn tell_occupied(rt: &impl Eprint, words: &[String], page: u32) -> io::Result<()> {
     let name = volume_name(words, 1);
+    let version = if word_at(words, 1) == "-3" { "-3 " } else { "" };
     eprintln!(rt;
         "{name} is not empty: page {page} is not all zeros. Nothing was written. \
-        `advfs mkfdmn {OVER_WORD} {name}` overwrites what it holds."
+        `advfs mkfdmn {version}{OVER_WORD} {name}` overwrites what it holds."
     )
 }
 
@@ -208,13 +261,7 @@ fn tell_words(rt: &impl Eprint, words: &[String], status: Status) -> io::Result<
             let name = volume_name(words, 1);
             eprintln!(rt; "{name} has {pages} whole pages, and a domain needs 160: 1310720 bytes.")
         }
-        Status::Unfit { .. } => {
-            let name = volume_name(words, 1);
-            eprintln!(rt;
-                "{name}: the domain has no fault, but this program does not take it yet. \
-                Nothing was written."
-            )
-        }
+        Status::Unfit { why } => tell_unfit(rt, words, why),
     }
 }
 
@@ -232,9 +279,9 @@ const CODE_WORDS: [&str; 10] = [
     "the label of a volume: the wrong file, an incomplete one, or volumes in another order",
     "no anchor counts: there is no domain, or its images stand in another order",
     "a group of the log: keep the image, and take a copy from your backup",
-    "the table of filesets: it is not known for sure which files there are",
-    "cells: it is not known for sure which files there are",
-    "tags: it is not known for sure which files there are",
+    "the table of filesets: the list of files cannot be trusted",
+    "cells: the list of files cannot be trusted",
+    "tags: the list of files cannot be trusted",
     "pages of files: do not write to the image, and copy your files away",
     "bitmaps: do not write to the image, and copy your files away",
     "directories: some names are wrong, the bytes of files are not in doubt",
@@ -409,6 +456,17 @@ pub(crate) fn tell_sound(
     tell_images(rt, words, rack, sizes, true, counts)
 }
 
+/// The bytes of a command that are shown at most: of `write` there may be many more.
+const SHOWN_BYTES: usize = 200;
+
+/// Tells a command with its reply, without the end of a long command.
+fn tell_line(rt: &impl Eprint, answer: &str) -> io::Result<()> {
+    match (answer.get(..SHOWN_BYTES), answer.rsplit_once(" -> ")) {
+        (Some(front), Some((_, reply))) => eprintln!(rt; "advfs: {front} .. -> {reply}"),
+        _ => eprintln!(rt; "advfs: {answer}"),
+    }
+}
+
 /// Tells which command was refused, with its reply. A line of a history begins with its client.
 fn tell_answer(rt: &impl Eprint, words: &[String], line: &[u8]) -> io::Result<()> {
     let line = str::from_utf8(line).unwrap_or("");
@@ -416,9 +474,12 @@ fn tell_answer(rt: &impl Eprint, words: &[String], line: &[u8]) -> io::Result<()
         Some((_, answer)) => answer.trim_end(),
         None => line,
     };
-    eprintln!(rt; "advfs: {answer}")?;
+    tell_line(rt, answer)?;
     match word_at(words, 0) {
-        "put" => eprintln!(rt; "The file is not there, or holds only a part of standard input."),
+        "put" => eprintln!(rt;
+            "If the file was made or emptied, it holds only a part of standard input, and what it \
+            held before is lost."
+        ),
         _ => Ok(()),
     }
 }
