@@ -74,7 +74,7 @@ fn is_due(held: &FilePages, rack: &LoggedRack<CountRack>, home: &Home) -> bool
         → IsDurable (groups (frames_of held.now.cache) home.now) rack.now.log }
 {
     match held.waits(*home) {
-        Some(group) => group < rack.log().next_number(),
+        Some(group) => group == 0 || group < rack.log().next_number(),
         None => false,
     }
 }
