@@ -258,7 +258,7 @@ ends "no words" 2 "advfs --help lists the commands" "$advfs"
 ends "an unknown command" 2 "\`mkfs\` is not a command of advfs" "$advfs" mkfs home.img
 ends "the form that comes nearest" 2 "The form of mkfdmn is: advfs mkfdmn [-3] [-o] IMAGE" \
     "$advfs" mkfs home.img
-ends "an option out of place" 2 "look at \`-3\`" "$advfs" mkfdmn -o -3 home.img
+ends "an option out of place" 2 "look at \`-o\`" "$advfs" mkfdmn -o -3 home.img
 ends "a missing word" 2 "advfs run [-r] SCRIPT IMAGE.." "$advfs" run make
 ends "a word too many" 2 "advfs mkfdmn [-3] [-o] IMAGE" "$advfs" mkfdmn home.img home.img
 
