@@ -67,7 +67,8 @@ HasNotRun Run old new status history = (history ≡ []) × (¬ HasBegun status)
     × LeavesContents old new
 HasNotRun other old new status history = (history ≡ []) × ¬ HasBegun status
 
--- the status of a run whose domain was closed so, once its history is printed or is not
+-- the status with which a run ends after its domain was closed with another one: the same, unless
+-- printing failed
 abbrev pub PrintsAs : Status → Status → Type 0
 PrintsAs end result = (result ≡ end) ⊎ (result ≡ ended.SinkFault) ⊎ (result ≡ ended.OutOfMemory)
 

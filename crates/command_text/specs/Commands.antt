@@ -20,7 +20,7 @@ pub record Row : Type 0 where
 abbrev row : List ℕ → ℕ → Bool → Row
 row text words in_scripts = record { text = text; words = words; in_scripts = in_scripts }
 
--- the table of commands: the first word, the number of words, and whether scripts have it today
+-- the table of commands: the first word, the most words, and whether a script may have it
 abbrev pub row_of : Verb → Row
 row_of verb.Mkfset = row (codes "mkfset") 2 true
 row_of verb.Rmfset = row (codes "rmfset") 2 true

@@ -209,7 +209,8 @@ pub record HasWrongQuota (pages : Pages) (frame : Frame) (number : ℕ) (item : 
     pub wrong : ¬ IsQuotaOf pages frame number at
         ⊎ ((other : CellAt) × LeadsTo pages frame other at)
 
--- a slot has a clone's number that none has, or a quota cell that is none of its fileset
+-- a slot has a clone's number that none has, or a quota cell that is none of its fileset, or one to
+-- which another cell leads
 pub record IsWrongSlot (pages : Pages) (frame : Frame) (table : Table) : Type 0 where
   pub number : ℕ
   pub item : SlotItem

@@ -58,7 +58,7 @@ state_with cells (written.Attributes kind uid gid flags size keep links birth un
     }) (attributes_in (written.Attributes kind uid gid flags size keep links birth unsynced))
 state_with cells _ = None
 
--- all that the cells of a file say of it, as one record
+-- what the cells of a file say of it, but for its stripe and what it is read through
 abbrev pub state_of : List PlacedCell → Option FileState
 state_of cells = option_and_then (state_with cells) (first_record 1 cells)
 
@@ -74,7 +74,7 @@ states_of chains = λ tag. option_and_then state_of (chains tag)
 abbrev pub with_state : Tag → FileState → States → States
 with_state tag state states = λ t. if same_tag t tag then Some state else states t
 
--- the files of which that of one tag has changed
+-- the files, with that of one tag changed
 abbrev pub with_changed : Tag → (FileState → FileState) → States → States
 with_changed tag change states =
     λ t. if same_tag t tag then option_map change (states t) else states t

@@ -77,7 +77,7 @@ indexed index state = record state { index = index }
 abbrev pub placed : ℕ → PagePlace → FileState → FileState
 placed page place state = record state { places = with_place page place state.places }
 
--- a file of which all is to be let go of
+-- a file that is to be removed
 abbrev pub to_remove : FileState → FileState
 to_remove state = record state { pending = Some Remove }
 

@@ -15,6 +15,7 @@ stripe_in (written.Stripe width mark vols) =
     Some (record { width = width; mark = mark; vols = vols })
 stripe_in _ = None
 
+-- the stripe that the cells of a file say, if they say one
 abbrev pub stripe_of : List PlacedCell → Option Stripe
 stripe_of cells = option_and_then stripe_in (first_record 11 cells)
 

@@ -20,7 +20,7 @@ use std::alloc::Global;
 
 /// The stripe of a file: the first `width` of the volumes take turns, eight pages each. At mark 0
 /// each page stands on the volume whose turn it is, and at 1 it may stand on another; at 2 the file
-/// leaves a volume.
+/// leaves a volume. No rule holds a domain to this yet.
 #[derive(Clone, Copy, Debug, PartialEq, Eq)]
 pub struct Stripe {
     pub width: u8,

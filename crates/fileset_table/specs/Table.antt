@@ -67,7 +67,7 @@ IsCellNumber quota = IfSome quota (λ at. at.cell < 28)
 abbrev pub IsAllowedEntry : FilesetEntry → Type 0
 IsAllowedEntry entry = (is_fileset_name entry.name ≡ true) × IsCellNumber entry.quota
 
--- what is in a slot has a name of the form, and a cell that a page can have
+-- what is in a slot has a name of the form, unless it is being removed, and a cell that a page can have
 abbrev pub IsAllowed : SlotItem → Type 0
 IsAllowed Free = Unit {0}
 IsAllowed (Original entry) = IsAllowedEntry entry

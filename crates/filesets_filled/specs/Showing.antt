@@ -55,8 +55,8 @@ HasEachPage pages frame table = (number : ℕ) (tag : Tag) (cells : List PlacedC
     (seen : SeenFile) → Has pages table number tag cells seen → (page : ℕ) (home : Home)
     → seen.homes page ≡ Some home → IsWithin frame home → IsSome (pages home)
 
--- the index of a directory, as a set shows it: the pages that are read from where a
--- cell in use says
+-- the index of a directory, as a set shows it: the pages that are read from where a cell in use
+-- says
 pub record ShowsIndex (pages : Pages) (frame : Frame) (table : Table) (number : ℕ) (dir : Tag)
     (index : List (List ℕ)) : Type 0 where
   pub cells : List PlacedCell

@@ -27,6 +27,7 @@ abbrev pub StandsBefore : FreeRun → FreeRun → Type 0
 StandsBefore one other = (one.first.vol < other.first.vol)
     ⊎ ((one.first.vol ≡ other.first.vol) × (one.first.page < other.first.page))
 
+-- each run stands before all that come after it
 abbrev pub AreInOrder : List FreeRun → Type 0
 AreInOrder [] = Unit {0}
 AreInOrder (run ∷ runs) = AllByRecursion (StandsBefore run) runs × AreInOrder runs
@@ -46,6 +47,7 @@ pub record AddsRuns (Is : FreeRun → Type 0) (old new : List FreeRun) : Type 0 
 abbrev pub IsRunIn : ℕ → VolumePages → FreeRun → Type 0
 IsRunIn vol m run = (run.first.vol ≡ vol) × IsWholeRun m run.first.page run.count
 
+-- a volume that is there and open has that run
 abbrev pub IsRunOn : ℕ → Option VolumeSpace → FreeRun → Type 0
 IsRunOn vol volume run =
     IsSomeAnd volume (λ v. (v.is_open ≡ true) × IsRunIn vol (volume_pages v) run)

@@ -22,7 +22,7 @@ spaces_code = code_by (List (Option VolumeSpace) × ℕ)
 abbrev pub no_spaces : Spaces
 no_spaces = record { volumes = replicate 8 None; misses = 0 }
 
--- the volume with a number, if it is there
+-- the volume with a number from 1 on, if it is there
 abbrev pub volume_of : Spaces → ℕ → Option VolumeSpace
 volume_of s vol = slice_index_or s.volumes (vol - 1) None
 

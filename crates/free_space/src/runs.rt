@@ -30,8 +30,8 @@ fn push_run(runs: &mut Vec<FreeRun>, vol: VolIx, end: u32, count: u32) -> Result
     Ok(())
 }
 
-/// Looks at a page after `count` free ones, and returns how many free ones are before the next page.
-/// If the page is used, the pages before it are appended to runs.
+/// Looks at a page after `count` free ones, and returns how many free ones are before the next
+/// page. If the page is used, the pages before it are appended to runs.
 fn pass_page(
     runs: &mut Vec<FreeRun>,
     vol: VolIx,

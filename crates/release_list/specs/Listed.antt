@@ -33,7 +33,7 @@ from_by (Some Trim) cells = unwrap_or (keep_of cells) 65536
 from_by (Some Remove) cells = 0
 from_by None cells = 0
 
--- from which page on the pages of a file go, by what is left to be done
+-- from which page on the pages of a file go, by what is left to be done; 0 if nothing is said
 abbrev pub stale_from : List PlacedCell → ℕ
 stale_from cells = from_by (left_of cells) cells
 

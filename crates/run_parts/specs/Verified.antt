@@ -25,7 +25,7 @@ use Rattle.run_parts.specs.declared.status.Status.TheVariants as status
 abbrev pub first_code : ℕ → ℕ
 first_code at = if at == 0 then 1 else if at == 1 then 2 else 3
 
--- the one fault of an image that has no domain from a page on
+-- the one row for an image in which no domain is found, at the page that says so
 abbrev pub first_row : ℕ → ℕ → FaultRow
 first_row vol at = record { code = first_code at; home = record { vol = vol; page = at } }
 

@@ -42,7 +42,7 @@ HasWholeSource pages at = (cells : List PlacedCell) → LinksFrom pages at cells
 abbrev pub IsOfOriginal : Pages → CellAt → List PlacedCell → SeenFile → Type 0
 IsOfOriginal pages at cells seen = LinksFrom pages at cells × (seen_in cells ≡ Some seen)
 
--- the file of cells that begin there, as a clone has it whose own they are
+-- the file of a clone's own cells, which begin there
 abbrev pub IsOfClone : Pages → CellAt → List PlacedCell → SeenFile → Type 0
 IsOfClone pages at cells seen =
     LinksFrom pages at cells × (is_removed cells ≡ false) × IsOwn pages cells seen

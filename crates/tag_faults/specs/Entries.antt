@@ -48,12 +48,12 @@ abbrev pub IsEntryOf : List ℕ → ℕ → Home → NamedCell → Type 0
 IsEntryOf page number home one =
     (entry : ℕ) × (entry < 1022) × IsEntryAt page number home one entry
 
--- a used entry of the page at a home
+-- an entry of the page at a home that may name a cell
 abbrev pub IsEntryThere : Pages → ℕ → NamedCell → Home → Type 0
 IsEntryThere pages number one home =
     (page : List ℕ) × (pages home ≡ Some page) × IsEntryOf page number home one
 
--- a used entry of one of these pages
+-- such an entry of one of these pages
 abbrev pub IsEntryAmong : Pages → ℕ → List Home → NamedCell → Type 0
 IsEntryAmong pages number homes one =
     (home : Home) × Contains homes home × IsEntryThere pages number one home
@@ -63,7 +63,7 @@ abbrev pub IsEntryIn : Pages → Frame → Table → NamedCell → ℕ → Type 
 IsEntryIn pages frame table one number = (home : Home) × (place : ℕ) × (page : List ℕ)
     × IsTagsPage pages frame table number place home page × IsEntryOf page number home one
 
--- the used entries of all slots
+-- the entries of all slots that may name a cell
 abbrev pub AreEntries : Pages → Frame → Table → List NamedCell → Type 0
 AreEntries pages frame table entries = (one : NamedCell) → Contains entries one
     ↔ HasEntry pages frame table one.number (tag_of one) (address_of one) one.home
