@@ -59,7 +59,7 @@ word_at-written (w ∷ words) rest (suc k) lt fits =
     let skip : 4 * suc k ≡ suc (suc (suc (suc (4 * k)))) = omega arith in
     ap (λ (n : ℕ). little_number 4 (drop n (flat_map (little_bytes 4) (w ∷ words) ++ rest))) skip ∙ word_at-written words rest k (omega arith) (λ i. fits (suc i))
 
--- the words in front of the table's home
+-- the words before the table's home
 abbrev front_of : Anchor → List ℕ
 front_of a = a.number % 2 ^ 32 ∷ a.number / 2 ^ 32 ∷ a.version ∷ a.log_vol ∷ a.log_page ∷ a.log_pages ∷ a.start ∷ 0 ∷ a.group % 2 ^ 32 ∷ a.group / 2 ^ 32 ∷ []
 
@@ -120,7 +120,7 @@ none = replicate 3584 0
 abbrev IsZeros : List ℕ → Type 0
 IsZeros zeros = zeros ≡ none
 
--- what is written over them has zeros behind it
+-- what is written over them has zeros after it
 pub body_is : (dst zeros words : List ℕ) → dst ≡ flat_map (little_bytes 4) words → IsZeros zeros → dst ++ drop 112 zeros ≡ flat_map (little_bytes 4) words ++ zero_bytes 3472
 unfolding zero_bytes
 body_is dst zeros words written is = (λ i. written i ++ drop 112 (is i)) ∙ (λ i. flat_map (little_bytes 4) words ++ drop 112 none)

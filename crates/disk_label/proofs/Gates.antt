@@ -1,4 +1,4 @@
--- Gates of a volume of which both slots are ready have no say in which anchor is the domain's.
+-- Gates of a volume whose two slots are ready have no say in which anchor is the domain's.
 use Rattle.std.proofs.Common.{◌≡◌, ◌⊎◌, ℕ, ◌+◌, ◌%◌, ◌<◌, ◌≤◌, List, Option, Some, None, refl, sym, ◌∙◌, ap, subst, inl, inr, arith}
 use Rattle.volume_disk.specs.Disk.{Disk}
 use Rattle.volume_disk.specs.Image.{Image, IsIn, SameOutside, bytes_at}

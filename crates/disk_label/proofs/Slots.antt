@@ -25,7 +25,7 @@ module _ (vol slot : ℕ) (low : 1 ≤ vol) (high : slot ≤ 1) where
   pub gate_at : (image : Image) → image (volume_of place) (gate_of place) ≡ image vol (8192 + 4096 * slot)
   gate_at image = ap (λ (v : ℕ). image v (gate_of place)) volume_is ∙ ap (image vol) gate_is
 
-  -- the anchor that a read of the block behind it shows
+  -- the anchor that a read of the block after it shows
   pub anchor_read : (image : Image) (block : List ℕ) (at : ℕ) → at ≡ 8192 + 4096 * slot + 512 → block ≡ bytes_at image vol at 512 → anchor_at image place ≡ anchor_from block slot
   anchor_read image block at is read =
       let start : gate_of place + 512 ≡ at = omega arith in

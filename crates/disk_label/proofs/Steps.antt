@@ -93,7 +93,7 @@ module _ (new : Anchor) (whole : IsWhole new) where
       any_moment = λ told old ready. or_new old d1 (closing vol slot whole.volume.0 whole.slot old new d0 told ready d1 first);
     }
 
-    -- and the body is written behind it
+    -- and the body is written after it
     module _ (closes : Tells d0 → Settles vol gate closed d0.now d1.now) (d2 : Disk) (second : OnlyWrites d1 d2 Body) where
       some : 0 < length closed
       some = omega (arith, length-closed)

@@ -27,7 +27,7 @@ module _ (vol slot : ℕ) (low : 1 ≤ vol) (high : slot ≤ 1) where
   gate_open : (sizes : List ℕ) (image : Image) → Counts sizes image place → image vol gate ≡ 165
   gate_open sizes image counts = sym (gate_at vol slot low high image) ∙ counts.is_open
 
-  -- the domain's anchor stands there, where it names the slot
+  -- the domain's anchor stands there, if it names the slot
   pub stands_at : (sizes : List ℕ) (image : Image) (anchor : Anchor) (was : IsGreatest 16 sizes image anchor) → anchor.log_vol ≡ vol → anchor.slot ≡ slot → was.place ≡ place
   stands_at sizes image anchor was names stands =
       let volume : volume_of was.place ≡ vol = sym was.counts.names ∙ (λ i. (was.is i).log_vol) ∙ names in
@@ -119,7 +119,7 @@ module _ (vol slot : ℕ) (low : 1 ≤ vol) (high : slot ≤ 1) where
         let open_there : b (volume_of place) (gate_of place) ≡ image (volume_of place) (gate_of place) = gate_at vol slot low high b ∙ is_open ∙ sym counts.is_open in
         (Counts-same sizes image b place open_there (sym behind_same) counts, behind_same))
 
-    -- the gate was closed, and zeros stand behind it
+    -- the gate was closed, and zeros stand after it
     pub ready_zeros : (sizes : List ℕ) (old : Option Anchor) → (b vol gate ≡ 165 → ⊥) → ((k : ℕ) → k < 512 → b vol (gate + 512 + k) ≡ 0) → IsAnchor sizes b old → IsAnchor sizes image old
     ready_zeros sizes old shut zeros =
         keeps_anchor gate 512 (omega arith) (omega arith) b image same sizes old
@@ -135,7 +135,7 @@ module _ (vol slot : ℕ) (low : 1 ≤ vol) (high : slot ≤ 1) where
             (λ i. (anchor_read vol slot low high b (bytes_at b vol (gate + 512) 512) (gate + 512) refl refl i).log_vol)
             ∙ log_vol-zeros (bytes_at b vol (gate + 512) 512) slot (λ k lt. get_or-bytes_from (b vol) (gate + 512) 512 k 0 (omega arith) ∙ zeros k (omega arith))
 
--- What a read shows of the gate, where it is synced.
+-- What a read shows of the gate, if it is synced.
 pub gate_seen : (vol gate : ℕ) (moment : Moment) (image : Image) → moment.unsynced vol gate ≡ false → MayLeave moment image → image vol gate ≡ moment.contents vol gate
 gate_seen vol gate moment image synced left = left.synced vol gate synced
 
@@ -162,7 +162,7 @@ module _ (vol slot : ℕ) (low : 1 ≤ vol) (high : slot ≤ 1) (sizes : List �
   abbrev Old : Image → Type 0
   Old = λ image. IsAnchor sizes image old
 
-  -- a body is being written behind the closed gate
+  -- a body is being written after the closed gate
   module _ (d1 d2 : Disk) (shut : Shut sizes old vol slot d1.now) (told : Tells d1) (writes : OnlyWrites d1 d2 (IsIn vol (at_gate + 512) 3584)) where
     torn_shut : (image : Image) → MayLeaveTorn (IsIn vol (at_gate + 512) 3584) d1.now image → image vol at_gate ≡ 165 → ⊥
     torn_shut image torn is_open = shut.is_shut torn.0 torn.1 (sym (torn.2 vol at_gate (λ is_in. let a = is_in.1 in omega arith)) ∙ is_open)
@@ -213,7 +213,7 @@ module _ (vol slot : ℕ) (low : 1 ≤ vol) (high : slot ≤ 1) (old : Option An
     told-1 : Tells d1
     told-1 = first.touches.told ∙ told
 
-    -- and the body is written behind it
+    -- and the body is written after it
     module _ (d2 : Disk) (second : OnlyWrites d1 d2 (IsIn vol (own_gate + 512) 3584)) where
       pub before_opening : LeavesOnly d0 d2 HasOld
       before_opening = then_on d0 d1 d2 HasOld (closing d1 first) (writing vol slot low high d0.sizes old d1 d2 closed told-1 second)

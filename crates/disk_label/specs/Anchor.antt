@@ -12,7 +12,7 @@ use Rattle.disk_label.specs.declared.anchor.Anchor.{Anchor}
 abbrev pub volume_of : ℕ → ℕ
 volume_of place = place / 2 + 1
 
--- the byte of its gate, a block behind which its body stands
+-- the byte of its gate, the block that its body follows
 abbrev pub gate_of : ℕ → ℕ
 gate_of place = gate_byte (place % 2)
 
@@ -46,7 +46,7 @@ pub record IsGreatest (n : ℕ) (sizes : List ℕ) (image : Image) (anchor : Anc
   pub first : (p : ℕ) → p < place → Counts sizes image p
       → (anchor_at image p).number < anchor.number
 
--- the anchor of the slots below n, or none where none counts
+-- the anchor of the slots below n, or none if none counts
 abbrev pub IsAnchorBelow : ℕ → List ℕ → Image → Option Anchor → Type 0
 IsAnchorBelow n sizes image None = (p : ℕ) → p < n → ¬ Counts sizes image p
 IsAnchorBelow n sizes image (Some anchor) = IsGreatest n sizes image anchor

@@ -1,4 +1,4 @@
--- The fields of an anchor's body, of which the first 112 bytes are in use.
+-- The fields of an anchor's body. Its first 112 bytes are in use.
 use Rattle.std.specs.Prelude.{◌&&◌, ◌^◌, ◌+◌, ◌*◌, ◌-◌, ◌≤◌, ℕ, nat_le, if◌then◌else◌, List, [], ◌∷◌, drop, slice_index_or, Option, Some, None}
 use Rattle.byteorder.specs.Endian.{little_number}
 use Rattle.volume_disk.specs.domain_base.declared.place.Home.{Home}
@@ -13,7 +13,7 @@ word_at body k = little_number 4 (drop (4 * k) body)
 abbrev pub long_at : List ℕ → ℕ → ℕ
 long_at body k = word_at body k + 2 ^ 32 * word_at body (k + 1)
 
--- a home, and none where the volume's number is outside of 1 to 8
+-- a home, and none if the volume's number is outside of 1 to 8
 abbrev pub home_from : ℕ → ℕ → Option Home
 home_from vol page =
     if nat_le 1 vol && nat_le vol 8 then Some (record { vol = vol; page = page }) else None

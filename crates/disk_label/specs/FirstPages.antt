@@ -17,7 +17,7 @@ anchors_page = 1
 abbrev pub gate_byte : ℕ → ℕ
 gate_byte slot = page_bytes * anchors_page + 4096 * slot
 
--- The first pages of a volume of so many pages: label, anchors, the bitmap's pages and the first
+-- The first pages of a volume of `pages` pages: label, anchors, the bitmap's pages and the first
 -- page of mcells. Where a domain is made, the log follows, and then the table of filesets.
 abbrev pub first_pages : Version → ℕ → FirstPages
 first_pages version pages =

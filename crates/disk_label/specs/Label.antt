@@ -15,8 +15,8 @@ use Rattle.disk_label.specs.declared.label.Label.{Label}
 abbrev pub label_block : Image → ℕ → List ℕ
 label_block image vol = bytes_at image vol (page_bytes * label_page) block_bytes
 
--- a block is this label of this volume, which has at least so many pages: `ADVFSLAB`, the version,
--- the volume, the pages in use and those of the bitmap
+-- a block is this label of this volume, which has at least the pages that the label says:
+-- `ADVFSLAB`, the version, the volume, the pages in use and those of the bitmap
 pub record IsLabel (most vol : ℕ) (label : Label) (block : List ℕ) : Type 0 where
   pub magic_low : word_at block 0 ≡ 0x46564441
   pub magic_high : word_at block 1 ≡ 0x42414c53

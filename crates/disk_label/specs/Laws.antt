@@ -28,7 +28,7 @@ KeepsAnchors old new =
     (image : Image) → MayLeave new.now image
     → (before : Image) × MayLeave old.now before × SameIn IsOnAnchors before image
 
--- so it is after calls that touch none of these pages
+-- each image agrees so after calls that touch none of these pages
 abbrev pub LeavesAnchors : Disk → Disk → Type 0
 LeavesAnchors old new =
     Tells old → Touches old new (λ v k. ¬ IsOnAnchors v k) → KeepsAnchors old new
@@ -45,7 +45,7 @@ KeepsAnchor old new anchor =
     Tells old → HasAnchor old anchor → Touches old new (λ v k. ¬ IsOnAnchors v k)
     → LeavesOnly old new (λ image. IsAnchor old.sizes image anchor)
 
--- so do calls that touch no more than the gates of a volume of which both slots are ready
+-- calls that touch no more than the gates of a volume whose two slots are ready do so too
 abbrev pub KeepsAnchorByGates : Disk → Disk → Option Anchor → ℕ → Type 0
 KeepsAnchorByGates old new anchor vol =
     Tells old → IsReady old anchor vol 0 → IsReady old anchor vol 1 → Touches old new (IsGateOf vol)

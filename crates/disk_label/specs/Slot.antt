@@ -15,7 +15,7 @@ use Rattle.disk_label.specs.declared.anchor.Anchor.{Anchor}
 abbrev pub IsOnAnchors : Places
 IsOnAnchors v k = (page_bytes * anchors_page ≤ k) × (k < page_bytes * (anchors_page + 1))
 
--- a slot of a volume, and in it the gate and the body behind it
+-- a slot of a volume, and in it the gate and the body after it
 abbrev pub IsSlot : ℕ → ℕ → Places
 IsSlot vol slot = IsIn vol (gate_byte slot) 4096
 
@@ -33,12 +33,12 @@ IsGateOf vol v k = IsGate vol 0 v k ⊎ IsGate vol 1 v k
 
 -- What each image has.
 
--- each image that a stop might leave has this anchor, or none where there is none
+-- each image that a stop might leave has this anchor, or none if there is none
 abbrev pub HasAnchor : Disk → Option Anchor → Type 0
 HasAnchor disk anchor = (image : Image) → MayLeave disk.now image → IsAnchor disk.sizes image anchor
 
 -- a slot of a volume is ready for the next anchor: each image that a stop might leave has the old
--- anchor, or none where there is none, whatever it has for the slot's gate
+-- anchor, or none if there is none, whatever it has for the slot's gate
 abbrev pub IsReady : Disk → Option Anchor → ℕ → ℕ → Type 0
 IsReady disk old vol slot =
     (image : Image) → MayLeaveTorn (IsGate vol slot) disk.now image → IsAnchor disk.sizes image old
@@ -52,7 +52,7 @@ abbrev pub StandsIn : Option Anchor → ℕ → ℕ → Type 0
 StandsIn None vol slot = ⊥
 StandsIn (Some anchor) vol slot = (anchor.log_vol ≡ vol) × (anchor.slot ≡ slot)
 
--- an image has the old anchor, or none where there was none, or the new one
+-- an image has the old anchor, or none if there was none, or the new one
 abbrev pub IsOldOrNew : List ℕ → Option Anchor → Anchor → Image → Type 0
 IsOldOrNew sizes old new image = IsAnchor sizes image old ⊎ IsAnchor sizes image (Some new)
 
@@ -63,7 +63,7 @@ IsGateSynced disk vol slot = disk.now.unsynced vol (gate_byte slot) ≡ false
 -- Calls.
 
 -- an anchor was written, or its write was cut short: in its slot alone, and each image since has
--- the old anchor or the new one, where the slot was ready
+-- the old anchor or the new one, if the slot was ready
 pub record WritesAnchor (old new : Disk) (anchor : Anchor) : Type 0 where
   pub writes : OnlyWrites old new (IsSlot anchor.log_vol anchor.slot)
   pub any_moment : Tells old → (before : Option Anchor) → IsReadyFor old before anchor
@@ -71,7 +71,7 @@ pub record WritesAnchor (old new : Disk) (anchor : Anchor) : Type 0 where
 
 -- an anchor is written
 pub record HasWritten (old new : Disk) (anchor : Anchor) : Type 0 where
-  -- each image has it, where the slot was ready
+  -- each image has it, if the slot was ready
   pub has_new : Tells old → (before : Option Anchor) → IsReadyFor old before anchor
       → HasAnchor new (Some anchor)
   -- the next anchor on the same volume finds its slot ready
@@ -86,9 +86,9 @@ pub record HasWritten (old new : Disk) (anchor : Anchor) : Type 0 where
   pub settled : Tells old
       → Settles anchor.log_vol (gate_byte anchor.slot) (slot_bytes anchor) old.now new.now
 
--- A slot was made ready, or that was cut short. Nothing is changed but its body. Where its gate was
+-- A slot was made ready, or that was cut short. Nothing is changed but its body. If its gate was
 -- synced, each image since has the anchor that all of them had, and each other slot that was ready
--- stays so.
+-- stays ready.
 pub record ReadiesSlot (old new : Disk) (vol slot : ℕ) : Type 0 where
   pub touches : Touches old new (IsBody vol slot)
   pub any_moment : Tells old → (before : Option Anchor) → HasAnchor old before
@@ -96,7 +96,7 @@ pub record ReadiesSlot (old new : Disk) (vol slot : ℕ) : Type 0 where
   pub others : Tells old → (before : Option Anchor) (v s : ℕ) → IsGateSynced old vol slot
       → ¬ ((v ≡ vol) × (s ≡ slot)) → IsReady old before v s → IsReady new before v s
 
--- a slot is made ready: it is so for the anchor that all images had, where that does not stand
+-- a slot is made ready: it is ready for the anchor that all images had, if that does not stand
 -- there and the gate was synced
 abbrev pub HasReadied : Disk → Disk → ℕ → ℕ → Type 0
 HasReadied old new vol slot =

@@ -126,6 +126,7 @@ pub fn read_label<R: Rack>(rack: &mut R, vol: VolIx) -> Result<Option<Label>, Vo
         → 1 ≤ volume_pages old.sizes vol
         → IsLabelOf (volume_pages old.sizes vol) vol (label_block old.now.contents vol) label) }
     ensures empty { volume_pages (R.disk rack.old).sizes vol ≡ 0 → result ≡ Ok None }
+    ensures few { IsAtMost 1 (R.disk rack.old) (R.disk rack.new) }
     ensures fault { NamesReadFault (R.disk rack.old) (R.disk rack.new) result }
 {
     let available = rack.pages(vol);

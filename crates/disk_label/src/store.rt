@@ -141,6 +141,7 @@ fn read_slot<R: Rack>(rack: &mut R, vol: VolIx, slot: u8) -> Result<Option<Ancho
     ensures reads { OnlyReads (R.disk rack.old) (R.disk rack.new) }
     ensures found { let old = R.disk rack.old in let place = 2 * (vol - 1) + slot in
         IfOk result (λ found. Tells old → StandsAt old.sizes old.now.contents place found) }
+    ensures few { IsAtMost 2 (R.disk rack.old) (R.disk rack.new) }
     ensures fault { NamesReadFault (R.disk rack.old) (R.disk rack.new) result }
 {
     if !is_slot_open(rack, vol, slot)? {
@@ -163,6 +164,7 @@ fn look_at<R: Rack>(rack: &mut R, place: u32, best: Option<Anchor>) -> Result<Op
     ensures better { let old = R.disk rack.old in IfOk result (λ better. Tells old
         → IsAnchorBelow place old.sizes old.now.contents best
         → IsAnchorBelow (place + 1) old.sizes old.now.contents better) }
+    ensures few { IsAtMost 2 (R.disk rack.old) (R.disk rack.new) }
     ensures fault { NamesReadFault (R.disk rack.old) (R.disk rack.new) result }
 {
     let Some(vol) = VolIx::new(place / 2 + 1) else {
@@ -194,9 +196,9 @@ fn greater(best: Option<Anchor>, found: Option<Anchor>) -> Option<Anchor>
 
 /// The domain's anchor. The volumes are looked through in their order, and on each slot 0 before
 /// slot 1. Of what counts there the highest number wins, and if that is met more than once, the
-/// place where it was met first. It writes nothing. On a rack on which nothing is pending on the
-/// pages of anchors, each image that a stop may leave has the anchor that is returned, or none
-/// (`domain_attaching`).
+/// place where it was met first. It writes nothing, and makes at most 32 reads: two for each slot.
+/// On a rack on which nothing is pending on the pages of anchors, each image that a stop may leave
+/// has the anchor that is returned, or none (`domain_attaching`).
 ///
 /// Fails with `NoAnchor` if no anchor counts, and with `Fault` if a read of that volume failed.
 pub fn read_anchor<R: Rack>(rack: &mut R) -> Result<Anchor, AnchorFault>
@@ -206,6 +208,7 @@ pub fn read_anchor<R: Rack>(rack: &mut R) -> Result<Anchor, AnchorFault>
     ensures none { let old = R.disk rack.old in result ≡ Err AnchorFault.NoAnchor
         → Tells old → IsAnchor old.sizes old.now.contents None }
     ensures passed { OnOk result ((R.disk rack.new).read_faults ≡ (R.disk rack.old).read_faults) }
+    ensures few { IsAtMost 32 (R.disk rack.old) (R.disk rack.new) }
     ensures fault { IfErr result (HasCause (R.disk rack.old) (R.disk rack.new)) }
 {
     let mut best = None;

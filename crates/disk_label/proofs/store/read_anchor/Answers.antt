@@ -1,4 +1,4 @@
-use Rattle.std.proofs.Common.{◌+◌, sym, ◌∙◌}
+use Rattle.std.proofs.Common.{arith, ◌+◌, sym, ◌∙◌}
 use Rattle.volume_disk.specs.Disk.{Tells}
 use Rattle.volume_disk.proofs.Laws.{only_reads-then}
 use Rattle.disk_label.proofs.Slots.{IsAnchorBelow-same}
@@ -15,6 +15,7 @@ loop-place-preserved g c =
     record {
       reads = only_reads-then old mid (g.R.Rack.disk c.look_at.new.rack) so_far.reads c.look_at.ensures.reads;
       passed = c.in-Ok.ensures.fault ∙ so_far.passed;
+      few = omega (arith, so_far.few, c.look_at.ensures.few);
       best = λ told.
           let mid_told : Tells mid = so_far.reads.touches.told ∙ told in
           IsAnchorBelow-same (c.loop-place.place + 1) mid.sizes old.sizes mid.now old.now _ (sym so_far.reads.touches.sizes) (sym (so_far.reads.now told))

@@ -34,7 +34,7 @@ module _ (vol slot : ℕ) (low : 1 ≤ vol) (high : slot ≤ 1) (old : Option An
       subst (λ (l : List ℕ). IsAnchor l image old) (sym reads.touches.sizes)
       (ready_open vol slot low high torn.0 image torn.2 d0.sizes old other (seen torn.0 torn.1 ∙ is_open) (has torn.0 (before torn.0 torn.1)))
 
-  -- where it is closed, zeros are written behind it
+  -- if it is closed, zeros are written after it
   module _ (closed : d0.now.contents vol gate ≡ 165 → ⊥) (d2 : Disk) (behind_gate : OnlyWrites d1 d2 (IsIn vol (gate + 512) 3584)) where
     shut : Shut d0.sizes old vol slot d1.now
     shut = record { has_old = λ image left. has image (before image left); is_shut = λ image left is_open. closed (sym (seen image left) ∙ is_open) }
@@ -81,7 +81,7 @@ read_alone vol slot d0 d1 reads = record {
   others = λ told old v s synced other ready. ready-read old v s d0 d1 told reads ready;
 }
 
--- nor does the write behind a closed gate
+-- nor does the write after a closed gate
 body_written : (vol slot : ℕ) → 1 ≤ vol → slot ≤ 1 → (d0 d1 d2 : Disk) → OnlyReads d0 d1 → (Tells d0 → d0.now.contents vol (8192 + 4096 * slot) ≡ 165 → ⊥) → OnlyWrites d1 d2 (IsBody vol slot) → ReadiesSlot d0 d2 vol slot
 body_written vol slot low high d0 d1 d2 reads closed writes = record {
   touches = touches-then d0 d1 d2 (IsBody vol slot) (touches-wider d0 d1 NoPlace (IsBody vol slot) (λ v k none. absurd none) reads.touches) writes.touches;
