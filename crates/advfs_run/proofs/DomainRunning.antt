@@ -108,7 +108,7 @@ stamped_within old mid new entries are low high k d there =
     let is = are k d there in
     (omega (arith, is, low), omega (arith, is, high))
 
--- they stay so where the calls of before are fewer
+-- they stay so if the calls of before are fewer
 pub stamped_since : (old mid new : Disk) (entries : List Entry) → old.calls ≤ mid.calls → AreStampedWithin mid new entries → AreStampedWithin old new entries
 stamped_since old mid new entries low are k d there =
     let is = are k d there in

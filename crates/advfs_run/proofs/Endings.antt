@@ -217,7 +217,7 @@ unbegun_run a_form.Run old new s history run none begun left = inl (none, begun,
 unbegun_run (a_form.Make version overwrites) old new s history run none begun left = none
 unbegun_run a_form.Verify old new s history run none begun left = none
 
--- what a domain has is left where it was not attached
+-- what a domain has is left if it was not attached
 left_unfit : (old new : Disk) (why : Unattached) → BeginsNot old new (status.Unfit why) → LeavesContents old new
 left_unfit old new unfit.Cloned not_begun = inr (inl not_begun.0)
 left_unfit old new unfit.ReadThrough not_begun = inr (inl not_begun.0)

@@ -30,7 +30,7 @@ IsRun (Ok (Try pages)) = Unit {0}
 IsRun (Ok Run) = Unit {0}
 IsRun other = ⊥
 
--- what was read: of a script alone, where one is run
+-- what was read if a script is run or tried; for other words nothing was read
 abbrev pub HasReadFor : Result Form ℕ → Option (List ℕ) → List ℕ → Status → List Entry → Type 0
 HasReadFor (Ok (Try pages)) left read status history = HasRead left read status history
 HasReadFor (Ok Run) left read status history = HasRead left read status history
@@ -56,8 +56,8 @@ LeadsFor (Try pages) old new entries closed =
 LeadsFor Run old new entries closed = RunsFrom old new entries closed
 LeadsFor other old new entries closed = ⊥
 
--- a rack was left alone, or only read; or what its contents were read as is what each image is read
--- as that a stop leaves since then
+-- a rack was left alone, or only read; or each image that a stop leaves since then is read as what
+-- its contents were read as
 abbrev pub LeavesContents : Disk → Disk → Type 0
 LeavesContents old new = (new ≡ old) ⊎ OnlyReads old new ⊎ StaysReadSince old new
 
@@ -73,7 +73,7 @@ abbrev pub PrintsAs : Status → Status → Type 0
 PrintsAs end result = (result ≡ end) ⊎ (result ≡ ended.SinkFault) ⊎ (result ≡ ended.OutOfMemory)
 
 -- a run has begun, and its domain was closed with this end, whether its history was printed or not;
--- the history leads from what the rack had, and where the end is Ok all of it is on the rack
+-- the history leads from what the rack had, and if the end is Ok, all of it is on the rack
 pub record HasRun (form : Form) (old new : Disk) (status : Status) (history : List Entry) : Type 0
   where
     pub end : Status
@@ -81,7 +81,7 @@ pub record HasRun (form : Form) (old new : Disk) (status : Status) (history : Li
     pub closes : ClosesAs old new end
     pub leads : LeadsFor form old new history (end ≡ ended.Ok)
 
--- so it is of a run, or none has begun
+-- a run has ended in this way, or none has begun
 abbrev pub RunsFor : Result Form ℕ → Disk → Disk → Status → List Entry → Type 0
 RunsFor (Ok (Try pages)) old new status history =
     HasNotRun (Try pages) old new status history ⊎ HasRun (Try pages) old new status history
@@ -89,7 +89,7 @@ RunsFor (Ok Run) old new status history =
     HasNotRun Run old new status history ⊎ HasRun Run old new status history
 RunsFor other old new status history = history ≡ []
 
--- the first volume is large enough for a domain, where one is to be made
+-- the first volume is large enough for a domain, if one is to be made
 abbrev pub IsLargeFor : Form → Disk → Type 0
 IsLargeFor (Try pages) old = min_first_volume_pages ≤ volume_pages old.sizes 1
 IsLargeFor other old = Unit {0}
@@ -100,9 +100,9 @@ NotBegun (Try pages) old new status = MakesNone old new status
 NotBegun Run old new status = BeginsNot old new status
 NotBegun other old new status = ⊥
 
--- the causes of the statuses: at Ok no write or sync of the rack has failed; of `run` those for
--- which a domain is not attached, of `try` those for which none is made, and for both that a call
--- failed of a volume
+-- the causes of the statuses: at Ok no write or sync of the rack has failed; for `run` why a
+-- domain is not attached, for `try` why none is made, and for both that a call of a volume
+-- failed
 abbrev pub EndsFor : Result Form ℕ → Disk → Disk → Status → Type 0
 EndsFor (Ok (Try pages)) old new ended.Ok =
     IsLargeFor (Try pages) old × WritesPassed old new
@@ -122,7 +122,7 @@ EndsFor (Ok Run) old new (ended.Found faults) = ⊥
 EndsFor (Ok Run) old new (ended.Occupied page) = ⊥
 EndsFor other old new status = Unit {0}
 
--- a volume that is named after a history is one of which a write or a sync has failed
+-- a write or a sync has failed of a volume that is named after a history
 abbrev pub IsLostBehind : Disk → Disk → Status → List Entry → Type 0
 IsLostBehind old new status history =
     (vol : ℕ) → status ≡ ended.VolumeFault vol → history ≢ [] → WriteFailed old new vol
@@ -151,7 +151,7 @@ MakeEndsFor (Ok (Make version overwrites)) old new status =
     × TellsOfSmall old status × Guards overwrites old new
 MakeEndsFor other old new status = Unit {0}
 
--- a stop as a domain is made leaves no anchor that counts, or the empty domain, where none counted;
+-- a stop as a domain is made leaves no anchor that counts, or the empty domain, if none counted;
 -- else also what was there, but for the gates of anchors
 abbrev pub StopsFor : Result Form ℕ → Disk → Disk → Type 0
 StopsFor (Ok (Make version overwrites)) old new =
@@ -186,8 +186,7 @@ LacksScript ended.TooLong = Unit {0}
 LacksScript (ended.BadScript line kind) = Unit {0}
 LacksScript other = ⊥
 
--- a rack is left alone where the words ask for nothing, and where no script was had that they ask
--- for
+-- a rack is left alone if the words ask for nothing, or if they ask for a script and none was had
 abbrev pub LeavesRackFor : {R : Type 0} → Result Form ℕ → Status → R → R → Type 0
 LeavesRackFor (Err word) status old new = new ≡ old
 LeavesRackFor (Ok (Try pages)) status old new = LacksScript status → new ≡ old

@@ -40,8 +40,8 @@ Keeps disk s =
 abbrev pub KeepsVolumes : Disk → State → Type 0
 KeepsVolumes disk s = ∥ ((anchor : Anchor) × HasVolumesOf anchor s × HasNoGroup disk anchor) ∥₁
 
--- from each state that pages with this anchor mean the entries lead to some filesets; these are on
--- the rack where it holds that the domain was closed, with this anchor and the volumes that it has
+-- from each state that pages with this anchor mean, the entries lead to some filesets; if `closed`
+-- holds, these are on the rack, with this anchor and the volumes that it has
 pub record LeadsFrom (pages : Pages) (frame : Frame) (sizes : List ℕ) (entries : List Entry)
     (new : Disk) (closed : Type 0) : Type 0 where
   pub all : FilesetMap
@@ -51,7 +51,7 @@ pub record LeadsFrom (pages : Pages) (frame : Frame) (sizes : List ℕ) (entries
       → Keeps new (record start { filesets = all })
   pub volumes : closed → ∥ HasNoGroup new frame.anchor ∥₁
 
--- the same from the state of a domain that was just made
+-- the entries lead in this way from the state of a domain that was just made
 pub record LeadsFromNew (version : Version) (sizes : List ℕ) (entries : List Entry) (new : Disk)
     (closed : Type 0) : Type 0 where
   pub all : FilesetMap
@@ -78,7 +78,8 @@ pub record RunsFrom (old new : Disk) (entries : List Entry) (closed : Type 0) : 
   pub some : ∥ ((start : State) × IsStartOf pages frame old.sizes start) ∥₁
   pub leads : ∥ LeadsFrom pages frame old.sizes entries new (Tells old × closed) ∥₁
 
--- each entry was answered after so many calls of the rack, and at most so many
+-- each entry was answered after at least as many calls as the old rack counts, and at most as many
+-- as the new one counts
 abbrev pub AreStampedWithin : Disk → Disk → List Entry → Type 0
 AreStampedWithin old new entries = All (λ e. (old.calls ≤ e.stamp) × (e.stamp ≤ new.calls)) entries
 

@@ -13,7 +13,7 @@ pub struct Image {
     ghost one: { length (memory_disk rack).sizes ≡ 1 },
 }
 
-/// An image of so many pages of zeros; these calls of its rack fail.
+/// An image of `pages` pages of zeros; these calls of its rack fail.
 pub fn zeros(alloc: Global, pages: u32, fails: &[u64]) -> Result<Image, AllocError> {
     let rack = MemoryRack::new(alloc, &[pages], fails, false)?;
     Ok(Image { rack })
@@ -98,7 +98,7 @@ pub fn bytes_of(alloc: Global, image: Image) -> Result<(Image, Vec<u8>), AllocEr
     Ok((image, all))
 }
 
-/// An image of so many pages that begins with as many of these bytes as it has room for.
+/// An image of `pages` pages that begins with as many of these bytes as it has room for.
 pub fn image_with(alloc: Global, pages: u32, bytes: &[u8]) -> Result<Image, AllocError> {
     let mut image = zeros(alloc, pages, &[])?;
     let mut block: u32 = 0;
@@ -109,7 +109,7 @@ pub fn image_with(alloc: Global, pages: u32, bytes: &[u8]) -> Result<Image, Allo
     Ok(image)
 }
 
-/// An image of so many pages of text.
+/// An image of `pages` pages of text.
 pub fn text_image(alloc: Global, pages: u32) -> Result<Image, AllocError> {
     let mut text = Vec::new(alloc);
     for _ in 0..pages {

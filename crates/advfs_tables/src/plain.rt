@@ -19,7 +19,7 @@ fn answered(
     history_line(alloc, &entry)
 }
 
-/// The history of one client's commands over filesets of which there are none at first.
+/// The history of one client's commands, over no filesets at first.
 fn section_history(alloc: Global, section: Section) -> Result<Vec<u8>, AllocError> {
     let Section { number, commands } = section;
     let mut filesets = Filesets::new(alloc);

@@ -162,7 +162,7 @@ fn note(
     Ok(())
 }
 
-/// A script that is one comment of so many bytes.
+/// A script that is one comment of `length` bytes.
 fn comment(alloc: Global, length: u32) -> Result<Vec<u8>, AllocError> {
     let mut script = zero_bytes(alloc, length as usize)?;
     if let Some(first) = script.first_mut() {

@@ -1,4 +1,4 @@
--- Memory of which each part was read of the pages is that of the pages.
+-- Memory is that of the pages if each part of it was read from them.
 use Rattle.std.proofs.Common.{◌≡◌, ◌∙◌, ℕ, [], None, refl, sym, ap, subst}
 use Rattle.no_faults.specs.page_store.Pages.{Pages}
 use Rattle.no_faults.specs.free_cells.VolumeTable.{KeptTable}

@@ -33,7 +33,7 @@ one_more P count before this k below =
 abbrev pub LeadsElse : Pages → Sign → List TagPlace → List Tag → ℕ → Type 0
 LeadsElse pages sign places tags k = (tag : Tag) → slice_get tags k ≡ Some tag → ¬ LeadsSo pages sign places tag
 
--- so where none of the tags in use does, none of all tags does
+-- so if none of the tags in use does, none of all tags does
 pub none_leads : (pages : Pages) (sign : Sign) (places : List TagPlace) (tags : List Tag) → ListsOnce (IsUsed pages places) tags
     → ((k : ℕ) → k < length tags → LeadsElse pages sign places tags k) → ¬ TagSays pages sign places
 none_leads pages sign places tags lists none found =

@@ -49,7 +49,7 @@ none_some x is = absurd (let e : None ≡ Some x = is in cc)
 no_bool : {P : Type 0} → false ≡ true → P
 no_bool is = absurd (let e : false ≡ true = is in cc)
 
--- the pages of a tag directory where something is in the slot, and none where the table has no such
+-- the pages of a tag directory if something is in the slot, and none if the table has no such
 -- slot
 abbrev pub tags_if : Option SlotItem → List TagPlace → List TagPlace
 tags_if None places = []
@@ -105,7 +105,7 @@ module _ (pages : Pages) (frame : Frame) (may : MayBeRead pages frame) (tables :
         (λ none. absurd (let all = are.all in omega (arith, none.0, all, below)))
         (slice_get_cases tables.tags.items number).1
 
-    -- so where a tag of the layout leads to a cell that says so, one of those does
+    -- so if a tag of the layout leads to a cell that says so, one of those does
     slot_says : (sign : Sign) (number : ℕ) → IsAsked sign number → (tag : Tag) (at : CellAt) (cell : Cell) → cell_of pages (layout_so.tags number) tag ≡ Some at → StandsAt pages at cell
         → say sign cell.records ≡ true → SlotSays pages sign tables
     slot_says sign number asked tag at cell leads stands says =

@@ -1,4 +1,4 @@
--- What is read of a domain beside its pages is what these say.
+-- What is read of a domain besides its pages is what these say.
 use Rattle.std.proofs.Common.{◌≡◌, ◌∙◌, ℕ, ◌≤◌, List, Option, Some, None, IsSome, IsSomeAnd, slice_get, refl, sym, ap, subst, arith}
 use Rattle.no_faults.specs.domain_base.Limits.{max_volume_pages_4}
 use Rattle.no_faults.specs.domain_base.Version.{most_pages}

@@ -41,7 +41,7 @@ pub record MayBeRead (pages : Pages) (frame : Frame) : Type 0 where
 abbrev pub HasClone : Layout → Type 0
 HasClone layout = (number : ℕ) × (of_clone (slice_get layout.table.slots number) ≡ true)
 
--- a sign is looked for in what is in a slot, and a tag of that leads to a cell that says so
+-- a sign is looked for in what is in a slot, and a tag of it leads to a cell with that sign
 pub record HasSign (pages : Pages) (sign : Sign) (layout : Layout) : Type 0 where
   pub number : ℕ
   pub item : SlotItem
@@ -64,7 +64,7 @@ pub record HasCause (pages : Pages) (frame : Frame) (unfit : Unfit) : Type 0 whe
   pub laid : IsLayout pages layout
   pub cause : IsCause pages layout unfit
 
--- so it is where a domain is not attached; for want of memory nothing is told of its pages
+-- the pages have the cause why a domain is not attached; for want of memory nothing is told of them
 abbrev pub IsUnfit : Pages → Frame → Unfit → Type 0
 IsUnfit pages frame OutOfMemory = Unit {0}
 IsUnfit pages frame unfit = HasCause pages frame unfit

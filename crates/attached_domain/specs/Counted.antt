@@ -44,7 +44,7 @@ pub record Counts (file : TaggedFile) (old new : Book) : Type 0 where
   pub blocks : (who : Owner) → (used new who).blocks ≡ (used old who).blocks + blocks_of who file
   pub limits : new.limits ≡ old.limits
 
--- so is what files count
+-- what files count is added to a book
 pub record CountsAll (files : List TaggedFile) (old new : Book) : Type 0 where
   pub files_used : (who : Owner) → (used new who).files
       ≡ (used old who).files + sum_by (files_of who) files

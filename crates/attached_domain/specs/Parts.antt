@@ -1,4 +1,4 @@
--- What is read of a domain beside its pages.
+-- What is read of a domain besides its pages.
 use Rattle.std.specs.Prelude.{◌≡◌, ℕ, List, Option, Some, IfSome, IsSome, length, slice_get}
 use Rattle.no_faults.specs.page_store.Pages.{Pages}
 use Rattle.no_faults.specs.fileset_table.Table.{Table}

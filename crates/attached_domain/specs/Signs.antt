@@ -39,7 +39,7 @@ abbrev pub asks : Sign → SlotItem → Bool
 asks Removed item = true
 asks Cut item = is_original item
 
--- a cell in use stands there, and says so
+-- a cell in use stands there, and has that sign
 pub record SaysAt (pages : Pages) (sign : Sign) (at : CellAt) : Type 0 where
   pub cell : Cell
   pub stands : StandsAt pages at cell
@@ -59,7 +59,7 @@ TagSays pages sign places = (tag : Tag) × LeadsSo pages sign places tag
 abbrev pub ItemSays : Pages → Sign → SlotItem → List TagPlace → Type 0
 ItemSays pages sign item places = (asks sign item ≡ true) × TagSays pages sign places
 
--- so it is of what is in the slot with a number, and in one of the 32 slots
+-- what is in the slot with this number says the sign
 pub record IsSaidIn (pages : Pages) (sign : Sign) (tables : DomainTables) (number : ℕ)
     : Type 0 where
   pub item : SlotItem

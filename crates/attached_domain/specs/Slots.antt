@@ -15,7 +15,7 @@ pub record IsReadSlot (pages : Pages) (item : SlotItem) (slot : Option SlotFiles
   pub settled : IfSome slot IsSettledSlot
   pub book : book_in slot ≡ empty_book
 
--- the same of a slot of a table, with its number
+-- this is what was read of a slot of a table, with its number
 pub record IsReadOf (pages : Pages) (table : Table) (number : ℕ) (slot : Option SlotFiles) : Type 0
   where
     pub item : SlotItem

@@ -37,7 +37,7 @@ fn count_blocks(file: &TaggedFile) -> u64
     }
 }
 
-/// Whether what an owner uses stays below 2^64 with one more file and so many more blocks.
+/// Whether what an owner uses stays below 2^64 with one more file and `blocks` more blocks.
 fn fits(book: &QuotaBook, who: Owner, blocks: u64) -> bool
     ensures { IsTrue result → IsBelow 1 blocks (used book.now.book who) }
 {

@@ -1,5 +1,5 @@
-//! The memory of a domain that is attached: read of pages that break no rule, with what no rule
-//! asks looked for.
+//! The memory of a domain that is attached: read from pages that break no rule, after a look for
+//! what the rules allow but the program does not take.
 #![tactic(auto)]
 
 mod book;

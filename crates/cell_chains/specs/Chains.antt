@@ -9,7 +9,7 @@ use Rattle.cell_chains.specs.declared.links.CellLinks.{CellLinks}
 use Rattle.cell_chains.specs.declared.set.CellSet.{CellSet}
 
 -- from a cell on, the cells that were passed, and the one that is come to: each stands where the
--- one in front of it leads, may follow it, and was not passed before
+-- one before it leads, may follow it, and was not passed before
 pub data Follows (links : CellLinks) (start : CellAt) : List CellAt → CellAt → CellLink → Type 0
   where
     begins : (link : CellLink) → HasLink links start link → Follows links start [] start link
@@ -24,7 +24,7 @@ abbrev pub IsOnChain : CellLinks → CellAt → CellAt → Type 0
 IsOnChain links start at =
     (passed : List CellAt) × (link : CellLink) × Follows links start passed at link
 
--- of a chain, a cell with the cells in front of it is part of the list
+-- of a chain, a cell with the cells before it is part of the list
 abbrev pub IsListed : List CellAt → List CellAt → CellAt → Type 0
 IsListed cells passed at = (rest : List CellAt) × (cells ≡ passed ++ at ∷ rest)
 
@@ -34,14 +34,14 @@ ListsChain links start cells =
     (passed : List CellAt) (at : CellAt)
     → ((link : CellLink) × Follows links start passed at link) ↔ IsListed cells passed at
 
--- the chain cannot go on behind a cell that was come to
+-- the chain cannot go on after a cell that was come to
 abbrev pub EndsAt : CellLinks → List CellAt → CellAt → CellLink → Type 0
 EndsAt links passed at link =
     (onto : CellAt) (next : CellLink) → link.next ≡ Some onto
     → ¬ Contains (passed ++ at ∷ []) onto → HasLink links onto next
     → ¬ may_follow link.kind next.kind ≡ true
 
--- a cell is come to behind those that were passed, which are those that were seen
+-- a cell is come to after those that were passed, which are those that were seen
 pub record IsOnWay (links : CellLinks) (start : CellAt) (passed : List CellAt) (seen : CellSet)
     (at : CellAt) (link : CellLink) : Type 0 where
   pub follows : Follows links start passed at link

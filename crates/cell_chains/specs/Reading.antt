@@ -59,7 +59,7 @@ HasOneMap pages at =
 abbrev pub AreElsewhere : CellAt → List FileRun → Type 0
 AreElsewhere at runs = (run : FileRun) → Contains runs run → ¬ run.at ≡ at
 
--- the runs of the cell at a place are put behind others
+-- the runs of the cell at a place are put after others
 pub record ArePut (pages : Pages) (at : CellAt) (old new : List FileRun) : Type 0 where
   pub each : (run : FileRun) → Contains new run ↔ (Contains old run ⊎ IsRunAt pages run at)
   pub apart : HasOneMap pages at → AreElsewhere at old → AreApart old → AreApart new

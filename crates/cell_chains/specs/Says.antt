@@ -30,7 +30,7 @@ SaysAt pages what at n = (cell : Cell) × StandsAt pages at cell × SaysAny what
 abbrev pub SaySame : Pages → Said → CellAt → CellAt → Type 0
 SaySame pages what before at = (n : ℕ) × SaysAt pages what before n × SaysAt pages what at n
 
--- of a list, a cell on the page says what one in front of it says
+-- of a list, a cell on the page says what one before it says
 abbrev pub SaysAgain : Pages → Said → List CellAt → Home → Type 0
 SaysAgain pages what cells home = (passed : List CellAt) × (at : CellAt) × IsListed cells passed at
     × (home_of at ≡ home) × (before : CellAt) × Contains passed before

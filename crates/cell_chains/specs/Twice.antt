@@ -20,7 +20,7 @@ abbrev pub Asks : Said → CellKind → Type 0
 Asks said.Pages kind = Unit {0}
 Asks said.Limits kind = kind ≡ Quota
 
--- a cell of the chain from a cell on says what one in front of it says
+-- a cell of the chain from a cell on says what one before it says
 abbrev pub SaysTwice : Pages → Said → CellLinks → CellAt → CellAt → Type 0
 SaysTwice pages what links start at = (passed : List CellAt) × (link : CellLink)
     × Follows links start passed at link × (before : CellAt) × Contains passed before

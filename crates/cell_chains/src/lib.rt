@@ -1,5 +1,5 @@
-//! Chains of cells: which cells are in use and where each leads, the first cells of chains, what
-//! two cells of a chain both say, and the runs of pages that cells say.
+//! Chains of cells: which cells are in use and where each leads, the first cells of chains, what is
+//! said twice in a chain, and the runs of pages that cells name.
 #![tactic(auto)]
 
 mod along;

@@ -12,11 +12,11 @@ use Rattle.cell_chains.specs.Links.{HasLink}
 use Rattle.cell_chains.specs.declared.links.CellLink.{CellLink}
 use Rattle.cell_chains.specs.declared.links.CellLinks.{CellLinks}
 
--- the same as the definition of the layout has it
+-- a link as the definition of the layout has it
 abbrev pub link_in : CellLink → Link
 link_in link = record { kind = link.kind; next = link.next }
 
--- the bytes of a cell in use say so
+-- the bytes of a cell in use say this link
 pub record SaysLink (bytes : List ℕ) (link : CellLink) : Type 0 where
   pub kind : number_at 1 15 bytes ≡ kind_number link.kind
   pub next : link.next ≡ next_in bytes
@@ -26,7 +26,7 @@ abbrev pub AreLinks : Pages → Frame → CellLinks → Type 0
 AreLinks pages frame links =
     (at : CellAt) (link : CellLink) → HasLink links at link ↔ IsLink pages frame at (link_in link)
 
--- a cell of the page that stands at a home is in use, and its bytes say so
+-- a cell of the page that stands at a home is in use, and its bytes say this link
 pub record IsLinkOn (page : List ℕ) (home : Home) (at : CellAt) (link : CellLink) : Type 0 where
   pub on : home_of at ≡ home
   pub within : at.cell < 28

@@ -64,7 +64,7 @@ IsWrongThere pages frame table page =
     × IsWrongHeader bytes page.place)
     ⊎ HasWrongCell pages frame page.home ⊎ HasWrongPlace pages frame table page.home
 
--- a page among these is so
+-- a page among these is wrong
 abbrev pub IsWrongAmong : Pages → Frame → Table → List CellsPage → Home → Type 0
 IsWrongAmong pages frame table read home = (page : CellsPage) × Contains read page
     × (page.home ≡ home) × IsWrongThere pages frame table page

@@ -116,7 +116,7 @@ pub(crate) fn are_limits(records: &[Record]) -> bool
         .all(|record| record.kind() == 7 || record.kind() == 8)
 }
 
-/// Whether a record says a volume, so many pages, and so many bitmap pages.
+/// Whether a record says a volume, and these numbers of pages and of bitmap pages.
 fn is_volume(record: &Record, volume: u32, size: u32, bitmap: u32) -> bool
     ensures { IsTrue result ↔ (record.now ≡ written.Volume volume size bitmap) }
 {
@@ -130,7 +130,7 @@ fn is_volume(record: &Record, volume: u32, size: u32, bitmap: u32) -> bool
     }
 }
 
-/// Whether the only record says this volume, so many pages, and so many bitmap pages.
+/// Whether the only record says this volume, and these numbers of pages and of bitmap pages.
 pub(crate) fn is_volume_alone(records: &[Record], volume: u32, size: u32, bitmap: u32) -> bool
     ensures { IsTrue result ↔ (records.now ≡ written.Volume volume size bitmap ∷ []) }
 {

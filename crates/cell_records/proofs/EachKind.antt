@@ -111,7 +111,8 @@ filled_is (w ∷ ws) (r ∷ rs) seen (n ∷ ns) pass =
     let others = filled_is ws rs (after r seen n) ns pass.2 in
     cc
 
--- a kind whose record has the numbers that are read, where the fields that hold one number alone have it
+-- a kind whose record has the numbers that are read, if the fields that hold one number alone have
+-- it
 by_numbers : (k : ℕ) (bytes : List ℕ) → kind_of (record_at k bytes) ≡ k → numbers (record_at k bytes) ≡ filled (rules_of k) (decoded (widths k) 0 bytes) → IfPasses bytes k
 by_numbers k bytes kind same pass = record { kind = kind; numbers = same ∙ filled_is (widths k) (rules_of k) nothing_seen (decoded (widths k) 0 bytes) pass }
 

@@ -21,11 +21,11 @@ range_from least most seen n low high = and_from (leb least n) (leb n most) (le-
 pub exactly_is : (m : ℕ) (seen : Seen) (n : ℕ) → allows (Range m m) seen n ≡ true → n ≡ m
 exactly_is m seen n e = let p = range_is m m seen n e in omega (arith, p.0, p.1)
 
--- a field behind a zero volume or count
+-- a field after a zero volume or count
 pub unused_is : (most : ℕ) (n : ℕ) → ((eqb n 0) || (false && leb n most)) ≡ true → n ≡ 0
 unused_is most n e = elim (or_cases (eqb n 0) (false && leb n most) e) [ inl none ↦ eqb-true n 0 none | inr some ↦ absurd cc ]
 
--- a field behind another
+-- a field after another
 pub used_is : (most : ℕ) (n : ℕ) → ((eqb n 0) || (true && leb n most)) ≡ true → n ≤ most
 used_is most n e = elim (or_cases (eqb n 0) (true && leb n most) e) [
   | inl none ↦ omega (arith, eqb-true n 0 none)
@@ -38,11 +38,11 @@ used_from most n le = or_right (eqb n 0) (true && leb n most) (le-leb n most le)
 pub unused_from : (most : ℕ) (n : ℕ) → n ≡ 0 → ((eqb n 0) || (false && leb n most)) ≡ true
 unused_from most n none = or_left (eqb n 0) (false && leb n most) (eq-eqb n 0 none)
 
--- what stands behind a row's count
+-- what stands after a row's count
 abbrev pub behind : Bool → ℕ → Seen
 behind b from = cond b (record { from = 65536; page = 0; used = false }) (record { from = from; page = 0; used = true })
 
--- whether the count may stand behind the page
+-- whether the count may stand after the page
 abbrev pub counts : Bool → ℕ → ℕ → ℕ → Bool
 counts b from page count = cond b (eqb page 0) (leb from page && leb (page + count) 65536)
 
@@ -62,14 +62,14 @@ page_from from page count run =
 some_count : (from page count : ℕ) → IsRun from page count → eqb count 0 ≡ false
 some_count from page count run = ne_eqb count 0 (λ e. omega (arith, run.some, e))
 
--- ---- extents, plain and dense: a row is its page and its count, and behind these its volume and first page
+-- ---- extents, plain and dense: a row is its page and its count, and after these its volume and first page
 
 no_more_extents : (es : List ExtentField) → AreExtents 65536 es → AllByRecursion NoExtent es
 no_more_extents [] h = tt
 no_more_extents (e ∷ es) (inl h) = absurd (omega (arith, h.0.run.begins, h.0.run.some, h.0.run.ends))
 no_more_extents (e ∷ es) (inr h) = h
 
--- where a row leads, if it has pages, and if it has none; its volume has so many bytes
+-- where a row leads, if it has pages, and if it has none; its volume has v bytes
 abbrev pub Leads : ℕ → Bool → ExtentField → Type 0
 Leads v false e = (e.vol < 256 ^ v) × (e.first < 2 ^ 32)
 Leads v true e = (e.vol ≡ 0) × (e.first ≡ 0)
@@ -86,7 +86,7 @@ RowsPass rest w ws rs n seen es = Passes (repeated n (w ∷ w ∷ ws)) (repeated
 abbrev RowsAllowed : ℕ → ℕ → ℕ → ℕ → List ExtentField → Type 0
 RowsAllowed w v n from es = (length es ≡ n) × AreExtents from es × AllByRecursion (λ e. (e.count < 256 ^ w) × (e.vol < 256 ^ v)) es
 
--- what the fields behind a count pass
+-- what the fields after a count pass
 pub record RestOf (rest : ExtentField → List ℕ) (v : ℕ) (ws : List ℕ) (rs : List Rule) : Type 0 where
   pub reads : (b : Bool) (from : ℕ) (e : ExtentField) (vs : List ℕ) (qs : List Rule) (ns : List ℕ) → Passes (ws ++ vs) (rs ++ qs) (behind b from) (rest e ++ ns)
       → Leads v b e × Passes vs qs (behind b from) ns

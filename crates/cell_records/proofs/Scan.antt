@@ -287,7 +287,7 @@ filled (w ∷ ws) (r ∷ rs) seen sane ready =
     let others = filled ws rs (after r seen first.number) parts.1 (ready-after r seen first.number ready first.allowed) in
     record { numbers = first.number ∷ others.numbers; passes = (first.fits, first.allowed, others.passes) }
 
--- Numbers that pass are spelled like the bytes in front of the field at which a scan stops.
+-- Numbers that pass are spelled like the bytes before the field at which a scan stops.
 pub record Before (ws : List ℕ) (rs : List Rule) (seen : Seen) (bytes : List ℕ) (at end : ℕ) : Type 0 where
   pub numbers : List ℕ
   pub passes : Passes ws rs seen numbers

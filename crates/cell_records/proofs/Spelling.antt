@@ -67,7 +67,7 @@ spelled-more (w ∷ ws) (n ∷ ns) (suc i) lt lt' =
     let k : suc i + 1 ≡ suc (i + 1) = omega arith in
     rw (k, spelled-more ws ns i (omega arith) (omega arith)) (sym (append_assoc (little_bytes w n) (spelled (take i ws) (take i ns)) (little_bytes (get_or ws i 0) (get_or ns i 0))))
 
--- A text of n bytes that is written over the bytes behind a front.
+-- A text of n bytes that is written over the bytes after a front.
 pub overwritten : (front text old xs ys : List ℕ) (at n : ℕ) → length front ≡ at → length text ≡ n → at + n ≤ length old → xs ≡ front ++ drop at old
     → ys ≡ text ++ drop n (take (length xs - at) (drop at xs))
     → put_mid at (length xs - at) xs ys ≡ (front ++ text) ++ drop (at + n) old
@@ -113,7 +113,7 @@ pub sum-repeated : (n : ℕ) (ws : List ℕ) → sum (repeated n ws) ≡ sum ws 
 sum-repeated zero ws = omega arith
 sum-repeated (suc n) ws = omega (arith, sum-append ws (repeated n ws), sum-repeated n ws)
 
--- one row more behind a head
+-- one row more after a head
 pub rows-more : {X : Type 0} (f : X → List ℕ) (ws vs ms : List ℕ) (rows : List X) (d : X) (old xs ys : List ℕ) (at i : ℕ) → ((x : X) → length (f x) ≡ length ws) → length ms ≡ length vs → i < length rows
     → at + sum ws ≤ length old → at ≡ sum vs + sum ws * i
     → xs ≡ spelled (vs ++ repeated i ws) (ms ++ flat_map f (take i rows)) ++ drop at old

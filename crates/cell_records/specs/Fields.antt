@@ -31,7 +31,7 @@ dense_at at bytes = record {
 abbrev pub hole_at : ℕ → List ℕ → HoleField
 hole_at at bytes = record { page = number_at 4 at bytes; count = number_at 4 (at + 4) bytes }
 
--- n rows of so many bytes, one after the other
+-- n rows of `bytes_each` bytes, one after the other
 abbrev pub rows_at : {X : Type 0} → (ℕ → List ℕ → X) → ℕ → ℕ → ℕ → List ℕ → List X
 rows_at row bytes_each zero at bytes = []
 rows_at row bytes_each (suc n) at bytes = row at bytes

@@ -14,7 +14,7 @@ with_head ws = 1 ∷ 1 ∷ 2 ∷ ws
 abbrev pub extent_widths : List ℕ
 extent_widths = 4 ∷ 4 ∷ 4 ∷ 4 ∷ []
 
--- the same fields of a dense extent: page, count, volume, two zeros and first page
+-- the fields of a dense extent: page, count, volume, two zeros and first page
 abbrev pub dense_widths : List ℕ
 dense_widths = 2 ∷ 2 ∷ 1 ∷ 1 ∷ 2 ∷ 4 ∷ []
 
@@ -47,7 +47,7 @@ layouts =
     ∷ with_head (repeated 4 dense_widths)
     ∷ []
 
--- the widths of a kind's fields, and of a number that is no kind the width of that number
+-- the widths of a kind's fields; for a number that is no kind, the width of that number
 abbrev pub widths : ℕ → List ℕ
 widths kind = get_or layouts kind (1 ∷ [])
 

@@ -48,7 +48,7 @@ abbrev pub leftover_number : Leftover → ℕ
 leftover_number Trim = 1
 leftover_number Remove = 2
 
--- the numbers in a record's fields behind its head, with the zeros that the format wants
+-- the numbers in a record's fields after its head, with the zeros that the format wants
 abbrev pub fields : Record → List ℕ
 fields (Attributes kind uid gid flags size keep links birth unsynced) = kind ∷ uid ∷ gid ∷ flags
     ∷ size ∷ keep ∷ links ∷ birth ∷ unsynced ∷ []
@@ -93,11 +93,11 @@ pub record PutsNumbers (ws ns : List ℕ) (old new : List ℕ) (taken : ℕ) : T
   pub size : taken ≡ sum ws
   pub written : new ≡ spelled ws ns ++ drop (sum ws) old
 
--- the same for all numbers of a record
+-- a call that wrote all numbers of a record so
 abbrev pub Puts : Record → List ℕ → List ℕ → ℕ → Type 0
 Puts r = PutsNumbers (widths (kind_of r)) (numbers r)
 
--- the same for the numbers of a record of rows, each in these widths
+-- a call that wrote the numbers of a record of rows so, each row in these widths
 abbrev pub PutsRows : {X : Type 0} → List ℕ → (X → List ℕ) → ℕ → List X → List ℕ → List ℕ → ℕ
     → Type 0
 PutsRows ws row kind rows =
@@ -127,14 +127,14 @@ pub record NoHole (h : HoleField) : Type 0 where
   pub page : h.page ≡ 0
   pub count : h.count ≡ 0
 
--- Extents of file pages from `from` on, each behind the end of the one before it, and zeros behind
--- the last.
+-- Extents of file pages from `from` on. Each comes after the end of the one before it, and zeros
+-- follow the last.
 abbrev pub AreExtents : ℕ → List ExtentField → Type 0
 AreExtents from [] = Unit {0}
 AreExtents from (e ∷ es) = (IsExtent from e × AreExtents (e.page + e.count) es)
     ⊎ AllByRecursion NoExtent (e ∷ es)
 
--- the same, where the number of pages of each has two bytes, and its volume one
+-- extents of file pages from 0 on, each with a number of pages of two bytes and a volume of one
 abbrev pub AreDense : List ExtentField → Type 0
 AreDense es = AreExtents 0 es
     × AllByRecursion (λ e. (e.count < 2 ^ 16) × (e.vol < 2 ^ 8)) es
@@ -151,8 +151,8 @@ abbrev pub IsCell : ℕ → ℕ → ℕ → Type 0
 IsCell vol cell page = ((vol ≡ 0) × (cell ≡ 0) × (page ≡ 0))
     ⊎ (((1 ≤ vol) × (vol ≤ 8)) × (cell ≤ 27) × (page < 2 ^ 32))
 
--- The records that the format allows. A field of which it says nothing has any number that its
--- width holds.
+-- The records that the format allows. If it says nothing about a field, the field has any number
+-- that its width holds.
 unfoldable pub Allowed : Record → Type 0
 Allowed (Attributes kind uid gid flags size keep links birth unsynced) =
     ((1 ≤ kind) × (kind ≤ 2)) × (uid < 2 ^ 32) × (gid < 2 ^ 32) × (flags ≤ 1) × (size < 2 ^ 64)

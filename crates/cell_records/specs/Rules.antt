@@ -1,4 +1,4 @@
--- Which numbers may stand in a field, by the fields in front of it.
+-- Which numbers may stand in a field, by the fields before it.
 use Rattle.std.specs.Prelude.{ℕ, zero, suc, ◌+◌, Bool, true, false, ◌&&◌, ◌||◌, nat_le, nat_lt, ◌==◌, if◌then◌else◌, List, [], ◌∷◌, ◌++◌, length, drop, get_or, Result, Ok, Err}
 use Rattle.std.specs.List.{list_all}
 use Rattle.byteorder.specs.Endian.{little_number}
@@ -9,7 +9,7 @@ use Rattle.cell_records.specs.declared.rule.Seen.{Seen}
 abbrev pub exactly : ℕ → Rule
 exactly n = Range n n
 
--- the start, with no field in front
+-- the start, with no field before it
 abbrev pub nothing_seen : Seen
 nothing_seen = record { from = 0; page = 0; used = false }
 
@@ -23,7 +23,7 @@ allows Page seen n = (n == 0) || (nat_le seen.from n && nat_lt n 65536)
 allows Count seen n = if n == 0 then seen.page == 0
     else (nat_le seen.from seen.page && nat_le (seen.page + n) 65536)
 
--- what the fields behind it have to know
+-- what the fields after it have to know
 abbrev pub after : Rule → Seen → ℕ → Seen
 after Any seen n = seen
 after (Range least most) seen n = seen

@@ -17,7 +17,7 @@ pub record GoesOn (version : Version) (bytes : List ℕ) (n : ℕ) : Type 0 wher
 -- Some record agrees with the bytes before the field at `at`, and none with the bytes up to the end
 -- of that field. So the field holds the first wrong byte, or the end of bytes that end early.
 pub record IsFirstWrong (version : Version) (bytes : List ℕ) (bad : Bad) : Type 0 where
-  -- the kind that the first byte names, 0 where there is none
+  -- the kind that the first byte names, 0 if there is none
   pub kind : bad.kind ≡ slice_index bytes 0
   pub field : ℕ
   pub is_field : field < length (widths bad.kind)

@@ -35,7 +35,7 @@ use Rattle.file_commands.specs.domain_state.History.{IsCalm, MayCommit, StandsFo
 use Rattle.file_commands.specs.domain_state.Short.{HadPages}
 use Rattle.file_commands.specs.name_commands.Coming.{ComesNext, IsAnswered}
 
--- ---- no file is striped where none was
+-- ---- no file is striped if none was
 
 second : (a b : Ordering) → ordering_then a b ≡ Equal → (a ≡ Equal) × (b ≡ Equal)
 second Less b e = absurd (cc)

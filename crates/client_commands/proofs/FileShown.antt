@@ -80,7 +80,7 @@ module _ (memory : DomainMemory) (all : FilesetMap) (place : Place) (number : �
   directory_shown p = subst (λ o. MatchOption o ((es : List ExtentItem) × (Refused IsDirectory ≡ Extents es) × ShowsHomes memory all place es) (λ told. Refused IsDirectory ≡ Refused told))
       (sym (read_refusal memory all place number tag Directory p)) refl
 
--- where no path leads there
+-- if no path leads there
 pub lost_shown : (memory : DomainMemory) (all : FilesetMap) (place : Place) (s : Stop) → IsLost all place s → ShowsAs memory all (Showfile place) (Err s)
 lost_shown memory all place (stop.Refused told) lost = subst (λ o. MatchOption o ((es : List ExtentItem) × (Refused told ≡ Extents es) × ShowsHomes memory all place es) (λ r. Refused told ≡ Refused r))
     (sym (lost (λ slot. directory_here slot place.path ∷ out_of_sync slot place.path ∷ []))) refl

@@ -48,7 +48,7 @@ module _ (client : ℕ) (command : Command) (first laid now : DomainMemory) (bef
   adds_one (inl answer) = inl (adds_answer answer)
   adds_one (inr short) = inr (adds_no_space short)
 
--- what is let go of behind an answer
+-- what is let go of after an answer
 pub released : (client : ℕ) (command : Command) (old mid new : DomainMemory) (before between after : List Entry) → ((all : FilesetMap) → StandsFor mid all → StandsFor new all) → after ≡ between
     → AddsAnswer client command old mid before between → AddsAnswer client command old new before after
 released client command old mid new before between after stands same adds = record {

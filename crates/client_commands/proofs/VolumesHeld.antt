@@ -37,7 +37,7 @@ all_none (x ∷ xs) none =
     let first = ap held_if_open (none zero) in
     omega (arith, rest, first, sum_by-cons held_if_open x xs)
 
--- where there is none behind them
+-- if there is none after them
 all_first : (n : ℕ) (xs : List (Option VolumeSpace)) → ((k : ℕ) → n ≤ k → get_or xs k None ≡ None) → sum_by held_if_open xs ≤ sum_by held_if_open (take n xs)
 all_first zero xs none = let nothing_there = all_none xs (λ k. none k (omega arith)) in omega (arith, nothing_there)
 all_first (suc n) [] none = omega arith

@@ -123,7 +123,7 @@ takes_space memory c (Taking.write place offset bytes) lacks all stands = lacks 
 takes_space memory c (Taking.rename place to) lacks all stands = tt
 takes_space memory c (Taking.link place to) lacks all stands = tt
 
--- ---- where a command found no page
+-- ---- if a command found no page
 
 module _ (staged : Result Reply Stop) (wants : staged ≡ Err NoPage) where
   pub wanted : (P : Type 0) → IfErr staged (λ stop. stop ≡ NoPage → P) → P

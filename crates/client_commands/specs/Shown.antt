@@ -38,12 +38,12 @@ IsShowing command = ⊥
 abbrev pub AreHeld : DomainMemory → List VolumeItem → Type 0
 AreHeld memory lines = All (λ line. line.used ≡ held_pages (volume_of memory.space line.vol)) lines
 
--- the lines show the members of a state, wherever these are the domain's, and count its own pages
+-- the lines show the members of a state if these are the domain's, and count its own pages
 pub record ShowsVolumes (memory : DomainMemory) (lines : List VolumeItem) : Type 0 where
   pub shown : (s : State) → HasVolumesOf memory.frame.anchor s → ShowsMembers s lines
   pub held : AreHeld memory lines
 
--- the extents show the pages of the file at a place, wherever the members are the domain's, and
+-- the extents show the pages of the file at a place if the members are the domain's, and
 -- each of their pages stands there
 pub record ShowsHomes (memory : DomainMemory) (all : FilesetMap) (place : Place)
     (extents : List ExtentItem) : Type 0 where

@@ -2,7 +2,7 @@
 use Rattle.file_commands.specs.fileset_values.declared.command.Command.{Command}
 use Rattle.file_commands.specs.fileset_values.declared.command.Command.TheVariants.{Create, Link, Mkdir, Mkfset, Rename, Setquota, Write}
 
--- the commands that may be answered no-space, of those that are answered here
+-- those of the commands answered here that may be answered no-space
 abbrev pub MayTake : Command → Type 0
 MayTake (Mkfset fileset) = Unit {0}
 MayTake (Setquota fileset who files blocks) = Unit {0}

@@ -1,5 +1,5 @@
-//! Commands of clients, answered: each is laid over a domain's memory, released and drained for
-//! where pages are short, and added to the domain's history with its reply.
+//! Commands of clients, answered: each is laid over a domain's memory, and added to the domain's
+//! history with its reply. If pages are short, the domain is released and drained for it.
 #![tactic(auto)]
 
 mod answering;

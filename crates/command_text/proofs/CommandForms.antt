@@ -263,7 +263,7 @@ chvol_is words c e = absurd (cc)
 
 -- ** An option of `migrate` and its number
 
--- what is read of an option, and of the words behind it
+-- what is read of an option, and of the words after it
 abbrev OptionBoth : List (List ℕ) → Optional → Type 0
 OptionBoth words r = IsOptional r.0 × (list_all is_other r.1 ≡ true → list_all is_other words ≡ true)
 

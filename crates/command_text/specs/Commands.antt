@@ -66,17 +66,17 @@ verbs =
     ∷ verb.Migrate ∷ verb.Balance ∷ verb.Addvol ∷ verb.Rmvol ∷ verb.Chvol ∷ verb.Switchlog
     ∷ verb.Upgrade ∷ verb.Defragment ∷ []
 
--- what a first word asks for, where it is known
+-- what a first word asks for, if it is known
 unfoldable pub verb_of : List ℕ → Option Verb
 verb_of word = find (λ v. bytes_eq (row_of v).text word) verbs
 
--- whether a line of this command may have so many words: `migrate` may leave out options, of two
--- words each
+-- whether a line of this command may have `count` words: `migrate` may leave out options, which
+-- have two words each
 unfoldable pub takes : Verb → ℕ → Bool
 takes verb.Migrate count = list_any (λ n. n == count) (4 ∷ 6 ∷ 8 ∷ 10 ∷ [])
 takes verb count = count == (row_of verb).words
 
--- ** The words behind the first
+-- ** The words after the first
 
 abbrev pub Words : Type 0
 Words = List (List ℕ)
@@ -178,8 +178,8 @@ chvol (option ∷ v ∷ []) = do
   Some (ChvolA vol)
 chvol _ = None
 
--- an option with its number, where the words begin with it, and the words behind; without it all
--- words are behind
+-- an option with its number, if the words begin with it, and the words after it; without it, all
+-- words
 abbrev pub Optional : Type 0
 Optional = Option ℕ × Words
 
@@ -205,7 +205,7 @@ migrate words = do
   from ← optional (codes "-s") count.1
   migrate_to first.0 count.0 from.0 from.1
 
--- the command that the words behind the first say
+-- the command that the words after the first say
 abbrev pub command_of : Verb → Words → Option Command
 command_of verb.Mkfset words = option_map Mkfset (one_word fileset_of words)
 command_of verb.Rmfset words = option_map Rmfset (one_word fileset_of words)

@@ -28,7 +28,7 @@ owner_id owner.Fileset = 0
 abbrev pub switch_text : Bool → List ℕ
 switch_text on = if on then codes "on" else codes "off"
 
--- an option with its number, where it is given
+-- an option with its number, if it is given
 abbrev pub option_words : List ℕ → Option ℕ → List (List ℕ)
 option_words name None = []
 option_words name (Some n) = name ∷ decimal n ∷ []

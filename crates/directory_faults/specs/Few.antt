@@ -24,7 +24,7 @@ HasFewCounted counts file =
 abbrev pub HasFewAt : BTreeMap (Tag × Kind) ℕ → FileThere → Home → Type 0
 HasFewAt counts file home = HasFewCounted counts file × (home ≡ home_of file.at)
 
--- fewer rows than so many lead to a tag as to a file
+-- fewer rows than a number lead to a tag as to a file
 abbrev pub LeadFewer : Pages → Frame → Table → ℕ → Tag → ℕ → Type 0
 LeadFewer pages frame table number tag least = (rows : List RowPlace)
     × AreRowsTo pages frame table number tag File rows × (length rows < least)

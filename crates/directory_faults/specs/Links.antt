@@ -29,7 +29,7 @@ abbrev pub IsWrongAt : BTreeMap (Tag × Kind) ℕ → FileThere → Home → Typ
 IsWrongAt counts file home =
     HaveWrongLinks counts file file.seen.is.kind × (home ≡ home_of file.at)
 
--- more rows than so many lead to a tag as to one of a kind
+-- more rows than a number lead to a tag as to one of a kind
 abbrev pub LeadMore : Pages → Frame → Table → ℕ → Tag → Kind → ℕ → Type 0
 LeadMore pages frame table number tag of most = (rows : List RowPlace)
     × AreRowsTo pages frame table number tag of rows × (most < length rows)

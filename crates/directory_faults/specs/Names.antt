@@ -19,7 +19,7 @@ use Rattle.directory_faults.specs.declared.rows.RowThere.{RowThere}
 abbrev pub IsNamedAlike : RowThere → RowThere → Type 0
 IsNamedAlike one other = (one.at.dir ≡ other.at.dir) × (one.row.name ≡ other.row.name)
 
--- one of the rows in front of a place and a row are so
+-- one of the rows before a place and a row are so
 abbrev pub IsNamedBefore : List RowThere → ℕ → RowThere → Type 0
 IsNamedBefore rows number r = (k : ℕ) × (one : RowThere) × (k < number)
     × (slice_get rows k ≡ Some one) × IsNamedAlike one r

@@ -15,7 +15,7 @@ use Rattle.directory_faults.specs.declared.rows.RowThere.{RowThere}
 abbrev pub place_of : RowThere → RowPlace
 place_of r = record { dir = r.at.dir; page = r.at.page; place = r.place }
 
--- rows that stand on a page one behind the other, from a place on
+-- rows that stand on a page one after the other, from a place on
 abbrev pub rows_placed : PageAt → ℕ → List Row → List RowThere
 rows_placed at place [] = []
 rows_placed at place (row ∷ rows) =
@@ -32,13 +32,13 @@ pub record AreRows (is : RowThere → Type 0) (rows : List RowThere) : Type 0 wh
   pub each : (r : RowThere) → Contains rows r ↔ is r
   pub order : AreInOrder rows
 
--- they were put behind others
+-- they were put after others
 pub record Adds (is : RowThere → Type 0) (old new : List RowThere) : Type 0 where
   pub more : List RowThere
   pub behind : new ≡ old ++ more
   pub are : AreRows is more
 
--- a row of the page that stands there, where it is one of rows on its volume
+-- a row of the page that stands there, if it is one of rows on its volume
 pub record IsRowAt (pages : Pages) (frame : Frame) (at : PageAt) (r : RowThere) : Type 0 where
   pub at_is : r.at ≡ at
   pub within : IsWithin frame at.home
@@ -55,7 +55,7 @@ pub record IsRowOn (pages : Pages) (frame : Frame) (file : FileThere) (page : �
   pub listed : slice_get file.seen.homes.items page ≡ Some (Some r.at.home)
   pub is : IsRowAt pages frame r.at r
 
--- of one of its pages in front of a number
+-- of one of its pages before a number
 abbrev pub IsRowOnPages : Pages → Frame → FileThere → ℕ → RowThere → Type 0
 IsRowOnPages pages frame file number r =
     (r.at.page < number) × IsRowOn pages frame file r.at.page r

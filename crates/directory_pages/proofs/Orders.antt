@@ -278,7 +278,7 @@ rise_with (x ∷ front) key back rise low high = (
   rise_with front key back rise.1 low.1 high,
 )
 
--- entries of which none is not below the key are all below it
+-- entries are all below the key if none is not below it
 pub none_from : (key : IndexEntry) (xs : List IndexEntry) → first_from key xs ≡ None → AllByRecursion (λ entry. is_below entry key ≡ true) xs
 none_from key [] none = tt
 none_from key (x ∷ xs) none = by_test (is_below x key) refl (none_from key xs)

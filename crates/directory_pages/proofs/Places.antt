@@ -9,7 +9,7 @@ use Rattle.directory_pages.specs.Rows.{has_name, is_named, spelled_row, spelling
 use Rattle.directory_pages.specs.RowPage.{IsPlace}
 use Rattle.directory_pages.proofs.Again.{row_long, spelling-append}
 
--- rows of which some were looked at, and none of these has the name
+-- rows, some of which were looked at, and none of these has the name
 pub record Passed (name : List ℕ) (rows : List Row) (start : ℕ) (left : List Row) : Type 0 where
   pub front : List Row
   pub parts : rows ≡ front ++ left

@@ -1,4 +1,4 @@
--- Files of which the index of a directory was changed.
+-- Files after the index of a directory was changed.
 use Rattle.std.proofs.Common.{Result, Ok, Err, OnOk, OnErr, ◌≡◌, ◌∙◌, ◌⊎◌, inl, inr, ℕ, ◌+◌, ◌-◌, ◌*◌, ◌<◌, ◌≤◌, Bool, true, false, cond, min, nat_eq, Option, Some, None, List, [], ◌∷◌, ◌++◌, length, take, drop, refl, sym, ap, subst, arith, length-append}
 use Rattle.std.proofs.lemmas.Bool.{and_from, and_parts, cases_lt, eq-eqb, eqb-true}
 use Rattle.std.proofs.lemmas.List.{append-nil, drop_all, take_all}
@@ -102,7 +102,7 @@ all_page_more : (xs : List (List ℕ)) (x : List ℕ) → AllByRecursion IsIndex
 all_page_more [] x all one = (one, tt)
 all_page_more (y ∷ xs) x all one = (all.0, all_page_more xs x all.1 one)
 
--- a part of a list behind its front
+-- a part of a list after its front
 part_more : (list : List IndexEntry) (from end : ℕ) → from ≤ length list → end ≡ min (length list) (from + 1022) → take from list ++ take (end - from) (drop from list) ≡ take (from + 1022) list
 part_more list from end within is = sym (take-add from (end - from) list) ∙ by_side (cases_lt (length list) (from + 1022))
   where

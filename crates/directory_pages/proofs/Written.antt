@@ -13,7 +13,7 @@ use Rattle.directory_pages.proofs.PageParts.{header_long, read_alike, rows_are_o
 
 -- ---- bytes overwritten
 
--- behind a front
+-- after a front
 pub over : (front rest bytes : List ℕ) (at : ℕ) → length front ≡ at → overwritten (front ++ rest) at bytes ≡ front ++ bytes ++ drop (length bytes) rest
 over front rest bytes at len =
     (λ i. take_at front rest at len i ++ bytes ++ drop (len' i + length bytes) (front ++ rest))
@@ -27,7 +27,7 @@ pub over_start : (front rest bytes : List ℕ) → length front ≡ length bytes
 over_start front rest bytes len =
     ap (λ (n : ℕ). bytes ++ drop n (front ++ rest)) (omega (arith, len)) ∙ ap (λ (bs : List ℕ). bytes ++ bs) (drop_at front rest (length front) refl)
 
--- bytes behind others that were written before
+-- bytes after others that were written before
 pub over_twice : (page one two : List ℕ) (at n : ℕ) → at + length one ≡ n → at + length one ≤ length page → overwritten (overwritten page at one) n two ≡ overwritten page at (one ++ two)
 over_twice page one two at n next fits =
     let rest = drop (at + length one) page in
@@ -59,7 +59,7 @@ module _ (page : List ℕ) (rows : List Row) (is : IsRowPage page rows) where
   head_over : (bytes rest : List ℕ) → length bytes ≡ 16 → overwritten (header rows ++ rest) 0 bytes ≡ bytes ++ rest
   head_over bytes rest len = over_start (header rows) rest bytes (header_long (length (spelling rows)) (length rows) ∙ sym len)
 
-  -- a row added behind the others
+  -- a row added after the others
   module _ (row : Row) (one two : List ℕ) (at size count : ℕ) (start : at ≡ 16 + length (spelling rows)) (room : at + length (spelled_row row) ≤ 8192)
       (put : one ≡ overwritten page at (spelled_row row)) (sized : size ≡ length (spelling rows) + length (spelled_row row)) (counted : count ≡ length rows + 1)
       (headed : two ≡ overwritten one 0 (spelled_header size count)) (whole : length two ≡ 8192) (good : IsRow row) where
@@ -171,7 +171,7 @@ module _ (page : List ℕ) (rows front : List Row) (row : Row) (back : List Row)
 
 -- ---- one byte after the other
 
--- some bytes of which the first are written already, and one more
+-- some bytes, the first of which are written already, and one more
 pub next_byte : (old new moved : List ℕ) (gap at byte : ℕ) → gap ≤ at → at < length old → at < gap + length moved → new ≡ take gap old ++ take (at - gap) moved ++ drop at old
     → byte ≡ get_or moved (at - gap) 0 → overwritten new at (byte ∷ []) ≡ take gap old ++ take (at + 1 - gap) moved ++ drop (at + 1) old
 next_byte old new moved gap at byte begun within more is is_byte =
@@ -184,7 +184,7 @@ next_byte old new moved gap at byte begun within more is is_byte =
     ∙ ap (λ (bs : List ℕ). front ++ (byte ∷ []) ++ bs) (drop-drop 1 at old)
     ∙ ap (λ (bs : List ℕ). bs ++ drop (at + 1) old) (append_assoc (take gap old) (take (at - gap) moved) (byte ∷ []) ∙ ap (λ (bs : List ℕ). take gap old ++ bs) one_more)
 
--- what stands in place of a gap and of the bytes behind it when it is closed
+-- what stands in place of a gap and of the bytes after it when it is closed
 abbrev pub moved : ℕ → ℕ → ℕ → List ℕ → List ℕ
 moved gap len end old = take (end - (gap + len)) (drop (gap + len) old) ++ zero_bytes len
 

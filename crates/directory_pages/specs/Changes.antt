@@ -89,7 +89,7 @@ pub record InsertsPage (dir : Tag) (number : ℕ) (part : List IndexEntry) (old 
   pub made : IsPageOf part page
   pub changed : new ≡ with_change dir (insert_index number page) old
 
--- entries stand on the page of that number now, or on it and a new one behind it
+-- entries stand on the page of that number now, or on it and a new one after it
 pub record Spreads (dir : Tag) (number : ℕ) (list : List IndexEntry) (old new : Bitfiles)
     : Type 0 where
   pub pages : List (List ℕ)

@@ -16,7 +16,7 @@ hash_of name = hash_from 0 name
 abbrev pub is_below : IndexEntry → IndexEntry → Bool
 is_below a b = nat_lt a.hash b.hash || ((a.hash == b.hash) && nat_lt a.page b.page)
 
--- entries of which none is below one before it
+-- entries, none of which is below one before it
 abbrev pub Rise : List IndexEntry → Type 0
 Rise [] = Unit {0}
 Rise (entry ∷ entries) =
@@ -49,7 +49,7 @@ pub record EndsBelow (key : IndexEntry) (entries : List IndexEntry) : Type 0 whe
   pub parts : entries ≡ front ++ last ∷ []
   pub below : is_below last key ≡ true
 
--- so many entries stand before the first that is not below this one
+-- how many entries stand before the first that is not below this one
 pub record IsPlace (key : IndexEntry) (entries : List IndexEntry) (place : ℕ) : Type 0 where
   pub within : place ≤ length entries
   pub below : AllByRecursion (λ entry. is_below entry key ≡ true) (take place entries)

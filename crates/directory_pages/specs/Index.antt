@@ -18,7 +18,7 @@ entry_at page k = record {
   page = number_at 4 (20 + 8 * k) page;
 }
 
--- so many entries of a page, from a number on
+-- this number of entries of a page, from a place on
 abbrev pub entries_from : List ℕ → ℕ → ℕ → List IndexEntry
 entries_from page k zero = []
 entries_from page k (suc n) = entry_at page k ∷ entries_from page (k + 1) n
@@ -34,7 +34,7 @@ pub record IsIndexPage (page : List ℕ) : Type 0 where
   pub magic : number_at 4 0 page ≡ 0x58524944
   pub count : number_at 4 4 page ≤ 1022
 
--- the entries of all pages, one behind the other
+-- the entries of all pages, one page after the other
 abbrev pub all_entries : List (List ℕ) → List IndexEntry
 all_entries [] = []
 all_entries (page ∷ pages) = entries_of page ++ all_entries pages
@@ -49,7 +49,8 @@ pub record IsIndex (index : List (List ℕ)) : Type 0 where
 abbrev pub index_pages : Bitfiles → Tag → List (List ℕ)
 index_pages files tag = option_map_or (λ (file : Bitfile). file.index) (files tag) []
 
--- so many pages have as many entries, full ones but for the last; no entry has one page too
+-- how many pages this number of entries takes: all full but the last; with no entries it is one
+-- page too
 abbrev pub part_count : ℕ → ℕ
 part_count entries = max 1 (div_ceil entries 1022)
 
@@ -60,7 +61,7 @@ pub record HasPart (index : List (List ℕ)) (number : ℕ) (page : List ℕ) : 
   pub good : IsIndexPage page
   pub read : entries_of page ≡ entries_of part
 
--- the same, or none where the index has no page of that number
+-- a page with the entries of the index page of that number, or none if the index has no such page
 abbrev pub IsPart : List (List ℕ) → ℕ → Option (List ℕ) → Type 0
 IsPart index number None = slice_get index number ≡ None
 IsPart index number (Some page) = HasPart index number page
@@ -77,13 +78,14 @@ pub record FirstPage (key : IndexEntry) (index : List (List ℕ)) (low number : 
   pub before : first_from key (all_entries (between low number index)) ≡ None
   pub here : is_some (first_from key (entries_of page)) ≡ true
 
--- the same of the pages from one number to another, or none where they have no such entry
+-- the first page from one number on and before another that has an entry which is not below the
+-- key, or none if there is no such entry
 abbrev pub IsFirstPage : IndexEntry → List (List ℕ) → ℕ → ℕ → Option ℕ → Type 0
 IsFirstPage key index low high None =
     first_from key (all_entries (between low high index)) ≡ None
 IsFirstPage key index low high (Some number) = FirstPage key index low number
 
--- the bytes of an entry, and of entries one behind the other
+-- the bytes of an entry, and of entries one after the other
 abbrev pub spelled_entry : IndexEntry → List ℕ
 spelled_entry entry = spelled (4 ∷ 4 ∷ []) (entry.hash ∷ entry.page ∷ [])
 
@@ -92,11 +94,12 @@ abbrev pub spelling : List IndexEntry → List ℕ
 spelling [] = []
 spelling (entry ∷ entries) = spelled_entry entry ++ spelling entries
 
--- what a page of so many entries begins with: `DIRX`, their number, and zeros for the next page
+-- what a page with this number of entries begins with: `DIRX`, the number, and zeros for the next
+-- page
 abbrev pub header : ℕ → List ℕ
 header count = spelled (4 ∷ 4 ∷ 8 ∷ []) (0x58524944 ∷ count ∷ 0 ∷ [])
 
--- a page as it is written: these entries, and zeros behind them
+-- a page as it is written: these entries, and zeros after them
 abbrev pub index_page_of : List IndexEntry → List ℕ
 index_page_of entries =
     header (length entries) ++ spelling entries ++ zero_bytes (8176 - 8 * length entries)

@@ -18,11 +18,11 @@ header_numbers size count = 0x50524944 ∷ size ∷ count ∷ 0 ∷ []
 abbrev pub header : List Row → List ℕ
 header rows = spelled header_widths (header_numbers (length (spelling rows)) (length rows))
 
--- these rows, and what stands behind them
+-- these rows, and what stands after them
 abbrev pub page_of : List Row → List ℕ → List ℕ
 page_of rows rest = header rows ++ spelling rows ++ rest
 
--- a page is these rows, each of them well formed; what stands behind them is not read
+-- a page is these rows, each of them well formed; what stands after them is not read
 pub record IsRowPage (page : List ℕ) (rows : List Row) : Type 0 where
   pub whole : length page ≡ 8192
   pub rest : List ℕ
@@ -33,7 +33,7 @@ pub record IsRowPage (page : List ℕ) (rows : List Row) : Type 0 where
 abbrev pub size_of : List ℕ → ℕ
 size_of page = number_at 2 4 page
 
--- the rows of a page, and what stands behind them
+-- the rows of a page, and what stands after them
 abbrev pub rows_of : List ℕ → List Row
 rows_of page = first_rows (number_at 2 6 page) (drop 16 page)
 
@@ -51,7 +51,7 @@ has_header page =
 abbrev pub IsDirPage : List ℕ → Type 0
 IsDirPage page = IsRowPage page (rows_of page)
 
--- a row of this name fits behind the rows of a page
+-- a row of this name fits after the rows of a page
 abbrev pub fits : List ℕ → List ℕ → Bool
 fits name page = nat_le (16 + size_of page + 8 + length name) 8192
 
@@ -59,14 +59,14 @@ fits name page = nat_le (16 + size_of page + 8 + length name) 8192
 abbrev pub RowsOnce : Type 0
 RowsOnce = (page : List ℕ) (rows : List Row) → IsRowPage page rows → rows_of page ≡ rows
 
--- a page that has these rows now, and behind them these bytes
+-- a page that has these rows now, and after them these bytes
 pub record HasRows (rows : List Row) (rest page : List ℕ) : Type 0 where
   pub value : page ≡ page_of rows rest
   pub good : IsDirPage page
   pub read : rows_of page ≡ rows
 
--- the list in which the bytes from a gap's end up to another end stand where the gap was, and as
--- many zeros as the gap had bytes behind them
+-- the list in which the bytes from a gap's end up to another end stand where the gap was, and after
+-- them as many zeros as the gap had bytes
 abbrev pub closed : ℕ → ℕ → ℕ → List ℕ → List ℕ
 closed gap len end page =
     take gap page ++ take (end - (gap + len)) (drop (gap + len) page) ++ zero_bytes len

@@ -21,7 +21,7 @@ is_dots name = nat_le (length name) 2 && list_all (λ byte. byte == 46) name
 abbrev pub is_name_len : ℕ → Bool
 is_name_len len = nat_le 1 len && nat_le len 255
 
--- what a row may be called: 1 to 255 bytes, each of which a name may have, but for one dot and two
+-- what a row may be called: 1 to 255 bytes that a name may have, except one dot and two dots
 abbrev pub is_row_name : List ℕ → Bool
 is_row_name name =
     is_name_len (length name) && list_all is_name_byte name && not (is_dots name)
@@ -49,7 +49,7 @@ row_numbers row = row.tag.slot ∷ row.tag.seq ∷ kind_number row.kind ∷ leng
 abbrev pub spelled_row : Row → List ℕ
 spelled_row row = spelled row_widths (row_numbers row) ++ row.name
 
--- rows one behind the other
+-- rows one after the other
 abbrev pub spelling : List Row → List ℕ
 spelling [] = []
 spelling (row ∷ rows) = spelled_row row ++ spelling rows
@@ -72,16 +72,16 @@ first_row bytes = record {
   name = take (name_len bytes) (drop 8 bytes);
 }
 
--- the bytes behind the first row
+-- the bytes after the first row
 abbrev pub other_rows : List ℕ → List ℕ
 other_rows bytes = drop (8 + name_len bytes) bytes
 
--- so many rows
+-- the first rows, this number of them
 abbrev pub first_rows : ℕ → List ℕ → List Row
 first_rows zero bytes = []
 first_rows (suc n) bytes = first_row bytes ∷ first_rows n (other_rows bytes)
 
--- the bytes are enough for so many rows
+-- the bytes are enough for this number of rows
 abbrev pub fit_rows : ℕ → List ℕ → Bool
 fit_rows zero bytes = true
 fit_rows (suc n) bytes =
@@ -94,7 +94,7 @@ is_row bytes =
     && (nat_le 1 (number_at 1 6 bytes) && nat_le (number_at 1 6 bytes) 2)
     && is_row_name (take (name_len bytes) (drop 8 bytes))
 
--- the bytes are so many well-formed rows, and nothing else
+-- the bytes are this number of well-formed rows, and nothing else
 abbrev pub are_rows : ℕ → List ℕ → Bool
 are_rows zero bytes = length bytes == 0
 are_rows (suc n) bytes = is_row bytes && are_rows n (other_rows bytes)

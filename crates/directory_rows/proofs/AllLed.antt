@@ -113,7 +113,7 @@ led_name rows from path name = led_append rows from path (name ∷ []) ∙ each 
 
 -- ---- the list
 
--- each one leads where it says; the first is the start; and what stands in those in front of a place
+-- each one leads where it says; the first is the start; and what stands in those before a place
 -- stands in the list, too
 pub record IsListed (rows : RowsBy) (from : Tag × Kind) (at : ℕ) (list : List Led) : Type 0 where
   pub within : at ≤ length list

@@ -1,4 +1,4 @@
--- Pages of which one was put, and their rows.
+-- Pages, one of which was put, and their rows.
 use Rattle.std.proofs.Common.{◌≡◌, ◌∙◌, ℕ, zero, suc, ◌+◌, ◌<◌, ◌≤◌, Bool, true, false, cond, ◌||◌, Some, List, [], ◌∷◌, ◌++◌, length, take, drop, slice_get, refl, sym, ap, arith, append_assoc}
 use Rattle.std.proofs.lemmas.Bool.{both_ways, or_from, or_parts}
 use Rattle.std.proofs.lemmas.List.Concat.{flat_map-append}
@@ -13,7 +13,7 @@ use Rattle.directory_pages.proofs.Removed.{all_drop, all_join, all_take}
 use Rattle.directory_rows.specs.Directory.{NamesOnce, all_rows, rows_at}
 use Rattle.directory_rows.proofs.Parts.{no_pages, rows_past}
 
--- ---- a page in place of another, or behind the last
+-- ---- a page in place of another, or after the last
 
 entry_later : (number : ℕ) (page first : List ℕ) (pages : List (List ℕ)) → with_entry (suc number) page (first ∷ pages) ≡ first ∷ with_entry number page pages
 entry_later number page first pages = let e : suc number + 1 ≡ suc (number + 1) = omega arith in ap (λ n. take (suc number) (first ∷ pages) ++ page ∷ drop n (first ∷ pages)) e
@@ -139,7 +139,7 @@ the_named name (row ∷ rows) there = by_test (has_name name row) refl (the_name
           left = ap (λ b. cond b rows (row ∷ without name rows)) other ∙ ap (λ (rs : List Row). row ∷ rs) at.left;
         }
 
--- a name has a row exactly where one is found
+-- a name has a row if and only if one is found
 pub named_found : (name : List ℕ) (rows : List Row) → is_named name rows ≡ is_some (found name rows)
 named_found name [] = refl
 named_found name (row ∷ rows) = by_test (has_name name row) (named_found name rows)

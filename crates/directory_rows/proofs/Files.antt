@@ -1,4 +1,4 @@
--- Files of which a directory's pages were changed.
+-- Files after a directory's pages were changed.
 use Rattle.std.proofs.Common.{◌≡◌, ◌∙◌, ℕ, List, [], Option, Some, sym, ap, subst}
 use Rattle.std.specs.Option.{IsSomeAnd, option_map_or}
 use Rattle.directory_pages.specs.domain_base.declared.place.Kind.TheVariants.{Directory}

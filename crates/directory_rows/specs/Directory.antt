@@ -46,7 +46,7 @@ abbrev pub AreEntriesOf : List (List ℕ) → List IndexEntry → Type 0
 AreEntriesOf pages entries = (hash page : ℕ)
     → count_entries hash page entries ≡ count_hash hash (rows_at page pages)
 
--- the index of a directory of these pages, of which it has more than one
+-- the index of a directory of these pages, if it has more than one
 pub record IndexesRows (pages index : List (List ℕ)) : Type 0 where
   pub some : 2 ≤ length pages
   pub good : IsIndex index

@@ -26,7 +26,8 @@ pub record IsPlaceOf (name : List ℕ) (pages : List (List ℕ)) (place : Place)
   pub before : NoneBelow name pages place.page
   pub here : found_at name place.page pages ≡ Some (place.tag, place.kind)
 
--- the same, or none where no page has such a row
+-- the first page that has a row of the name, and the tag and kind of that row, or none if no page
+-- has such a row
 abbrev pub IsSearched : List ℕ → List (List ℕ) → Option Place → Type 0
 IsSearched name pages None = (number : ℕ) → found_at name number pages ≡ None
 IsSearched name pages (Some place) = IsPlaceOf name pages place

@@ -22,13 +22,13 @@ OnlyDirectory dir old new =
 abbrev pub fits_at : List ℕ → ℕ → List (List ℕ) → Bool
 fits_at name number pages = option_map_or (fits name) (slice_get pages number) true
 
--- the number of the first page with room for a row of this name, or of the pages where none has
+-- the number of the first page with room for a row of this name, or of the pages if none has
 pub record IsFirstWithRoom (name : List ℕ) (pages : List (List ℕ)) (number : ℕ) : Type 0 where
   pub within : number ≤ length pages
   pub full : (before : ℕ) → before < number → fits_at name before pages ≡ false
   pub room : fits_at name number pages ≡ true
 
--- a row went behind those of the first page with room for it, or to a new page behind the last
+-- a row went after those of the first page with room for it, or to a new page after the last
 pub record PutsRow (row : Row) (number : ℕ) (old new : List (List ℕ)) : Type 0 where
   pub page : List ℕ
   pub first : IsFirstWithRoom row.name old number
@@ -59,7 +59,7 @@ GetsNoIndex dir old new =
     count_index old dir ≡ 0 → (count_pages new dir ≤ 1) ⊎ (5 ≤ count_pages new dir)
     → count_index new dir ≡ 0
 
--- a directory's index gets one page more at most, and where it had none, it has four at most
+-- a directory's index gets at most one page more, and if it had none, it has at most four
 abbrev pub GrowsIndex : Tag → Bitfiles → Bitfiles → Type 0
 GrowsIndex dir old new = (count_index old dir ≡ 0 → count_index new dir ≤ 4)
     × (1 ≤ count_index old dir → count_index new dir ≤ count_index old dir + 1)

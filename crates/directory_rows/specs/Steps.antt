@@ -20,7 +20,7 @@ with_pages pages file = record file { pages = pages }
 abbrev pub OnlyPages : Tag → Bitfiles → Bitfiles → Type 0
 OnlyPages dir old new = new ≡ with_change dir (with_pages (row_pages new dir)) old
 
--- a page has the rows of the one at a number, or none where that is not there, and as much room
+-- a page has the rows of the one at a number, or none if that is not there, and as much room
 pub record IsCopyOf (number : ℕ) (pages : List (List ℕ)) (page : List ℕ) : Type 0 where
   pub good : IsDirPage page
   pub rows : rows_of page ≡ rows_at number pages
@@ -56,7 +56,8 @@ pub record SetsIndex (dir : Tag) (old new : Bitfiles) : Type 0 where
   pub index : (index_pages new dir ≡ []) ⊎ IndexesRows (row_pages old dir) (index_pages new dir)
   pub kept : KeepsIndex dir old new
 
--- the same, on as many pages as before
+-- a directory has no index or that of its rows now, on as many pages as before, and all else is as
+-- it was
 pub record TrimsIndex (dir : Tag) (old new : Bitfiles) : Type 0 where
   pub sets : SetsIndex dir old new
   pub count : count_index new dir ≡ count_index old dir

@@ -7,7 +7,7 @@ use Rattle.directory_pages.specs.page_store.Pages.{Pages}
 use Rattle.directory_pages.specs.RowPage.{IsDirPage, rows_of}
 use Rattle.directory_pages.specs.declared.row.Row.{Row}
 
--- the rows of the page at a home; where there is no home, or no page stands there, none
+-- the rows of the page at a home; if there is no home, or no page stands there, none
 abbrev pub rows_at : Pages → Option Home → List Row
 rows_at pages home = option_map_or rows_of (option_and_then pages home) []
 

@@ -38,7 +38,7 @@ pub(crate) fn rising(alloc: Global, count: u32) -> Result<Vec<IndexEntry>, OutOf
     Ok(entries)
 }
 
-/// The least page from one on that an entry of the hash names, and 999 where there is none.
+/// The least page from one on that an entry of the hash names, or 999 if there is none.
 pub(crate) fn page_of<S: BitfileSet>(set: &S, dir: Tag, hash: u32, from: u32) -> u32
     requires { HasIndex dir (S.files set.now) }
 {
@@ -86,7 +86,7 @@ pub(crate) fn entry_of(number: u32) -> IndexEntry {
     }
 }
 
-/// Adds the entries of so many numbers.
+/// Adds the entries of the first `count` numbers.
 pub(crate) fn add_all<S: BitfileSet>(
     set: &mut S,
     alloc: Global,
@@ -102,7 +102,7 @@ pub(crate) fn add_all<S: BitfileSet>(
     Ok(())
 }
 
-/// Removes the entries of the odd ones of so many numbers, and tells how many were there.
+/// Removes the entries of the odd ones of the first `count` numbers, and tells how many were there.
 pub(crate) fn remove_odd<S: BitfileSet>(
     set: &mut S,
     alloc: Global,
@@ -121,7 +121,7 @@ pub(crate) fn remove_odd<S: BitfileSet>(
     Ok(removed)
 }
 
-/// How many of the entries of so many numbers are found by their hash.
+/// How many of the entries of the first `count` numbers are found by their hash.
 pub(crate) fn count_found<S: BitfileSet>(set: &S, dir: Tag, count: u32) -> u32
     requires { HasIndex dir (S.files set.now) }
 {

@@ -52,7 +52,7 @@ fn two_equal(alloc: Global) -> Result<MemoryBitfiles, StoreFault>
     indexed(alloc, Vec::new(alloc), &entries)
 }
 
-/// An index of so many entries of page 0, with the hashes from 0 on. The numbers are those of the
+/// An index of `count` entries of page 0, with the hashes from 0 on. The numbers are those of the
 /// changing calls that find no page.
 fn rising_index(alloc: Global, misses: Vec<u64>, count: u32) -> Result<MemoryBitfiles, StoreFault>
     ensures { IfOk result (λ set. HasIndex ROOT (⟦<MemoryBitfiles as BitfileSet>⟧.files set)) }

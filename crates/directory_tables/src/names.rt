@@ -6,7 +6,7 @@ use directory_rows::is_row_name;
 use hex::decode;
 use std::alloc::Global;
 
-/// Adds bytes so many times.
+/// Adds bytes `times` times.
 fn push_often(name: &mut Vec<u8>, times: u32, part: &[u8]) -> Option<()> {
     for _ in 0..times {
         name.extend_from_slice(part).ok()?;

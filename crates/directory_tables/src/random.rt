@@ -23,7 +23,7 @@ impl Random {
     }
 }
 
-/// A row of the plain list: a slot, and a letter that its name has so many times.
+/// A row of the plain list: a slot, and a letter that its name has `times` times.
 #[derive(Clone, Copy)]
 struct Plain {
     slot: u32,
@@ -130,7 +130,7 @@ fn is_same(alloc: Global, page: &Page, list: &[Plain]) -> Option<bool> {
     Some(has.as_str() == says.as_str())
 }
 
-/// How many of so many steps went as the list says.
+/// How many of `steps` steps went as the list says.
 fn count_right(
     alloc: Global,
     random: &mut Random,

@@ -59,7 +59,7 @@ pub(crate) fn remove<S: BitfileSet>(
     Ok(true)
 }
 
-/// The slot of the row of a name, and 0 where there is none.
+/// The slot of the row of a name, or 0 if there is none.
 pub(crate) fn slot_of<S: BitfileSet>(set: &S, dir: Tag, name: &[u8]) -> u32
     requires { IsWellFormed (S.files set.now) dir }
 {
@@ -69,7 +69,7 @@ pub(crate) fn slot_of<S: BitfileSet>(set: &S, dir: Tag, name: &[u8]) -> u32
     }
 }
 
-/// The digit of a number that stands for so many ones.
+/// The digit of a number that counts the `ones`: 1 for ones, 10 for tens, and so on.
 fn digit(number: u32, ones: u32) -> u8
     requires { 0 < ones }
 {
@@ -94,7 +94,7 @@ pub(crate) fn wide_name(number: u32) -> [u8; 255] {
     name
 }
 
-/// Adds the wide names of so many numbers, each with its number and 1 as slot.
+/// Adds the wide names of the first `count` numbers, each with its number and 1 as slot.
 pub(crate) fn add_wide<S: BitfileSet>(
     set: &mut S,
     alloc: Global,
@@ -110,7 +110,8 @@ pub(crate) fn add_wide<S: BitfileSet>(
     Ok(())
 }
 
-/// Adds the long names of so many numbers in a mixed order, each with its number and 1 as slot.
+/// Adds the long names of the first `count` numbers in a mixed order, each with its number and 1 as
+/// slot.
 pub(crate) fn add_mixed<S: BitfileSet>(
     set: &mut S,
     alloc: Global,
@@ -127,7 +128,8 @@ pub(crate) fn add_mixed<S: BitfileSet>(
     Ok(())
 }
 
-/// Removes the long names of the odd ones of so many numbers, and tells how many there were.
+/// Removes the long names of the odd ones of the first `count` numbers, and tells how many there
+/// were.
 pub(crate) fn remove_odd<S: BitfileSet>(
     set: &mut S,
     alloc: Global,
@@ -146,7 +148,8 @@ pub(crate) fn remove_odd<S: BitfileSet>(
     Ok(removed)
 }
 
-/// How many of the long names of so many numbers, even or odd ones, have rows with their slots.
+/// How many of the long names of the first `count` numbers, even or odd ones, have rows with their
+/// slots.
 pub(crate) fn count_long<S: BitfileSet>(set: &S, dir: Tag, count: u32, odd: bool) -> u32
     requires { IsWellFormed (S.files set.now) dir }
 {
@@ -159,7 +162,7 @@ pub(crate) fn count_long<S: BitfileSet>(set: &S, dir: Tag, count: u32, odd: bool
     found
 }
 
-/// How many of the wide names of so many numbers have rows with their slots.
+/// How many of the wide names of the first `count` numbers have rows with their slots.
 pub(crate) fn count_wide<S: BitfileSet>(set: &S, dir: Tag, count: u32) -> u32
     requires { IsWellFormed (S.files set.now) dir }
 {
@@ -192,7 +195,7 @@ pub(crate) fn listed_in_place<S: BitfileSet>(
     Ok(count)
 }
 
-/// The slots of the first four rows of the list of a directory, noughts where it has fewer.
+/// The slots of the first four rows of the list of a directory, zeros if it has fewer.
 pub(crate) fn first_four<S: BitfileSet>(
     set: &S,
     alloc: Global,

@@ -188,8 +188,8 @@ fn add_line(
     }
 }
 
-/// Adds so many wide names, or long ones in a mixed order, or removes the odd ones of so many long
-/// names and says how many there were. It answers whether the line is one.
+/// Adds a number of wide names, or of long ones in a mixed order, or removes the odd ones of a
+/// number of long names and says how many there were. It answers whether the line is one.
 fn change_many(
     alloc: Global,
     set: &mut MemoryBitfiles,

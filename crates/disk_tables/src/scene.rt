@@ -49,7 +49,7 @@ fn sizes_of(alloc: Global, words: &mut Words) -> Result<Vec<u32>, OutOfMemory> {
     Ok(sizes)
 }
 
-/// A rack with volumes of the sizes that a line says, of which calls fail.
+/// A rack with volumes of the sizes that a line says, whose calls fail.
 fn rack_of(
     alloc: Global,
     words: &mut Words,

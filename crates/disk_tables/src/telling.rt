@@ -15,7 +15,7 @@ pub fn push_numbers(told: &mut Told, numbers: &[u64]) {
     }
 }
 
-/// Tells of each of some things whether it is so, after a colon.
+/// Tells whether each of some things is the case, after a colon.
 pub fn push_whether(told: &mut Told, all: &[bool]) {
     told.push(":");
     for is_so in all {

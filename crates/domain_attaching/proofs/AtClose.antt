@@ -120,7 +120,7 @@ module _ (disk : Disk) (memory : DomainMemory) (is : IsClosed disk memory) (all 
   pub image_agrees : AgreeWhereRulesLook (redone [] image) d.pages (frame_of (layout_of d))
   image_agrees = behind d.pages [] image (layout_of d) stands.stands.tables.laid range its_pages (those_home memory image (is.home image left))
 
--- ---- what is asked, where it is known that the rack is at rest
+-- ---- what is asked, if it is known that the rack is at rest
 
 nothing : {A : Type 0} → ∥ A ∥₁ → (A → ⊥) → ⊥
 nothing t none = ∥∥₁_elim t (λ x y. absurd x) none

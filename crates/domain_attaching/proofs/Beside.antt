@@ -1,4 +1,4 @@
--- What is asked beside that a domain stands, with another anchor.
+-- What is asked besides that a domain stands, with another anchor.
 use Rattle.std.proofs.Common.{ℕ, List, inl, inr, sym, subst, ⊎_elim}
 use Rattle.attached_domain.specs.domain_base.declared.place.Home.{Home}
 use Rattle.attached_domain.specs.domain_base.declared.place.Tag.{Tag}

@@ -87,7 +87,7 @@ stay_then pages anchor old mid new places touches one other told home was = othe
 pub passed_then : (old mid new : Disk) → HasPassed old mid → HasPassed mid new → HasPassed old new
 passed_then old mid new one other = (other.0 ∙ one.0, other.1 ∙ one.1)
 
--- where none had failed before, a fault is that of all of it
+-- if none had failed before, a fault is that of all of it
 pub fault_then : {T : Type 0} (old mid new : Disk) (r : Result T ℕ) → mid.write_faults ≡ old.write_faults → NamesWriteFault mid new r → NamesWriteFault old new r
 fault_then old mid new (Ok x) passed is = is ∙ passed
 fault_then old mid new (Err vol) passed is = is ∙ ap (λ (c : ℕ → ℕ). raised_at c vol) passed

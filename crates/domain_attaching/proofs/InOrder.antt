@@ -50,13 +50,13 @@ module _ (memory : DomainMemory) (tables : TablePages) (are : AreTables (layout_
       (λ not. (is.0, not))
       (cases_Bool (is_table tables home))
 
-  -- the first pass, where a call of it failed
+  -- the first pass, if a call of it failed
   pub so_far : (old new : Disk) → Touches old new (IsOnThese (IsChosen anchor tables false)) → IsInOrderSoFar old new memory
   so_far old new touches = inl (these_wider old new (IsChosen anchor tables false) (IsData memory) is_data touches)
 
   module _ (old between new : Disk) (first : Touches old between (IsOnThese (IsChosen anchor tables false))) (home : Tells old → AreTheseHome (IsChosen anchor tables false) (pages_of memory.pages) anchor between.now.contents) (settled : Tells old → IsSettled between.now)
       (last : Touches between new (IsOnThese (IsChosen anchor tables true))) where
-    -- and the second, where it failed or not
+    -- and the second, whether it failed or not
     pub in_order : IsInOrder old new memory
     in_order = record {
       between = between;

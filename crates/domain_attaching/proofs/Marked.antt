@@ -70,7 +70,7 @@ marks_more f xs i d old mid new below some one =
 pub marks_all : {X : Type 0} (f : ℕ → X) (xs : List X) (i : ℕ) (old new : List Bool) → length xs ≤ i → Marks (λ k. Contains (take i xs) (f k)) old new → Marks (λ k. Contains xs (f k)) old new
 marks_all f xs i old new most = subst (λ l. Marks (λ k. Contains l (f k)) old new) (take_all i xs most)
 
--- the same where a list has homes in its elements
+-- the same if a list has homes in its elements
 pub marks_place : {X : Type 0} (xs : List X) (f : X → Home) (vol i : ℕ) (x : X) (old mid new : List Bool) → i < length xs → x ≡ get_or xs i x → Marks (λ k. Contains (take i (map f xs)) (record { vol = vol; page = k })) old mid → Marks (λ k. f x ≡ record { vol = vol; page = k }) mid new
     → Marks (λ k. Contains (take (i + 1) (map f xs)) (record { vol = vol; page = k })) old new
 marks_place xs f vol i x old mid new below is some one =

@@ -57,7 +57,7 @@ stands_on pages old new home same was = by_page (pages home) was
 -- ---- one step: pages from one on that differ are written, up to one that is the same
 
 module _ (pages : Pages) (vol first count at end : ℕ) (found laid : List ℕ) (old new : Image) where
-  -- the pages in front stay, those that were written and the one behind stand there
+  -- the pages before stay, those that were written and the one after them stand there
   pub home_more : at ≤ end → length laid ≡ 8192 * count → end ≤ count
       → ((k : ℕ) → at ≤ k → k ≤ end → k < count → pages (record { vol = vol; page = first + k }) ≡ Some (page_in laid k))
       → ((k : ℕ) → end ≤ k → page_in laid k ≡ page_in found k)
@@ -76,7 +76,7 @@ module _ (pages : Pages) (vol first count at end : ℕ) (found laid : List ℕ) 
       (cases_lt k end))
       (cases_lt k at)
 
-  -- and those behind are still as they were read
+  -- and those after are still as they were read
   pub read_more : ((k : ℕ) → end ≤ k → page_in laid k ≡ page_in found k)
       → ((k : ℕ) → at ≤ k → k < count → page_in found k ≡ page_at old vol (first + k))
       → at ≤ end
@@ -168,7 +168,7 @@ row_on_these old new These vol first count are touches =
 
 -- ---- pages of a volume, row by row
 
--- behind a row the next one begins, and behind no row the next page
+-- after a row the next one begins, and after no row the next page
 pub next_page : (first end : ℕ) → first ≤ end → (max end (first + 1) ≤ end) ⊎ ((end ≡ first) × (max end (first + 1) ≡ first + 1))
 next_page first end low =
     ⊎_elim (λ some. inl (omega (arith, some))) (λ none. inr (omega (arith, none, low), omega (arith, none))) (cases_lt first end)

@@ -23,7 +23,7 @@ since_read old mid new reads stays told first pages was =
     (λ image is. ⊎_elim (λ left. inl (subst (λ (m : Moment). MayLeave m image) (reads.now told) left)) (λ reads_so. inr (subst (λ (l : List ℕ). ReadsAs l first pages image) reads.touches.sizes reads_so)) is)
     (stays (reads.touches.told ∙ told) first pages there))
 
--- nothing is written where the log had no group
+-- nothing is written if the log had no group
 pub writes_none : (old mid new : Disk) (found : Redone) → OnlyReads old mid → (Tells old → IsRecovered old.sizes old.now.contents found) → (HasNoGroups found → Touches mid new NoPlace) → WritesNone old new
 writes_none old mid new found reads recovered none told anchor log = touches-then old mid new NoPlace reads.touches (none (had_none old.sizes old.now.contents anchor found log (recovered told)))
 

@@ -78,8 +78,8 @@ pub record IsUnfitDomain (sizes : List ℕ) (image : Image) (why : Unfit) : Type
   pub domain : HasDomain sizes image
   pub unfit : HasUnfitCause domain.pages domain.frame why
 
--- an image may be attached as these filesets with this anchor: it means them, at none of its places
--- is it seen first that there is no domain, it has no cause why it is not attached, and what is
+-- an image may be attached as these filesets with this anchor: it means them, none of its places
+-- shows first that there is no domain, it has no cause why it is not attached, and what is
 -- recovered of it has that anchor and no group, so that nothing has to be settled
 pub record IsAttachable (sizes : List ℕ) (image : Image) (anchor : Anchor) (all : FilesetMap)
     : Type 0 where

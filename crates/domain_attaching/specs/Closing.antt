@@ -20,7 +20,7 @@ use Rattle.domain_attaching.specs.Tables.{HasMarksFor, IsTableHome, is_table}
 use Rattle.domain_attaching.specs.declared.tables.TablePages.{TablePages}
 use Rattle.domain_attaching.specs.declared.closing_room.ClosingRoom.{ClosingRoom}
 
--- the bytes of pages of members, behind labels and anchors and outside of the log
+-- the bytes of pages of members, after labels and anchors and outside the log
 abbrev pub IsOnLoggable : Anchor → Places
 IsOnLoggable anchor v k = (home : Home) × IsLoggable anchor home × IsOnPage home v k
 
@@ -50,7 +50,7 @@ abbrev pub AreBetween : ℕ → ℕ → ℕ → (Home → Type 0) → Type 0
 AreBetween vol first end P =
     (page : ℕ) → first ≤ page → page < end → P (record { vol = vol; page = page })
 
--- the bytes of so many pages of a volume from one on
+-- the bytes of `count` pages of a volume, from page `first` on
 abbrev pub IsOnRow : ℕ → ℕ → ℕ → Places
 IsOnRow vol first count = IsIn vol (8192 * first) (8192 * count)
 
@@ -98,8 +98,8 @@ pub record HasRoomFor (anchor : Anchor) (room : ClosingRoom) : Type 0 where
 
 -- ** A domain that is closed
 
--- each image that a stop might leave has memory's anchor, no group behind it, and at its home each
--- page in memory that is one of a member; nothing is pending
+-- each image that a stop might leave has memory's anchor, no group after it, and each page in
+-- memory that is a member's at its home; nothing is pending
 pub record IsClosed (disk : Disk) (memory : DomainMemory) : Type 0 where
   pub none : HasNoGroup disk memory.frame.anchor
   pub home : (image : Image) → MayLeave disk.now image
@@ -123,7 +123,7 @@ abbrev pub IsOfTables : DomainMemory → Home → Type 0
 IsOfTables memory home = IsLoggable memory.frame.anchor home
     × IsTableHome (layout_of (staged_in memory)) home
 
--- first pages are written that are none of tables, then all are synced, and then pages of tables
+-- first the pages that are not of tables are written, then all are synced, and then pages of tables
 -- are written, so that no page of a table is written before all others are there to stay
 pub record IsInOrder (old new : Disk) (memory : DomainMemory) : Type 0 where
   pub between : Disk
@@ -133,7 +133,7 @@ pub record IsInOrder (old new : Disk) (memory : DomainMemory) : Type 0 where
   pub settled : Tells old → IsSettled between.now
   pub last : Touches between new (IsOnThese (IsOfTables memory))
 
--- where a call failed, so far as it has come
+-- if a call failed, the order holds as far as it has come
 abbrev pub IsInOrderSoFar : Disk → Disk → DomainMemory → Type 0
 IsInOrderSoFar old new memory =
     Touches old new (IsOnThese (IsData memory)) ⊎ IsInOrder old new memory

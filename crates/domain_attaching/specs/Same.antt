@@ -1,4 +1,4 @@
--- Anchors of one domain, of which one was written after the other.
+-- Anchors of one domain, one written after the other.
 use Rattle.std.specs.Prelude.{◌≡◌}
 use Rattle.attached_domain.specs.log_recovery.Readable.{restarted}
 use Rattle.attached_domain.specs.domain_layout.Reached.{Frame}

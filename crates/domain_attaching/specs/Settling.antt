@@ -27,7 +27,7 @@ IsRecovered sizes image found = (groups : List Group) × HasRecovered sizes imag
 abbrev pub HasNoGroups : Redone → Type 0
 HasNoGroups found = found.next_group ≡ found.anchor.group
 
--- the anchor of a log that is at rest: the one with which it was recovered where it has no group,
+-- the anchor of a log that is at rest: the one with which it was recovered if it has no group,
 -- else the one that settles it
 abbrev pub rested_anchor : Redone → Anchor
 rested_anchor found =
@@ -37,8 +37,8 @@ rested_anchor found =
 abbrev pub with_anchor : Anchor → DomainMemory → DomainMemory
 with_anchor anchor memory = record memory { frame = record memory.frame { anchor = anchor } }
 
--- what the contents of the start are read as, anchor and pages, each image is that is left since,
--- unless a stop at the start might have left it
+-- each image that is left since is read as what the contents of the start are read as, anchor and
+-- pages, unless a stop at the start might have left it
 abbrev pub StaysReadSince : Disk → Disk → Type 0
 StaysReadSince old new =
     Tells old → (first : Anchor) (pages : Pages)
@@ -52,7 +52,7 @@ StandHome disk pages = (image : Image) → MayLeave disk.now image
     → (home : Home) → IsSome (pages home) → home.page ≢ anchors_page
     → pages home ≡ pages_in image home
 
--- where the log of the start has no group, nothing is written
+-- if the log of the start has no group, nothing is written
 abbrev pub WritesNone : Disk → Disk → Type 0
 WritesNone old new = Tells old → (anchor : Anchor)
     → HasLog old.sizes anchor [] old.now.contents → Touches old new NoPlace

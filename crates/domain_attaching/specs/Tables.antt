@@ -20,7 +20,7 @@ IsTableHome layout home = Contains (layout.cells home.vol) home.page
 
 -- ** Marks, one a page of a volume
 
--- those pages are marked that were, and those with P
+-- the pages that were marked are marked, and those with P
 pub record Marks (P : ℕ → Type 0) (old new : List Bool) : Type 0 where
   pub count : length new ≡ length old
   pub each : (page : ℕ) → page < length old → (slice_index_or new page false ≡ true)
@@ -47,7 +47,7 @@ abbrev pub HasMarksFor : Anchor → TablePages → Type 0
 HasMarksFor anchor tables =
     (vol : ℕ) → 1 ≤ vol → vol ≤ max_volumes → HasMarksOn anchor tables vol
 
--- those of tables are marked of a volume's; and so of the pages of members
+-- of a volume's pages, those of tables are marked; and so of the pages of members
 abbrev pub HasTablesOn : Layout → TablePages → ℕ → Type 0
 HasTablesOn layout tables vol = IsSomeAnd (slice_get tables.volumes.items (vol - 1))
     (λ marks. AreTablesOn layout vol marks.items)

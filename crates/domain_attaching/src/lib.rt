@@ -1,5 +1,5 @@
 //! A domain that is attached: its memory, brought from the volumes of a rack, and its log settled;
-//! or why it is not; and one that is closed, whose pages are brought home.
+//! or why it is not; and closing a domain, which brings its pages home.
 #![tactic(auto)]
 
 mod attaching;

@@ -31,7 +31,7 @@ pub fn bits_are_kept_with_another_anchor()
         → IsMarkedBut d → IsMarkedBut (with_frame frame d) }
 {}
 
-/// It is sound, as the rules of pages ask besides, if it was.
+/// It is sound, as the rules of pages also ask, if it was.
 pub fn soundness_stays_with_another_anchor()
     ensures { (d : DomainNow) (frame : Frame) → SameDomain d.frame frame
         → IsSound d → IsSound (with_frame frame d) }

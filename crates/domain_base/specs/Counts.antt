@@ -5,6 +5,6 @@ use Rattle.std.specs.Prelude.{ℕ, ◌+◌, ◌-◌, ◌^◌, ◌≤◌, max, mi
 abbrev pub raised : ℕ → ℕ
 raised count = max count (min (count + 1) (2 ^ 64 - 1))
 
--- a count has risen, or stands at its greatest number, where a rise does not show
+-- a count has risen, or stands at its greatest number, at which a rise does not show
 abbrev pub HasRisen : ℕ → ℕ → Type 0
 HasRisen old new = raised old ≤ new

@@ -1,4 +1,4 @@
--- Gates: the blocks whose first byte says whether what stands behind them counts.
+-- Gates: blocks whose first byte says whether what follows them counts.
 use Rattle.std.specs.Prelude.{◌≡◌, ℕ, List, replicate, slice_index}
 use Rattle.domain_base.specs.Limits.{block_bytes, open_gate}
 

@@ -15,7 +15,8 @@ abbrev pub most_pages : Version → ℕ
 most_pages Three = max_volume_pages
 most_pages Four = max_volume_pages_4
 
--- the pages of the bitmap of a volume with so many pages: a page of bitmap has a bit for each of 65,536
+-- the pages of the bitmap of a volume with `pages` pages: a page of bitmap has a bit for each of
+-- 65,536
 abbrev pub bitmap_pages : Version → ℕ → ℕ
 bitmap_pages Three pages = 1
 bitmap_pages Four pages = div_ceil pages 65536

@@ -6,7 +6,7 @@ use Rattle.domain_faults.specs.domain_layout.Reached.{Frame, IsWithin}
 use Rattle.domain_faults.specs.cell_chains.Runs.{IsPageOf, home_in}
 use Rattle.domain_faults.specs.cell_chains.declared.run.FileRun.{FileRun}
 
--- a page is there, where it is one of a member
+-- a page is there, if it is one of a member
 abbrev pub IsThereWithin : Pages → Frame → Home → Type 0
 IsThereWithin pages frame home = IsWithin frame home → IsSome (pages home)
 

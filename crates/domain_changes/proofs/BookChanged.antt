@@ -1,4 +1,4 @@
--- A domain's memory of which the book of one fileset has changed: the domain is what it was.
+-- A domain is what it was if only the book of one fileset has changed in its memory.
 use Rattle.std.proofs.Common.{◌≡◌, ◌∙◌, ◌<◌, ◌≤◌, ℕ, Option, Some, None, IfSome, IsSome, length, slice_get, take, sym, ap, subst, ⊎_elim, true≢false}
 use Rattle.std.proofs.Math.Logic.{∥∥₁_map}
 use Rattle.std.proofs.lemmas.Bool.{cases_eq}
@@ -57,7 +57,7 @@ module _ (change : Book → Book → Type 0) where
   book_there (Some a) None is some = absurd is
   book_there (Some a) (Some b) is some = is.book
 
--- memory stands as it stood where the domain is what it was and slots alone have changed
+-- memory stands as it stood if the domain is what it was and only slots have changed
 pub staged_still : (old new : DomainMemory) → staged_in new ≡ staged_in old → new ≡ record old { slots = new.slots } → (all : FilesetMap) → IsStaged old all → IsStaged new all
 staged_still old new domain same all is = record {
   stands = subst (λ (d : DomainNow). StandsDomain d all) (sym domain) is.stands;
@@ -129,7 +129,7 @@ module _ (number : ℕ) (change : Book → Book → Type 0) (new last : DomainMe
     others = λ n differ. ap book_in (slot_was n differ);
   }
 
--- slots of which each has what it had
+-- slots that each have what they had
 pub slots_kept : (old new : DomainMemory) → new.slots.items ≡ old.slots.items → new ≡ record old { slots = new.slots } → KeepsKept old new
 slots_kept old new slots same = record {
   frame = ap (λ (m : DomainMemory). m.frame) same;

@@ -35,7 +35,7 @@ module _ (number : ℕ) (entry : FilesetEntry) (old : DomainMemory) (all : Files
     pub books_follow : (IsBookOf (staged_books old number) fileset.tree → IsBookOf (staged_books now number) tree) → AreBooksOf (staged_books old) (staged_in old) all → AreBooksOf (staged_books now) (staged_in now) (insert all entry.name (record fileset { tree = tree }))
     books_follow leads are = books_put number entry (staged_in old) (staged_in now) tables puts (staged_books old) (staged_books now) others (record fileset { tree = tree }) (leads (own_book are)) all are
 
--- a change of one book is one over another change in front of it, or behind it, that leaves the
+-- a change of one book is one over another change before it, or after it, that leaves the
 -- table and all books
 module _ (number : ℕ) (change : Book → Book → Type 0) (first between last : DomainMemory) where
   pub one_before : between.table ≡ first.table → staged_books between ≡ staged_books first → ChangesOneBook number change between last → ChangesOneBook number change first last

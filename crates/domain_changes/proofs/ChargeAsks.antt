@@ -65,7 +65,7 @@ pub asked_so : (memory : DomainMemory) (number uid gid files blocks : ℕ) (resu
 asked_so memory number uid gid files blocks result is all entry fileset has there are =
     is ∙ sym (asked_same (staged_books memory number) fileset.tree uid gid files blocks (own_book number entry memory all fileset has there are))
 
--- ---- slots of which each has what it had
+-- ---- slots that each have what they had
 
 module _ (old new : DomainMemory) (slots : new.slots.items ≡ old.slots.items) (same : new ≡ record old { slots = new.slots }) where
   pub same_books : staged_books new ≡ staged_books old

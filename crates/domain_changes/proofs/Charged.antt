@@ -1,4 +1,4 @@
--- What stays of a domain's memory where a book has changed, or memory was short.
+-- What stays of a domain's memory if a book has changed, or memory was short.
 use Rattle.std.proofs.Common.{◌≡◌, ◌<◌, ℕ, IsSome, Result, Ok, Err, OnErr, OnOk, length}
 use Rattle.domain_memory.specs.fileset_model.Filesets.{FilesetMap}
 use Rattle.domain_memory.specs.quota_book.Book.{Book}

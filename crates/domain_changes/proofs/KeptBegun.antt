@@ -1,4 +1,4 @@
--- What was kept stays where a fileset begins, and the change can be taken back.
+-- What was kept stays if a fileset begins, and the change can be taken back.
 use Rattle.std.proofs.Common.{◌≡◌, ◌∙◌, ◌⊎◌, ◌<◌, ◌∷◌, ℕ, zero, suc, List, [], Option, Some, None, IfSome, length, slice_get, slice_set, take, refl, sym, ap, subst, arith, ⊎_elim}
 use Rattle.std.proofs.Math.Logic.{∥∥₁_map}
 use Rattle.std.proofs.lemmas.Bool.{cases_eq}

@@ -41,7 +41,7 @@ space_kept old new same before spaces =
 pub same_volumes : (space space_now : Spaces) → kept_spaces space_now ≡ kept_spaces space → (vol : ℕ) → volume_of (kept_spaces space_now) vol ≡ volume_of (kept_spaces space) vol
 same_volumes space space_now same vol = ap (λ (s : Spaces). volume_of s vol) same
 
--- a change can be taken back where no slot was set
+-- a change can be taken back if no slot was set
 pub back_kept : (old new : DomainMemory) → new.slots.items ≡ old.slots.items → KeepsKept old new → ∥ MayGoBack old ∥₁ → ∥ MayGoBack new ∥₁
 back_kept old new slots kept may = ∥∥₁_map may (λ m. record {
   has = record {

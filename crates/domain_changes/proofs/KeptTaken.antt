@@ -1,4 +1,4 @@
--- What is kept of free space and of free cells where a page is taken and a cell handed out.
+-- What is kept of free space and of free cells if a page is taken and a cell handed out.
 use Rattle.std.proofs.Common.{◌≡◌, ◌∙◌, ℕ, Result, Ok, Err, IfErr, OnOk, OnErr, ap, ⊎_elim}
 use Rattle.domain_memory.specs.page_store.Pages.{Pages}
 use Rattle.domain_memory.specs.page_store.declared.fault.StoreFault.{StoreFault}

@@ -1,4 +1,4 @@
--- What the steps ask by which an owner's limits are set, and what is known behind them.
+-- What the steps that set an owner's limits ask, and what is known after them.
 use Rattle.std.proofs.Common.{◌≡◌, ◌∙◌, ◌⊎◌, ◌<◌, ℕ, zero, suc, Bool, true, false, List, [], ◌∷◌, Option, Some, None, IsSome, IsSomeAnd, Contains, is_some, length, slice_get, slice_index, slice_index_or, refl, sym, ap, subst, arith, ⊎_elim, true≢false}
 use Rattle.std.specs.FinMap.{get}
 use Rattle.domain_memory.specs.domain_base.declared.place.CellAt.{CellAt}

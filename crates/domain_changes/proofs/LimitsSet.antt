@@ -55,7 +55,7 @@ use Rattle.domain_changes.specs.Table.{HasOriginal, PutsSlot}
 use Rattle.domain_changes.proofs.KeptTaken.{KeptOver, one_kept}
 use Rattle.domain_changes.proofs.Limited.{IsLimited}
 
--- where no cell is taken nothing that was kept changes, nor where one is
+-- if no cell is taken nothing that was kept changes, nor if one is
 pub untouched_kept : (o : Option ℕ) (prefer : ℕ) (space space_now : Spaces) (cells cells_now : Cells) (old : Pages) → TakesIfUntouched o prefer space space_now cells cells_now old → KeptOver space space_now cells cells_now
 untouched_kept None prefer space space_now cells cells_now old takes = one_kept prefer space space_now cells cells_now old takes
 untouched_kept (Some k) prefer space space_now cells cells_now old same = record {

@@ -38,7 +38,7 @@ one_clone_of number (slot.Original entry) none = refl
 one_clone_of number (slot.Clone original n entry) none = absurd (cc)
 one_clone_of number (slot.Removed first_tag quota) none = refl
 
--- where no slot has a clone, none has one of this slot's original
+-- if no slot has a clone, none has one of this slot's original
 pub no_clone_of : (number : ℕ) (slots : List SlotItem) → ((n : ℕ) → of_clone (slice_get slots n) ≡ false) → list_any (is_clone_of number) slots ≡ false
 no_clone_of number [] none = refl
 no_clone_of number (item ∷ slots) none =
@@ -50,7 +50,7 @@ allowed_at [] number item all there = absurd (cc)
 allowed_at (x ∷ slots) zero item all there = subst (λ o. IfSome o IsAllowed) there all.0
 allowed_at (x ∷ slots) (suc number) item all there = allowed_at slots number item all.1 there
 
--- ---- what is asked of a domain's table, where it is known that it stands
+-- ---- what is asked of a domain's table, if it is known that it stands
 
 module _ (memory : DomainMemory) (staged : ∥ IsStagedForSome memory ∥₁) where
   pub asks_page : HasTablePage memory
@@ -109,7 +109,7 @@ module _ (pages new : Pages) (home : Home) (page : List ℕ) (is : new ≡ with_
 some_same : {X : Type 0} (x y : X) → Some x ≡ Some y → x ≡ y
 some_same x y e = cc
 
--- the slot is set where the table's page, which stands at a home, was written and put
+-- the slot is set if the table's page, which stands at a home, was written and put
 pub puts_it : (number : ℕ) (item had : SlotItem) (old new : DomainMemory) (home : Home) (page : List ℕ) → old.frame.anchor.table ≡ Some home → slice_get old.table.slots number ≡ Some had → new.table ≡ with_slot number item old.table
     → new.was ≡ Some (record { number = number; item = had }) → IsTablePage page new.table → pages_of new.pages ≡ with_page home page (pages_of old.pages) → before_of new.pages ≡ before_of old.pages
     → new ≡ record old { pages = new.pages; table = new.table; was = new.was } → PutsSlot number item old new

@@ -67,7 +67,7 @@ table_good table t = record {
 pub asks_table : (memory : DomainMemory) → ∥ IsStagedForSome memory ∥₁ → IsTable memory.table
 asks_table memory staged = table_good memory.table (∥∥₁_map staged (λ s. table_is (staged_in memory) s.0 s.1.stands))
 
--- ---- tags of slots, of which one has others
+-- ---- tags of slots, one of which has others
 
 abbrev pub with_tags : ℕ → List TagPlace → (ℕ → List TagPlace) → ℕ → List TagPlace
 with_tags number places tags n = cond (n == number) places (tags n)

@@ -30,7 +30,7 @@ new_entry name first_tag = record {
   quota = None;
 }
 
--- a page that was free is the first one of a tag directory of which no entry was ever used, and
+-- a page that was free is the first page of a tag directory that never had an entry in use, and
 -- nothing else changes
 pub record BeginsTags (number : ℕ) (home : Home) (files : Bitfiles) (old new : DomainMemory)
     : Type 0 where
@@ -55,7 +55,7 @@ pub record MakesRoot (number : ℕ) (places : List TagPlace) (prefer : ℕ) (old
   pub others : LeavesOtherCells old.cells [] (pages_of old.pages) (pages_of new.pages)
   pub elsewhere : LeavesBeside new.cells places (pages_of old.pages) (pages_of new.pages)
 
--- one page can be taken, and beside it neither a page nor a cell
+-- one page can be taken, and besides it neither a page nor a cell
 pub record LacksCell (space : Spaces) (cells : Cells) : Type 0 where
   pub home : Home
   pub free : CanTake space home.vol home.page

@@ -6,14 +6,14 @@ use Rattle.domain_memory.specs.declared.slots.SlotFiles.{SlotFiles}
 use Rattle.domain_memory.specs.Staged.{staged_books}
 use Rattle.domain_memory.specs.declared.memory.DomainMemory.{DomainMemory}
 
--- what is in a slot has a book that has changed so, and all else of it is as it was
+-- what is in a slot has a book that `change` has changed, and all else of it is as it was
 pub record ChangesBook (change : Book → Book → Type 0) (old new : SlotFiles) : Type 0 where
   pub files : new.files ≡ old.files
   pub tag_pages : new.tag_pages ≡ old.tag_pages
   pub kept : new.book.kept ≡ old.book.kept
   pub book : change old.book.book new.book.book
 
--- so it is of the slot with a number, and nothing else changes
+-- what is in the slot with this number has changed in this way, and nothing else changes
 pub record ChangesInBook (number : ℕ) (change : Book → Book → Type 0) (old new : DomainMemory)
     : Type 0 where
   pub slot : Option SlotFiles

@@ -58,7 +58,7 @@ pub record SetsOwner (number prefer : ℕ) (who : Owner) (limits : Limits) (old 
   pub sets : SetsInChain number prefer who limits entry start old mid
   pub puts : PutsSlot number (slot.Original (entry_limited start entry)) mid new
 
--- so they are in the domain's pages
+-- the limits are set in the domain's pages
 abbrev pub SetsInPages : ℕ → ℕ → Owner → Limits → DomainMemory → DomainMemory → Type 0
 SetsInPages number prefer who limits old new =
     ((who ≡ owner.Fileset) × BoundsInSlot number limits old new)

@@ -21,7 +21,8 @@ use domain_memory::{
     DomainMemory, FilesetNo, Limits, OutOfMemory, Owner, QuotaBook, Refusal, SlotFiles, Usage,
 };
 
-/// Whether what an owner uses stays below 2^64 with so many more files and blocks of 512 bytes.
+/// Whether what an owner uses stays below 2^64 with `files` more files and `blocks` more blocks
+/// of 512 bytes.
 fn fits(book: &QuotaBook, who: Owner, files: u64, blocks: u64) -> bool
     ensures { result ≡ true → IsBelow files blocks (used book.now.book who) }
 {
@@ -29,8 +30,8 @@ fn fits(book: &QuotaBook, who: Owner, files: u64, blocks: u64) -> bool
     files <= u64::MAX - usage.files && blocks <= u64::MAX - usage.blocks
 }
 
-/// Whether what the user, the group and the whole fileset use stays below 2^64 with so many more
-/// files and blocks.
+/// Whether what the user, the group and the whole fileset use stays below 2^64 with `files`
+/// more files and `blocks` more blocks.
 fn fits_all(book: &QuotaBook, uid: u32, gid: u32, files: u64, blocks: u64) -> bool
     ensures { result ≡ true → FitsAll uid gid files blocks (used book.now.book) }
 {
@@ -201,8 +202,8 @@ fn book_of(slots: &[Option<SlotFiles>], number: FilesetNo) -> &QuotaBook
     &held.book
 }
 
-/// The refusal of so many more files and blocks by the limits in a book: those of the user, of the
-/// group and of the whole fileset, in this order.
+/// The refusal of `files` more files and `blocks` more blocks by the limits in a book: those of the
+/// user, of the group and of the whole fileset, in this order.
 fn refused_by(book: &QuotaBook, uid: u32, gid: u32, files: u64, blocks: u64) -> Option<Refusal>
     ensures { result ≡ first_refusal
         (refusal_in book.now.book (owner.User uid) files blocks
@@ -220,9 +221,9 @@ fn refused_by(book: &QuotaBook, uid: u32, gid: u32, files: u64, blocks: u64) -> 
     book.ask(Owner::Fileset, files, blocks)
 }
 
-/// The refusal of so many more files and blocks by the limits of a user, of a group and of the
-/// whole fileset in a slot, an original: the first of them that refuses. None if and only if none
-/// of them refuses.
+/// The refusal of `files` more files and `blocks` more blocks by the limits of a user, of a group
+/// and of the whole fileset in a slot, an original: the first of them that refuses. None if and
+/// only if none of them refuses.
 pub fn ask_quota(
     memory: &DomainMemory,
     number: FilesetNo,

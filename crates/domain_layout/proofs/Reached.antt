@@ -1,4 +1,4 @@
--- Pages that are come to, where each of them is read.
+-- Pages that are come to, if each of them is read.
 use Rattle.std.proofs.Common.{◌≡◌, ◌∙◌, ◌⊎◌, inl, inr, ℕ, zero, suc, ◌+◌, ◌<◌, Bool, true, false, List, [], ◌∷◌, ◌++◌, length, Option, Some, None, Contains, IsSomeAnd, refl, sym, ap, subst, arith, ⊎_elim, length-append}
 use Rattle.std.proofs.lemmas.Bool.{cases_lt, cases_order}
 use Rattle.file_release.specs.domain_base.Limits.{log_pages}
@@ -87,7 +87,7 @@ at_end : (passed : List Home) (home : Home) → Contains (passed ++ home ∷ [])
 at_end [] home = (0, omega arith, refl)
 at_end (x ∷ xs) home = let more = at_end xs home in (suc more.0, omega (arith, more.1), more.2)
 
--- a page that is read behind these
+-- a page that is read after these
 pub record ReadAfter (pages : Pages) (frame : Frame) (way : Way) (passed : List Home) (home : Home) : Type 0 where
   pub page : List ℕ
   pub may : MayBe frame home
@@ -115,7 +115,7 @@ module _ (pages : Pages) (frame : Frame) (way : Way) (none_unread : (home : Home
       let after = read_after passed home reached in
       (after.page, record { passed = passed; reached = reached; may = after.may; fresh = after.fresh; there = after.there; begins = after.so; at = refl })
 
-  -- the page that is come to behind so many is one alone
+  -- the page that is come to after this number of others is one alone
   at_most : (passed : List Home) (home : Home) → Reaches pages frame way passed home → (other : List Home) (onto : Home) → Reaches pages frame way other onto → length passed ≡ length other → (passed ≡ other) × (home ≡ onto)
   at_most passed home reached = elim reached as (λ passed home reached. (other : List Home) (onto : Home) → Reaches pages frame way other onto → length passed ≡ length other → (passed ≡ other) × (home ≡ onto)) [
     | begins ↦ λ other onto also same. elim also as (λ other onto also. length {A = Home} [] ≡ length other → ([] ≡ other) × (way.first ≡ onto)) [

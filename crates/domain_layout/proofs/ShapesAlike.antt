@@ -99,7 +99,7 @@ kept_file cells is live same = by_record (first_record 1 cells) refl same
           homes = λ page. refl;
         }
 
--- a page in front of what is kept stands where its cells say
+-- a page before what is kept stands where its cells say
 kept_home : (keep : ℕ) (places : Places) (page : ℕ) (home : Home) → places page ≡ At home → ¬ home_at (places_before keep places page) ≡ None → home_at (places_before keep places page) ≡ Some home
 kept_home keep places page home at some = by_test (nat_lt page keep) refl
   where

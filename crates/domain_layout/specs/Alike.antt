@@ -7,7 +7,7 @@ use Rattle.domain_layout.specs.Reached.{Frame, MayBe, Reaches, Way, cells_way, t
 use Rattle.domain_layout.specs.TagRules.{HasTags}
 use Rattle.log_recovery.specs.log_ring.Homes.{IsMember}
 
--- the same stands at each page of a kind that is come to, where pages of tables may be
+-- both have the same at each page of a kind that is come to, if pages of tables may be there
 abbrev pub AgreeOnWay : Pages → Pages → Frame → Way → Type 0
 AgreeOnWay one other frame way =
     (passed : List Home) (home : Home) → Reaches one frame way passed home → MayBe frame home

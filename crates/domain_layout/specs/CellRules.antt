@@ -89,7 +89,7 @@ next_in bytes =
     })
     else None
 
--- a cell in use stands at such a place, and leads on so
+-- a cell in use stands at such a place, and leads on like that
 pub record IsLink (pages : Pages) (frame : Frame) (at : CellAt) (link : Link) : Type 0 where
   pub place : IsPlace pages frame at
   pub bytes : List ℕ
@@ -207,8 +207,8 @@ pub record IsWrongLater (pages : Pages) (frame : Frame) (at : CellAt) : Type 0 w
 -- ** Chains
 
 -- from a first cell on, the cells that were passed, and the one that is come to: each stands where
--- the one in front of it leads, may follow it, and was not passed before. That they are well formed
--- is not asked, so that a wrong record hides no other fault
+-- the one before it leads, may follow it, and was not passed before. That they are well formed is
+-- not asked, so that a wrong record hides no other fault
 pub data Follows (pages : Pages) (frame : Frame) (start : CellAt) : List CellAt → CellAt → Link
     → Type 0 where
   begins : (link : Link) → IsLink pages frame start link
@@ -275,7 +275,7 @@ pub record IsUnchained (pages : Pages) (frame : Frame) (at : CellAt) : Type 0 wh
   pub kind : (link.kind ≡ Chain) ⊎ (link.kind ≡ Quota)
   pub alone : (start : CellAt) → ¬ IsInChain pages frame start at link
 
--- two cells of a chain, one behind the other
+-- two cells of a chain, one after the other
 pub record AreInChain (pages : Pages) (frame : Frame) (first : Link) (early late : Cell)
     (at : CellAt) : Type 0 where
   pub start : CellAt

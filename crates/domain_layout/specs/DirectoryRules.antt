@@ -1,4 +1,4 @@
--- The rules of directories and of their indexes, where the pages of tables stand as they should.
+-- The rules of directories and of their indexes, if the pages of tables stand as they should.
 use Rattle.std.specs.Prelude.{◌≡◌, ◌⊎◌, ◌*◌, ◌<◌, ◌≤◌, ◌↔◌, ℕ, true, false, List, [], ◌∷◌, length, Some, None, IsSome, IsSomeAnd, Contains, nat_le, slice_get, if◌then◌else◌}
 use Rattle.std.specs.List.{AllByRecursion, flat_map}
 use Rattle.std.specs.Option.{option_and_then}
@@ -59,7 +59,7 @@ pub record IsInOriginal (pages : Pages) (entry : FilesetEntry) (tag : Tag)
   pub there : IsThere pages entry tag cells
   pub is : seen_in cells ≡ Some seen
 
--- the same of a clone: they are its own, or the original's
+-- the file of these cells as a clone has it: they are its own, or the original's
 pub record IsInClone (pages : Pages) (entry original : FilesetEntry) (clone : ℕ) (tag : Tag)
     (cells : List PlacedCell) (seen : SeenFile) : Type 0 where
   pub is : (IsThere pages entry tag cells × (is_removed cells ≡ false) × IsOwn pages cells seen)
@@ -163,7 +163,7 @@ abbrev pub IsWrongRowPage : Pages → Frame → Table → Home → Type 0
 IsWrongRowPage pages frame table home = (number : ℕ) × (dir : Tag) × (page : ℕ) × (bytes : List ℕ)
     × IsDirectoryPage pages frame table number dir page home bytes × ¬ IsDirPage bytes
 
--- one place is in front of another
+-- one place is before another
 abbrev pub IsEarlier : RowPlace → RowPlace → Type 0
 IsEarlier a b = (a.page < b.page) ⊎ ((a.page ≡ b.page) × (a.place < b.place))
 
@@ -231,8 +231,8 @@ pub record HasWrongParent (pages : Pages) (frame : Frame) (table : Table) (numbe
       × (row.tag ≡ tag) × (row.kind ≡ Directory) × (at.dir ≡ parent) × ¬ tag ≡ root_tag)
   pub wrong : ¬ parent_of cells ≡ Some parent
 
--- a directory: two rows lead to it, or it is below itself; or none does, or it is not below the
--- root, where no directory is out of sync
+-- a directory: two rows lead to it, or it is below itself; or, if no directory is out of sync, no
+-- row leads to it, or it is not below the root
 abbrev pub IsMisplaced : Pages → Frame → Table → ℕ → Tag → Type 0
 IsMisplaced pages frame table number tag = (rows : List RowPlace)
     × AreRowsTo pages frame table number tag Directory rows
@@ -240,7 +240,7 @@ IsMisplaced pages frame table number tag = (rows : List RowPlace)
     ⊎ (AreAllRead pages frame table number
     × ¬ RowsLead pages frame table number root_tag tag))
 
--- a file: more rows lead to it than it has links; or fewer do, where no directory is out of sync
+-- a file: more rows lead to it than it has links; or, if no directory is out of sync, fewer do
 abbrev pub IsMiscounted : Pages → Frame → Table → ℕ → Tag → SeenFile → Type 0
 IsMiscounted pages frame table number tag seen = (rows : List RowPlace)
     × AreRowsTo pages frame table number tag File rows
@@ -308,7 +308,8 @@ abbrev pub total_in : Record → ℕ
 total_in (written.DirIndex vol page entries) = entries
 total_in _ = 0
 
--- a file of a fileset, an original or a clone, has an index that begins there, of so many entries
+-- a file of a fileset, an original or a clone, has an index that begins there, with this total of
+-- entries
 pub record HasIndex (pages : Pages) (table : Table) (number : ℕ) (tag : Tag) (seen : SeenFile)
     (first : Home) (total : ℕ) : Type 0 where
   pub cells : List PlacedCell
@@ -345,7 +346,7 @@ pub record CountsRows (pages : Pages) (frame : Frame) (table : Table) (number : 
       → IsDirectoryPage pages frame table number dir page home bytes → ¬ IsDirPage bytes)
       × (count ≡ 0))
 
--- an entry is below one in front of it; or there are more of it than rows
+-- an entry is below one before it; or there are more entries like it than rows
 pub record IsWrongIndexEntry (pages : Pages) (frame : Frame) (table : Table) (number : ℕ)
     (dir : Tag) (index : List (List ℕ)) (place : ℕ) : Type 0 where
   pub page : List ℕ

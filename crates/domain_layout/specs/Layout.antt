@@ -27,7 +27,7 @@ pub record Layout : Type 0 where
   pub tags : ℕ → List TagPlace
 
 -- a page of a volume's table of cells at a place of it: well formed, with the place as its index,
--- and the one behind it as its next page
+-- and the one after it as its next page
 pub record IsPageAt (table : List ℕ) (place : ℕ) (page : List ℕ) : Type 0 where
   pub good : IsCellPage page
   pub indexed : index_of page ≡ place
@@ -53,7 +53,7 @@ abbrev pub AreTagPlaces : Pages → Option Home → List TagPlace → Type 0
 AreTagPlaces pages None places = places ≡ []
 AreTagPlaces pages (Some first) places = IsDirectoryAt pages first places
 
--- pages of metadata with this anchor stand so
+-- pages of metadata with this anchor stand like this
 pub record IsLayout (pages : Pages) (layout : Layout) : Type 0 where
   pub version : layout.anchor.version ≡ number_of layout.version
   pub table : IsSomeAnd layout.anchor.table

@@ -57,7 +57,7 @@ pub record IsOfIndex (pages : Pages) (frame : Frame) (home : Home) : Type 0 wher
   pub has : HasIndexAt pages frame at first
   pub come : IsComeTo pages frame (index_way first) home
 
--- a page of a directory, where it says one of a member
+-- a page of a directory, if it says one of a member
 pub record IsOfDirectory (pages : Pages) (frame : Frame) (home : Home) : Type 0 where
   pub table : Table
   pub says : SaysTable pages frame table
@@ -77,14 +77,14 @@ IsOfFiles pages frame home =
 
 -- ** All of them
 
--- the page of the fileset table; where it says one, those of tables; and where no rule of tables is
+-- the page of the fileset table; if it says one, those of tables; and if no rule of tables is
 -- broken, those of bitmaps, indexes and directories
 abbrev pub IsLookedAt : Pages → Frame → Home → Type 0
 IsLookedAt pages frame home = (frame.anchor.table ≡ Some home)
     ⊎ (((other : Home) → ¬ IsTableFault pages frame other) × IsOfTables pages frame home)
     ⊎ (HasNoTablesFault pages frame × IsOfFiles pages frame home)
 
--- the same stands at each home where the rules look: at no other one is anything asked
+-- both have the same at each home where the rules look: they ask about no other home
 abbrev pub AgreeWhereRulesLook : Pages → Pages → Frame → Type 0
 AgreeWhereRulesLook one other frame =
     (home : Home) → IsLookedAt one frame home → one home ≡ other home

@@ -14,7 +14,7 @@ use Rattle.domain_layout.specs.Seen.{SeenFile}
 use Rattle.domain_layout.specs.Shape.{FilesetShape, Shapes}
 use Rattle.domain_layout.specs.Alike.{AgreeOnCells, AgreeOnTags, AgreeOnWay}
 
--- the same stands at each page of the indexes that cells name
+-- both have the same at each page of the indexes that cells name
 abbrev pub AgreeOnIndexes : Pages → Pages → Frame → Type 0
 AgreeOnIndexes one other frame =
     (at : CellAt) (first : Home) → HasIndexAt one frame at first
@@ -26,7 +26,7 @@ AgreeOnDirectories one other shape =
     (tag : Tag) (seen : SeenFile) (page : ℕ) (home : Home) → shape.files tag ≡ Some seen
     → seen.is.kind ≡ Directory → seen.homes page ≡ Some home → one home ≡ other home
 
--- the same stands at each page of metadata: of the fileset table, of cells, tags, indexes and
+-- both have the same at each page of metadata: of the fileset table, of cells, tags, indexes and
 -- directories
 pub record AgreeOnMetadata (one other : Pages) (layout : Layout) (shapes : Shapes) : Type 0 where
   pub table : (home : Home) → layout.anchor.table ≡ Some home → one home ≡ other home

@@ -37,7 +37,7 @@ pub record IsOnTable (pages : Pages) (layout : Layout) (at : CellAt) (cell : Cel
 abbrev pub frame_of : Layout → Frame
 frame_of layout = record { anchor = layout.anchor; version = layout.version }
 
--- a page of the index that a cell in use names: it is come to, so many pages behind the first
+-- a page of the index that a cell in use names: it is come to, `number` pages after the first
 pub record HasIndexPage (pages : Pages) (layout : Layout) (at : CellAt) (number : ℕ) (home : Home)
     : Type 0 where
   pub cell : Cell

@@ -1,4 +1,4 @@
--- The rules of files' pages and of bitmaps, where the pages of tables stand as they should.
+-- The rules of files' pages and of bitmaps, if the pages of tables stand as they should.
 use Rattle.std.specs.Prelude.{◌≡◌, ◌⊎◌, ◌+◌, ◌*◌, ◌<◌, ◌≤◌, ◌↔◌, ℕ, true, Some, List}
 use Rattle.file_release.specs.domain_base.Version.{bitmap_pages}
 use Rattle.file_release.specs.domain_base.declared.place.CellAt.{CellAt}

@@ -16,7 +16,7 @@ pub record Frame : Type 0 where
   pub anchor : Anchor
   pub version : Version
 
--- the first page of cells of a volume: in front of it stand label, anchors and bitmap
+-- the first page of cells of a volume: label, anchors and bitmap stand before it
 abbrev pub first_cells : Frame → ℕ → ℕ
 first_cells frame vol = (first_pages frame.version (member_of frame.anchor vol).pages).cells
 
@@ -46,7 +46,8 @@ pub data Reaches (pages : Pages) (frame : Frame) (way : Way) : List Home → Hom
       → pages home ≡ Some page → way.begins_so page ≡ true → way.next home page ≡ Some onto
       → Reaches pages frame way (passed ++ home ∷ []) onto
 
--- the page at this place is read: it may be there, is come to for the first time, and begins so
+-- the page at this place is read: it may be there, is come to for the first time, and begins as the
+-- way asks
 pub record IsRead (pages : Pages) (frame : Frame) (way : Way) (place : ℕ) (home : Home)
     (page : List ℕ) : Type 0 where
   pub passed : List Home

@@ -32,7 +32,7 @@ kept_by cells is =
     })
     (keep_of cells)
 
--- what it is, where it is not to be removed
+-- what it is, if it is not to be removed
 abbrev pub seen_in : List PlacedCell → Option SeenFile
 seen_in = of_live (λ cells. option_and_then (kept_by cells) (attributes_of cells))
 
@@ -77,7 +77,7 @@ is_in_sync number (written.Attributes kind uid gid flags size keep links birth u
     nat_lt birth number && not (unsynced == number)
 is_in_sync number _ = false
 
--- so the clone has it as the original does
+-- what the file is in the clone of that number, if the clone has it as the original does
 abbrev pub seen_through : ℕ → List PlacedCell → Option SeenFile
 seen_through number cells =
     if option_map_or (is_in_sync number) (first_record 1 cells) false then seen_in cells else None

@@ -126,7 +126,7 @@ pub record IsUnnamed (pages : Pages) (frame : Frame) (table : Table) (at : CellA
   pub unnamed : (number : ℕ) (tag : Tag) (home : Home) → IsFirstOf pages frame number tag at
       → ¬ HasEntry pages frame table number tag at home
 
--- the slot of the original of which there is a clone in a slot
+-- the slot of the original whose clone stands in a slot
 abbrev pub original_slot : Option SlotItem → Option ℕ
 original_slot (Some (slot.Clone of number entry)) = Some of
 original_slot _ = None

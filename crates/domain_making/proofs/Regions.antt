@@ -30,7 +30,7 @@ page_same number page old new same is = bytes_from-same (new 1) (old 1) (8192 * 
 pub gate_same : (at : ℕ) (old new : Image) → new 1 at ≡ old 1 at → ¬ IsOpenAt old 1 at → ¬ IsOpenAt new 1 at
 gate_same at old new same closed is_open = closed (sym same ∙ is_open)
 
--- where images agree behind the anchors, both have the new pages
+-- if images agree after the anchors, both have the new pages
 pub pages_same : (firsts : FirstPages) (new : NewPages) (one other : Image) → 2 ≤ firsts.cells → 2 ≤ firsts.log → 2 ≤ firsts.table → ((k : ℕ) → 16384 ≤ k → other 1 k ≡ one 1 k)
     → HasNewPages firsts new one → HasNewPages firsts new other
 pages_same firsts new one other cells log table same has = record {
@@ -67,7 +67,7 @@ written_as found firsts at is bytes page same old new writes = subst (λ f. Writ
 
 module _ (firsts : FirstPages) (new : NewPages) (bits : List ℕ) (shows : ShowsMap new.bitmap bits) (d0 d1 d2 d3 d4 d5 : Moment) (first : Writes 1 (8192 * 2) bits d0 d1) (second : Writes 1 (8192 * firsts.cells) new.cells d1 d2)
     (third : Writes 1 (8192 * firsts.log) closed d2 d3) (fourth : Writes 1 (8192 * firsts.table) new.table d3 d4) (last : Syncs 1 d4 d5) where
-  -- what stands in front of the table is there in the end
+  -- what stands before the table is there in the end
   same_5 : (k : ℕ) → d5.contents 1 k ≡ d4.contents 1 k
   same_5 k = ap (λ (image : Image). image 1 k) last.contents
 

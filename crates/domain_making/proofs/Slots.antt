@@ -53,7 +53,7 @@ module _ (d0 d1 d2 : Disk) (one : ReadiesSlot d0 d1 1 0) (two : ReadiesSlot d1 d
           second told_1 None has_1 (synced_1 (8192 + 4096 * 1)) (λ none. none),
         )
 
--- ---- and all in front of that
+-- ---- and all before that
 
 module _ (d0 d1 d2 : Disk) (first : OnlyWrites d0 d1 IsInFront) where
   pub prepared : Touches d1 d2 (IsIn 1 8192 8192) → Touches d0 d2 IsInFront

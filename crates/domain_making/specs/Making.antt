@@ -23,7 +23,7 @@ use Rattle.domain_layout.specs.NewDomain.{IsNew}
 abbrev pub pages_in_use : Version → List ℕ → ℕ
 pages_in_use version sizes = min (volume_pages sizes 1) (most_pages version)
 
--- the anchor of a domain that was just made on a volume of which so many pages are used
+-- the anchor of a domain that was just made on a volume with this number of used pages
 abbrev pub new_anchor : Version → ℕ → Anchor
 new_anchor version pages = record {
   number = 1;
@@ -49,7 +49,7 @@ abbrev pub new_frame : Version → ℕ → Frame
 new_frame version pages = record { anchor = new_anchor version pages; version = version }
 
 -- an image is that of an empty domain with this anchor: recovery takes the anchor and no group
--- behind it, the label of the first volume says its version, the pages are those of a domain that
+-- after it, the label of the first volume says its version, the pages are those of a domain that
 -- was just made, and the image means no fileset
 pub record IsEmptyDomain (sizes : List ℕ) (anchor : Anchor) (image : Image) : Type 0 where
   pub good : HasGoodAnchor sizes image anchor

@@ -10,18 +10,18 @@ use Rattle.domain_layout.specs.NewDomain.{IsNewBitmap, IsNewCells, IsNewTablePag
 use Rattle.domain_making.specs.Making.{new_frame}
 use Rattle.domain_making.specs.declared.pages.NewPages.{NewPages}
 
--- of so many pages those up to the last one are used, and no others
+-- a map of this number of pages: those up to the last one are used, and no others
 pub record IsUsedTo (pages last : ℕ) (map : VolumePages) : Type 0 where
   pub count : map.pages ≡ pages
   pub used : (page : ℕ) → contains map.used page ≡ nat_le page last
 
--- they are those of a domain of this version on a volume of which so many pages are used
+-- they are those of a domain of this version on a volume with this number of used pages
 pub record AreNew (version : Version) (pages : ℕ) (new : NewPages) : Type 0 where
   pub bitmap : IsUsedTo pages (first_pages version pages).table new.bitmap
   pub cells : IsNewCells (new_frame version pages) new.cells
   pub table : IsNewTablePage new.table
 
--- so many pages of the bitmap of a new domain are there
+-- the first pages of a new domain's bitmap are there, this number of them
 abbrev pub HasNewBitmaps : Pages → Frame → ℕ → Type 0
 HasNewBitmaps pages frame count = (number : ℕ) → number < count
     → IsSomeAnd (pages (on_first ((firsts frame).bitmap + number))) (IsNewBitmap frame number)

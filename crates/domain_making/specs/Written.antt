@@ -27,7 +27,7 @@ IsOnPages firsts = IsIn 1 (page_bytes * 2) (page_bytes * (firsts.table - 1))
 abbrev pub IsInFront : Places
 IsInFront = IsIn 1 0 (page_bytes * 2)
 
--- the page of anchors, and all behind it up to the table
+-- the page of anchors, and everything after it up to the table
 abbrev pub IsBehindLabel : FirstPages → Places
 IsBehindLabel firsts = IsIn 1 page_bytes (page_bytes * firsts.table)
 

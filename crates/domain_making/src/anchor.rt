@@ -22,7 +22,7 @@ pub(crate) fn first_volume() -> VolIx
     vol
 }
 
-/// The anchor of a domain that was just made in this version on a volume with so many used pages of
+/// The anchor of a domain of this version that was just made on a volume with `pages` used pages of
 /// 8,192 bytes: number 1 in slot 0, a log that begins at its first place with group 1, and no
 /// member except volume 1.
 pub fn new_anchor(version: Version, pages: u32) -> Anchor

@@ -119,7 +119,7 @@ module _ (d : DomainNow) (all : FilesetMap) (stands : StandsDomain d all) where
               stands.slots;
         }
 
-    -- it is as rules of pages ask beside, if it was
+    -- it is also as the rules of pages ask, if it was
     pub marked_sound : StandsSound d files indexes → IsSound marked
     marked_sound sound =
         let keeps_where : KeepsWhere d marked files indexes = λ home holder holds not_volume not_log not_file. other_pages home holder holds not_volume in
@@ -246,7 +246,7 @@ kept_settled old new pages space settled slots was listed = record {
   listed = listed;
 }
 
--- ---- what keeping asks, where it is known that there are such filesets
+-- ---- what keeping asks, if it is known that there are such filesets
 
 nothing : {A : Type 0} → ∥ A ∥₁ → (A → ⊥) → ⊥
 nothing t none = ∥∥₁_elim t (λ x y. absurd x) none

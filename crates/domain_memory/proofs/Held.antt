@@ -31,11 +31,11 @@ less_each (x ∷ xs) (y ∷ ys) less =
     let rest = less_each xs ys (λ k. less (suc k)) in
     omega (arith, sum_by-cons held_if_open x xs, sum_by-cons held_if_open y ys, less 0, rest)
 
--- no more is held where no volume holds more
+-- no more is held if no volume holds more
 pub held_less : (s t : Spaces) → ((k : ℕ) → held_if_open (get_or s.volumes k None) ≤ held_if_open (get_or t.volumes k None)) → held_open s ≤ held_open t
 held_less s t less = less_each s.volumes t.volumes less
 
--- nor where the volumes are the same
+-- nor if the volumes are the same
 pub held_same : (s t : Spaces) → ((vol : ℕ) → volume_of s vol ≡ volume_of t vol) → held_open s ≤ held_open t
 held_same s t same = held_less s t (λ k.
     let place : k + 1 - 1 ≡ k = omega arith in
@@ -105,7 +105,7 @@ and_true : (b : Bool) → (b && true) ≡ b
 and_true true = refl
 and_true false = refl
 
--- a set without pages that it has, each of which stands once in a list
+-- a set without pages that it has, each once in a list
 less_waits : (ws : List Waiting) (less used : FinSet nat_cmp) → IsDistinct same_page ws → ((p : ℕ) → is_among ws p ≡ true → contains used p ≡ true) → ((p : ℕ) → contains less p ≡ (contains used p && not (is_among ws p)))
     → len less + length ws ≤ len used
 less_waits [] less used apart there is =

@@ -115,7 +115,7 @@ none_kept memory = record {
   list = refl;
 }
 
--- memory stands for what it stood for where it is as it was kept
+-- memory stands for what it stood for if it is as it was kept
 pub stands_still : (old new : DomainMemory) (all : FilesetMap) → kept_in new ≡ kept_in old → books_in new ≡ books_in old → StandsFor old all → StandsFor new all
 stands_still old new all kept books stands = record {
   stands = subst (λ (d : DomainNow). StandsDomain d all) (sym kept) stands.stands;

@@ -128,7 +128,7 @@ put_adds at old once = by_test (has_entry at old) refl
         record { place = it.0; between = map (without_clone_at at) old; puts = inl (record { within = it.1; was = it.2; is = sym (set_is_map at old once it.0 it.1 it.2) }); orders = refl }
     by_test false none = record { place = length old; between = old ++ entry ∷ []; puts = inr (record { none = none_there none; behind = refl; is = refl }); orders = refl }
 
--- more behind others
+-- more after others
 pub put_both : (first more : List CellAt) (entries : List Entry) → put_all_on (first ++ more) entries ≡ put_all_on more (put_all_on first entries)
 put_both [] more entries = refl
 put_both (x ∷ first) more entries = put_both first more (put_on x entries)

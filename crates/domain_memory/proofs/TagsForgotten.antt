@@ -41,7 +41,7 @@ taken_was (x ∷ xs) (suc n) (suc k) p there = taken_was xs n k p there
 abbrev pub HasOnce : List TagPlace → Type 0
 HasOnce all = (j k : ℕ) (p q : TagPlace) → slice_get all j ≡ Some p → slice_get all k ≡ Some q → p.index ≡ q.index → j ≡ k
 
--- so no page in front of the last one of some first pages has its index
+-- so no page before the last one of some first pages has its index
 pub last_is_alone : (all : List TagPlace) (n : ℕ) → HasOnce all → (places : List TagPlace) (place : TagPlace) → take n all ≡ places ++ place ∷ [] → home_with places place.index ≡ None
 last_is_alone all n once places place is = none_with places place.index (λ k p there same.
     let here = taken_was all n k p (ap (λ (l : List TagPlace). slice_get l k) is ∙ in_front places place k p there) in

@@ -85,7 +85,7 @@ none_to_take_back m table slots was = record {
   slots = λ number. subst (λ o. IfSome o CanGoBack) (sym (ap (λ s. slot_in s number) slots ∙ nothing_in 32 number)) tt;
 }
 
--- ---- what taking back asks, where it is known that it may be
+-- ---- what taking back asks, if it is known that it may be
 
 nothing : {A : Type 0} → ∥ A ∥₁ → (A → ⊥) → ⊥
 nothing t none = ∥∥₁_elim t (λ x y. absurd x) none

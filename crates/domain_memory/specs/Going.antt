@@ -38,8 +38,8 @@ abbrev pub HavePlain : DomainMemory → List Entry → Type 0
 HavePlain memory entries = (entry : Entry) → Contains entries entry → (cell : Cell)
     → StandsAt (pages_of memory.pages) entry.at cell → are_plain cell.records ≡ true
 
--- something is on the list, no page of a tag directory is, and of each file and directory on it the
--- first cell is so
+-- something is on the list, no page of a tag directory is, and the first cell of each file and
+-- directory on it is plain
 pub record MayLetGo (memory : DomainMemory) : Type 0 where
   pub some : ¬ IsEmpty memory.list.list
   pub tag_pages : memory.list.list.tag_pages ≡ []
@@ -94,8 +94,8 @@ NoneWaits space = (vol : ℕ) → IfSome (volume_of space vol) (λ v. v.waiting 
 
 -- ** What stays gone
 
--- where a change is kept slots are what they were with it, the same cells are free, and each tag
--- that is used was
+-- if a change is kept, slots are what they were with it, the same cells are free, and each tag
+-- that is used was used before
 pub record KeepsGone (old new : DomainMemory) : Type 0 where
   pub table : new.table ≡ old.table
   pub cells : (at : CellAt) → is_free new.cells at ≡ is_free old.cells at

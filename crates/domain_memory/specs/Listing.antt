@@ -10,12 +10,12 @@ use Rattle.standing_laws.specs.release_list.declared.list.Entry.{Entry}
 abbrev pub has_entry : CellAt → List Entry → Bool
 has_entry at entries = list_any (λ (e : Entry). is_at e.at at) entries
 
--- an entry, of which no clone is given if it has that file
+-- an entry, without its clone if it is the entry of that file
 abbrev pub without_clone_at : CellAt → Entry → Entry
 without_clone_at at e = if is_at e.at at then record { at = at; clone = None } else e
 
 -- the entries with one of a file that begins there, which no clone reads through: the one that it
--- has, or one behind all others
+-- has, or one after all others
 abbrev pub put_on : CellAt → List Entry → List Entry
 put_on at entries = if has_entry at entries then map (without_clone_at at) entries
     else entries ++ record { at = at; clone = None } ∷ []

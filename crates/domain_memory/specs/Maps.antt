@@ -8,12 +8,12 @@ use Rattle.standing_laws.specs.domain_layout.Reached.{Frame}
 use Rattle.standing_laws.specs.domain_standing.Marks.{IsMarkedAt}
 use Rattle.standing_laws.specs.free_cells.Marks.{is_marked}
 
--- the map of so many pages of a volume, of which those are used whose bits are 1
+-- the map of `count` pages of a volume: a page is used if and only if its bit is 1
 pub record IsMapOf (pages : Pages) (vol count : ℕ) (map : VolumePages) : Type 0 where
   pub size : map.pages ≡ count
   pub used : (page : ℕ) → page < count → contains map.used page ≡ is_marked pages vol page
 
--- the same, as far as the bits were read: no page is used from that one on
+-- such a map, as far as the bits were read: from page `next` on, no page is used
 pub record IsReadTo (pages : Pages) (vol count next : ℕ) (map : VolumePages) : Type 0 where
   pub size : map.pages ≡ count
   pub used : (page : ℕ) → page < next → contains map.used page ≡ is_marked pages vol page

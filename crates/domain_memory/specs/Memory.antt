@@ -38,8 +38,8 @@ kept_in memory = record {
 abbrev pub books_in : DomainMemory → ℕ → Book
 books_in memory number = kept_book (slot_in memory.slots.items number)
 
--- memory is that of a domain with these filesets, in which no file is read through another one, and
--- which is as rules of pages ask beside
+-- memory is that of a domain with these filesets; no file in it is read through another, and it is
+-- also as the rules of pages ask
 pub record StandsFor (memory : DomainMemory) (all : FilesetMap) : Type 0 where
   pub stands : StandsDomain (kept_in memory) all
   pub alone : StandAlone (kept_in memory)

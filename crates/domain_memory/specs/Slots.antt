@@ -54,13 +54,13 @@ pub record IsTakenBack (old new : SlotFiles) : Type 0 where
   pub kept : new.book.kept ≡ old.book.kept
   pub tag_pages : new.tag_pages ≡ old.tag_pages
 
--- so it is of what is in a slot, if something is
+-- what is in a slot changes in this way, if something is in it
 abbrev pub ChangesSlot : (SlotFiles → SlotFiles → Type 0) → Option SlotFiles → Option SlotFiles
     → Type 0
 ChangesSlot change None new = new ≡ None
 ChangesSlot change (Some old) new = IsSomeAnd new (change old)
 
--- and of each of these slots
+-- and what is in each of these slots
 pub record ChangesSlots (change : SlotFiles → SlotFiles → Type 0)
     (old new : List (Option SlotFiles)) : Type 0 where
   pub count : length new ≡ length old

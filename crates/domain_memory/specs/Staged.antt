@@ -34,8 +34,8 @@ staged_in memory = record {
 abbrev pub staged_books : DomainMemory → ℕ → Book
 staged_books memory number = book_in (slot_in memory.slots.items number)
 
--- with the change, memory is that of a domain with these filesets, in which no file is read through
--- another one, and which is as rules of pages ask beside; bits of bitmaps still say what was used
+-- with the change, memory is that of a domain with these filesets; no file in it is read through
+-- another, and it is also as the rules of pages ask; bits of bitmaps still say what was used
 -- when it was last kept, and there is room on the list for what comes on it
 pub record IsStaged (memory : DomainMemory) (all : FilesetMap) : Type 0 where
   pub stands : StandsDomain (staged_in memory) all
@@ -45,12 +45,12 @@ pub record IsStaged (memory : DomainMemory) (all : FilesetMap) : Type 0 where
   pub once : HaveOnce memory.list.list.entries
   pub room : length memory.listed.items ≤ memory.list.room
 
--- so it is with some filesets
+-- the change is laid over memory in this way for some filesets
 abbrev pub IsStagedForSome : DomainMemory → Type 0
 IsStagedForSome memory = (all : FilesetMap) × IsStaged memory all
 
--- and so it may be kept: directories say in which one they stand, and books say what their filesets
--- use
+-- the change may also be kept: directories say in which directory they stand, and books say what
+-- their filesets use
 pub record MayBeKept (memory : DomainMemory) (all : FilesetMap) : Type 0 where
   pub staged : IsStaged memory all
   pub parents : HaveParents (staged_in memory)

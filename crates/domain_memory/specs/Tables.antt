@@ -27,7 +27,7 @@ pub record AreRead (cells : Cells) (pages : Pages) : Type 0 where
   pub belong : Belong cells pages
   pub free : (at : CellAt) → (is_free cells at ≡ true) ↔ IsFreeOn cells pages at
 
--- so many pages of a volume's table were read, and no others
+-- the first `count` pages of a volume's table were read, and no others
 pub record ReadsTable (pages : Pages) (vol count : ℕ) (table : List ℕ) (old new : Cells) : Type 0
   where
     pub read : AreRead new pages
@@ -35,7 +35,7 @@ pub record ReadsTable (pages : Pages) (vol count : ℕ) (table : List ℕ) (old 
     pub others : (other : ℕ) → ¬ other ≡ vol → table_of new other ≡ table_of old other
     pub marks : (other : ℕ) → is_closed new other ≡ is_closed old other
 
--- a member's table was read; it is closed where the member is
+-- a member's table was read; it is closed if and only if the member is
 pub record IsTableRead (pages : Pages) (frame : Frame) (vol : ℕ) (cells : Cells) : Type 0 where
   pub table : IsCellTable pages vol (first_cells frame vol) (table_of cells vol)
   pub closed : (is_closed cells vol ≡ true) ↔ ¬ (member_of frame.anchor vol).state ≡ 1

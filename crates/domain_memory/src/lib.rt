@@ -1,4 +1,4 @@
-//! What a domain keeps in memory beside the rack that has its volumes: its free space and cells,
+//! What a domain keeps in memory besides the rack that has its volumes: its free space and cells,
 //! the files and the book of each slot, and the list of what is to be let go of.
 #![tactic(auto)]
 

@@ -18,7 +18,7 @@ use standing_laws::{Deferred, DomainFrame, FilesetTable, OutOfMemory, Version};
 use std::alloc::Global;
 
 impl DomainMemory {
-    /// The memory of a domain that is made in this version from these pages, with so many pages of
+    /// The memory of a domain that is made in this version from these pages, with `pages` pages of
     /// its volume used. It has no fileset, and no change is laid over it. Fails only if memory runs
     /// out.
     pub fn of_new(

@@ -42,7 +42,7 @@ HaveParents d = (number : ℕ) (tag : Tag) (cells : List PlacedCell) (seen : See
     → Has d.pages d.table number tag cells seen → seen.is.kind ≡ Directory
     → ¬ HasWrongParent d.pages d.frame d.table number tag cells
 
--- a bit of a bitmap is 1 exactly where the page is used and does not wait, or is none of the
+-- a bit of a bitmap is 1 if and only if the page is used and does not wait, or is none of the
 -- volume's
 pub record IsMarkedBut (d : DomainNow) : Type 0 where
   pub there : HasBitmaps d.pages d.frame

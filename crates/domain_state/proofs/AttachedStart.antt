@@ -18,7 +18,7 @@ module _ (memory : DomainMemory) (sizes : List ℕ) (all : FilesetMap) (stands :
   abbrev d : DomainNow
   d = kept_in memory
 
-  -- it stands with the files and indexes of which more is known
+  -- it stands with the files and indexes that more is known of
   abbrev so : StandsDomain (kept_in memory) all
   so = record {
     tables = stands.sound.below.tables;

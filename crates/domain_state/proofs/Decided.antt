@@ -23,7 +23,7 @@ module _ {P : Type 0} where
   pub not_so : Decided P → Decided (¬ P)
   not_so p = ⊎_elim (λ here. inr (λ away. away here)) (λ away. inl away) p
 
-  -- what is not false is so
+  -- what is not false is true
   pub stands_so : Decided P → ¬ ¬ P → P
   stands_so p held = ⊎_elim (λ here. here) (λ away. absurd (held away)) p
 

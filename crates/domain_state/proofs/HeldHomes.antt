@@ -138,7 +138,7 @@ all_volumes (o ∷ rest) vol homes each =
     let both = length-filter_both (on_volume vol) (elsewhere vol) (λ home. refl) homes in
     omega (arith, here, later, both, sum_by-cons held_if_open o rest)
 
--- where a list has each page that is held on an open volume, it is as long
+-- if a list has each page that is held on an open volume, it is as long
 pub held_within : (space : Spaces) (homes : List Home) → ((vol : ℕ) → 1 ≤ vol → HasHeldOn homes vol (volume_of space vol)) → held_open space ≤ length homes
 held_within space homes each = all_volumes space.volumes 1 homes (λ k o at.
     let place : 1 + k - 1 ≡ k = omega arith in

@@ -14,7 +14,7 @@ AreOnce homes = (j k : ℕ) (home : Home) → slice_get homes j ≡ Some home �
 abbrev passes : (Home → Bool) → Home → List Home → List Home
 passes test home rest = cond (test home) (home ∷ rest) rest
 
--- those of the first pages of a volume, in front of others
+-- those of the first pages of a volume, before others
 below : (Home → Bool) → ℕ → ℕ → List Home → List Home
 below test vol zero rest = rest
 below test vol (suc n) rest = passes test (on vol n) (below test vol n rest)

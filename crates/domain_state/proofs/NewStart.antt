@@ -63,7 +63,7 @@ module _ (pages : Pages) (frame : Frame) (new : IsNew pages frame) (table : Tabl
   only_cells : (home : Home) → IsOldPage pages layout home → home ≡ cells
   only_cells home old = stands_so (one_home home cells) (λ apart. old.owned (λ owned. apart (owner_is home old.beside owned.0 owned.1)))
 
-  -- its page of cells is neither in front of cells nor behind them
+  -- its page of cells is neither before cells nor after them
   beside_cells : ¬ IsFixed pages layout cells
   beside_cells fixed =
       let log : frame.anchor.log_page ≡ (firsts frame).log = new.anchor.log in

@@ -28,7 +28,7 @@ abbrev pub open_of : Option VolumeSpace → ℕ
 open_of None = 0
 open_of (Some v) = if v.is_open then v.pages else 0
 
--- ---- where none waits they are held or free
+-- ---- if none waits they are held or free
 
 by_open : (b : Bool) (pages used waiting : ℕ) → waiting ≡ 0 → (if b then pages else 0) ≤ (if b then used - waiting else 0) + (if b then pages - used else 0)
 by_open true pages used waiting none = omega (arith, none)

@@ -14,7 +14,7 @@ use Rattle.no_faults.proofs.OfDomainMemory.Held.{held_same}
 use Rattle.domain_state.specs.Room.{HoldsFew, IsWithinRoom}
 
 module _ (pages : Pages) (frame : Frame) (sizes : List ℕ) (old new : DomainMemory) where
-  -- where no page more is held, and there are no fewer entries
+  -- if no page more is held, and there are no fewer entries
   pub within_longer : (entries more : List Entry) → IsWithinRoom pages frame sizes old entries → held_open (kept_in new).space ≤ held_open (kept_in old).space → length entries ≤ length more → IsWithinRoom pages frame sizes new more
   within_longer entries more within less long start is = let was = within start is in omega (arith, was, less, long)
 
@@ -42,6 +42,6 @@ module _ (pages : Pages) (frame : Frame) (sizes : List ℕ) (old new : DomainMem
         let was = within start is in
         omega (arith, was, keeps, few, longer entries e)
 
--- where no change is laid over it, none leaves more
+-- if no change is laid over it, none leaves more
 pub settled_few : (memory : DomainMemory) → IsSettled memory → HoldsFew memory
 settled_few memory settled = let same : held_open (kept_in memory).space ≡ held_open memory.space = ap held_open settled.space in omega (arith, same)

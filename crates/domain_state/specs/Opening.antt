@@ -37,13 +37,13 @@ IsNoFiles pages table home = (number : ℕ) (tag : Tag) (cells : List PlacedCell
 
 -- a page that belongs to somebody, and is neither fixed nor a file's of a fileset: one of cells, of
 -- a tag directory, of a directory or its index, or of a file that is left for removal. Who has it
--- is not asked, just that it is not so that nobody has: that is decided home by home
+-- is not asked, only that it is not the case that nobody has it: that is decided home by home
 pub record IsOldPage (pages : Pages) (layout : Layout) (home : Home) : Type 0 where
   pub owned : ¬ ¬ IsOwned pages layout home
   pub beside : ¬ IsFixed pages layout home
   pub no_files : IsNoFiles pages layout.table home
 
--- so many are there
+-- there are `count` such pages
 pub record CountsOld (pages : Pages) (frame : Frame) (count : ℕ) : Type 0 where
   pub layout : Layout
   pub same : frame_of layout ≡ frame

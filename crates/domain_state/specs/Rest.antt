@@ -18,7 +18,7 @@ ArePagesSynced disk anchor =
     → pages_in image home ≡ pages_in disk.now.contents home
 
 -- a rack has the members of an anchor; if it tells what it holds, this is its anchor, its log has
--- no group behind that, and nothing is pending on pages of members, those of anchors aside
+-- no group after that, and nothing is pending on pages of members, those of anchors aside
 pub record IsAtRest (disk : Disk) (anchor : Anchor) : Type 0 where
   pub members : HasMembers disk.sizes anchor
   pub none : IsBehindAll disk anchor

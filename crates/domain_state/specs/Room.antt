@@ -1,4 +1,4 @@
--- How many pages a domain may hold, where its history has come to.
+-- How many pages a domain may hold at the point that its history has reached.
 use Rattle.std.specs.Prelude.{ℕ, ◌+◌, ◌*◌, ◌≤◌, List, length}
 use Rattle.no_faults.specs.page_store.Pages.{Pages}
 use Rattle.no_faults.specs.fileset_values.declared.entry.Entry.{Entry}
@@ -10,8 +10,8 @@ use Rattle.no_faults.specs.domain_memory.Memory.{kept_in}
 use Rattle.no_faults.specs.domain_memory.declared.memory.DomainMemory.{DomainMemory}
 use Rattle.domain_state.specs.Opening.{IsStartOf}
 
--- as memory was kept, no more pages are held than were old at the opening, than the state may take
--- that the pages meant then, and than 24 for each entry since
+-- as memory was kept, the pages held are at most those that were old at the opening, plus those
+-- that the state that the pages meant then may take, plus 24 for each entry since
 abbrev pub IsWithinRoom : Pages → Frame → List ℕ → DomainMemory → List Entry → Type 0
 IsWithinRoom pages frame sizes memory entries = (start : State) → IsStartOf pages frame sizes start
     → held_open (kept_in memory).space ≤ start.old_pages + room start + 24 * length entries

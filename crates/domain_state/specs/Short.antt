@@ -16,7 +16,7 @@ use Rattle.no_faults.specs.domain_memory.Staged.{IsSettled}
 use Rattle.no_faults.specs.domain_memory.declared.memory.DomainMemory.{DomainMemory}
 use Rattle.domain_state.specs.Opening.{IsStartOf}
 
--- with no change laid over memory so many pages are free, which are fewer than are needed; no page
+-- with no change laid over memory, `free` pages are free, which is fewer than `need`; no page
 -- waits, and nothing on the list may be let go of, nor anything of what is being removed
 pub record IsShort (memory : DomainMemory) (free need : ℕ) : Type 0 where
   pub settled : IsSettled memory
@@ -25,7 +25,7 @@ pub record IsShort (memory : DomainMemory) (free need : ℕ) : Type 0 where
   pub none_waits : NoneWaits memory.space
   pub none_goes : NothingGoes memory
 
--- a reply that tells of so few pages has its cause in memory
+-- a reply that tells of too few pages has its cause in memory
 abbrev pub HasCause : DomainMemory → Reply → Type 0
 HasCause memory reply = (free need : ℕ) → reply ≡ Refused (NoSpace free need)
     → IsShort memory free need
@@ -37,7 +37,7 @@ HadPages reply = (free need : ℕ) → ¬ (reply ≡ Refused (NoSpace free need)
 -- ** Where the open members lack pages
 
 -- wherever this history may have come with these filesets, from a state that the pages at the
--- opening mean, the open members have fewer pages than may be needed, and so many more
+-- opening mean, the open members have fewer pages than may be needed plus `more`
 abbrev pub MayLackPages : Pages → Frame → List ℕ → List Entry → Option Command → FilesetMap → ℕ
     → Type 0
 MayLackPages pages frame sizes history job all more = (start : State)

@@ -42,8 +42,8 @@ pub fn an_attached_domain_has_a_start()
 {}
 
 /// If a domain is short of pages, with no change laid over it, the open members have fewer pages
-/// than the filesets and the entries of its history may need, and `need` more, wherever that
-/// history may have led.
+/// than the filesets and the entries of its history may need plus `need`, wherever that history
+/// may have led.
 pub fn want_of_pages_is_bounded()
     ensures { (pages : Pages) (frame : Frame) (sizes : List ℕ) (memory : DomainMemory)
         (entries : List Entry) (job : Option Command) (all : FilesetMap) (free need : ℕ)

@@ -10,7 +10,7 @@ both : (b c : Bool) → (b && c) ≡ true → (b ≡ true) × (c ≡ true)
 both true c is = (refl, is)
 both false c is = absurd (false≢true is)
 
--- the next number goes behind all others
+-- the next number goes after all others
 pub counts_on : (number : ℕ) (entries : List Entry) (entry : Entry) → counts_from number entries ≡ true → entry.stamp ≡ number + length entries → counts_from number (entries ++ entry ∷ []) ≡ true
 counts_on number [] entry counts is = ap (λ (b : Bool). b && true) (eq-eqb entry.stamp number (omega (arith, is)))
 counts_on number (first ∷ entries) entry counts is =

@@ -35,7 +35,7 @@ module _ {T : Type 0} (told : Telling T) (value : T) where
       let here : one_if (number == wanted) ≡ 0 = ap one_if (ne_eqb number wanted (λ same. omega (arith, same, low))) in
       let rest = times_below wanted (number + 1) lefts (omega (arith, low)) in omega (arith, here, rest)
 
-  -- numbers that come earlier are not among those behind
+  -- numbers that come earlier are not among those after
   times_above : (wanted number : ℕ) (lefts : List ℕ) → number + length lefts ≤ wanted → total (λ (share : Share). one_if (share.number == wanted)) (shares_from told value number lefts) ≡ 0
   times_above wanted number [] high = refl
   times_above wanted number (left ∷ lefts) high =

@@ -64,7 +64,7 @@ module _ {T : Type 0} (told : Telling T) (value : T) (left : ℕ) where
         goes_on = is.goes_on;
       }
 
--- so many times the same: what they may add together
+-- n times the same: what they may add together
 pub sum_of : (n x : ℕ) → total (λ (left : ℕ). left) (replicate n x) ≡ n * x
 sum_of zero x = omega arith
 sum_of (suc n) x = let rest = sum_of n x in omega (arith, rest, suc-mul n x)

@@ -52,7 +52,7 @@ from_there xs k low = let same : suc k ≡ k + 1 = omega arith in by_next xs k l
     by_next (x ∷ xs) zero low = refl
     by_next (x ∷ xs) (suc k) low = by_next xs k (omega (arith, low))
 
--- behind the last there is none
+-- after the last there is none
 pub past_all : (xs : List ℕ) (k : ℕ) → length xs ≤ k → drop k xs ≡ []
 past_all [] zero low = refl
 past_all [] (suc k) low = refl

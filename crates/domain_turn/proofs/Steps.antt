@@ -107,7 +107,7 @@ module _ {T : Type 0} (told : Telling T) (start : Beginning T) where
     waits = is.waits;
   }
 
-  -- what each seat knows, where one seat's view changed
+  -- what each seat knows, if one seat's view changed
   each_set : (K : V → Type 0) (views : List V) (id : ℕ) (w : V) → K w → ((j : ℕ) (u : V) → j ≢ id → get_elem? views j ≡ some u → K u)
       → (j : ℕ) (u : V) → get_elem? (set views id w) j ≡ some u → K u
   each_set K views id w mine others j u at = ⊎_elim (λ (here : (j ≡ id) × (w ≡ u)). subst K here.1 mine)

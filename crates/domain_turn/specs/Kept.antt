@@ -13,8 +13,9 @@ use Rattle.domain_turn.specs.declared.view.Share.{Share}
 use Rattle.domain_turn.specs.declared.view.Beginning.{Beginning}
 use Rattle.domain_turn.specs.declared.view.View.{View}
 
--- what a share says is so of the value that stands for all, where so many passes were made from this
--- history on, these entries were added, so many last at least, and so many passes have ended
+-- what a share says is so of the value that stands for all, if `passes` passes were made from this
+-- history on, these entries were added, at least `least` entries last, and `ended` passes have
+-- ended
 pub record IsShare {T : Type 0} (told : Telling T) (passes : ℕ) (base : List Entry) (value : T) (news : List Entry) (least ended : ℕ) (share : Share) : Type 0 where
   pub number : share.number < passes
   pub start : share.start ≡ base

@@ -47,8 +47,8 @@ rest_of (share ∷ shares) = shares
 abbrev pub added : {T : Type 0} → Telling T → T → T → List Entry
 added told old new = drop (length (told.history old)) (told.history new)
 
--- the value that its pass takes, after what it knew: nothing was lost, its own entries since the start
--- are those it made, all of which it had seen, and there is room for those it may make
+-- the value that its pass takes, after what it knew: nothing was lost, its own entries since the
+-- start are those it made, it had seen them all, and there is room for those it may make
 pub record Finds {T : Type 0} (told : Telling T) (share : Share) (value : T) : Type 0 where
   pub rests : told.rests value
   pub seen : IsPrefix share.seen (told.history value)
@@ -90,7 +90,7 @@ with_put told share taken value = record share {
   lasting = told.lasting value;
 }
 
--- where the value is not at home, the slot is with the seat that has it, empty
+-- if the value is not at home, the slot is with the seat that has it, empty
 abbrev pub carried_by : {T : Type 0} → Option T → List (ℕ × Option T)
 carried_by None = []
 carried_by (Some value) = (0, None) ∷ []
@@ -133,7 +133,7 @@ module _ {T : Type 0} where
   abbrev pub passes_on : At T → Sat T → ℕ → Sat T → Type 0
   passes_on s v found w = w ≡ (resting v.0.shares, [])
 
-  -- so much is known to last
+  -- this much of the history is known to last
   abbrev pub notes : At T → Sat T → ℕ → Sat T → Type 0
   notes s v found w = w ≡ (with_share v.0 (record (share_in v.0) { durable = max (share_in v.0).durable s.first }), v.1)
 

@@ -25,7 +25,7 @@ abbrev pub one_if : Bool → ℕ
 one_if true = 1
 one_if false = 0
 
--- 1 where it is this ticket
+-- 1 if it is this ticket
 abbrev pub has_ticket : Option ℕ → ℕ → ℕ
 has_ticket None ticket = 0
 has_ticket (Some mine) ticket = one_if (mine == ticket)
@@ -47,10 +47,10 @@ module _ {T : Type 0} where
   abbrev pub ends_in : View T → ℕ
   ends_in view = total (λ (share : Share). one_if share.ended) view.shares
 
-  -- 1 where the seat stands in the queue
+  -- 1 if the seat stands in the queue
   abbrev pub waits_in : View T → ℕ
   waits_in view = one_if (is_some view.ticket)
 
-  -- 1 where it has the value
+  -- 1 if it has the value
   abbrev pub holds_in : View T → ℕ
   holds_in view = one_if (is_some view.holds)

@@ -5,7 +5,7 @@ use Rattle.domain_turn.specs.declared.table.Turn.{Turn}
 use Rattle.domain_turn.specs.Passes.{in_hand, known}
 use Rattle.domain_turn.specs.Turns.{IsPassOf, passes_of}
 
--- the pass of a client, which has nothing in hand, may add so many entries and has not ended
+-- the pass of a client, which has nothing in hand, may add `count` entries and has not ended
 pub record IsReady {T : Type 0} (turn : Turn T) (client count : ℕ) (pass : Pass T) : Type 0 where
   pub here : IsPassOf turn pass
   pub free : in_hand pass ≡ None
@@ -19,7 +19,7 @@ pub record IsBack {T : Type 0} (turn : Turn T) (pass : Pass T) : Type 0 where
   pub here : IsPassOf turn pass
   pub free : in_hand pass ≡ None
 
--- the passes of a turn's clients, in their order, each of which may add so many entries
+-- the passes of a turn's clients, in their order, where each may add `count` entries
 pub record AreReady {T : Type 0} (turn : Turn T) (count : ℕ) (passes : List (Pass T)) : Type 0 where
   pub all : length passes ≡ passes_of turn
   pub each : (client : ℕ) (d : Pass T) → client < length passes

@@ -42,7 +42,7 @@ end_up_to (r ∷ rs) page begin absent =
       | inr lacks ↦ (grind (arith, lacks, begin.0), end_up_to rs page begin.1 (ap (λ b. cond b there (place_of rs page)) (sym lacks) ∙ absent))
     ]
 
--- ** The order of two lists, one behind the other
+-- ** The order of two lists, one after the other
 
 abbrev pub Meets : List Run → List Run → Type 0
 Meets [] ys = Unit {0}
@@ -163,7 +163,7 @@ joined_places run next runs e p = go (covers run p) refl (covers next p) refl
         let lacks : covers (joined run next) p ≡ false = grind (arith, ea, eb, is.0) in
         rw (lacks, ea, eb) refl
 
--- a run in front of those that begin where it ends or later, the first of which does not go on from it
+-- a run before those that begin where it ends or later, the first of which does not go on from it
 pub first_apart : (run : Run) (rest : List Run) → IsRun run → BeginFrom (end_of run) rest → first_goes_on run rest ≡ false → AreRuns rest → AreRuns (run ∷ rest)
 first_apart run [] is begin apart h = (is, tt, tt)
 first_apart run (next ∷ rest) is begin apart h = (is, record { behind = begin.0; apart = apart }, h)
@@ -209,7 +209,7 @@ behind_taken runs zero ys within = refl
 behind_taken [] (suc at) ys within = absurd (omega arith)
 behind_taken (r ∷ rs) (suc at) ys within = behind_taken rs at ys (omega arith)
 
--- ** The last run in front of a place
+-- ** The last run before a place
 
 pub take_next : (runs : List Run) (k : ℕ) (d : Run) → k < length runs → take (suc k) runs ≡ take k runs ++ get_or runs k d ∷ []
 take_next runs k d within = let next : suc k ≡ k + 1 = omega arith in ap (λ n. take n runs) next ∙ take_more runs k d within
@@ -234,7 +234,7 @@ end_at [] (suc at) k d page h lt within = absurd (omega arith)
 end_at (r ∷ rs) (suc at) zero d page h lt within = h.0
 end_at (r ∷ rs) (suc at) (suc k) d page h lt within = end_at rs at k d page h.1 (omega arith) (omega arith)
 
--- a run that goes on from the one in front of the place, made one with it
+-- a run that goes on from the one before the place, made one with it
 pub record JoinsLast (runs : List Run) (k at : ℕ) (last run : Run) : Type 0 where
   pub last_is : IsRun last
   pub goes : goes_on last run ≡ true
@@ -274,7 +274,7 @@ pub goes_on_front : (runs : List Run) (k at : ℕ) (last run : Run) → suc k �
 goes_on_front runs k at last run is within here =
     subst (λ n. goes_on last run ≡ goes_on_last (take n runs) run) is (ap (λ r. goes_on r run) here ∙ sym (goes_on_place runs k last run within))
 
--- a run that does not go on from the one in front of the place, put there
+-- a run that does not go on from the one before the place, put there
 pub put_apart : (runs : List Run) (at : ℕ) (run : Run) → at ≤ length runs → AreRuns (take at runs) → EndUpTo run.page (take at runs)
     → AreRuns (run ∷ drop at runs) → goes_on_last (take at runs) run ≡ false → AreRuns (take at runs ++ run ∷ drop at runs)
 put_apart runs zero run within hf ends hb e = hb
@@ -303,7 +303,7 @@ pub on_ok : {T E P Q : Type 0} (r : Result T E) → (P → Q) → OnOk r P → O
 on_ok (Ok x) h p = h p
 on_ok (Err e) h p = tt
 
--- ** A page put in front of the runs from a place on
+-- ** A page put before the runs from a place on
 
 behind_none : (x : RunPlace) → behind 0 x ≡ x
 behind_none (place.At home) = grind arith
@@ -554,7 +554,7 @@ kept_front runs at o run d within here some =
 pub around : (runs : List Run) (at : ℕ) (d : Run) → at < length runs → runs ≡ take at runs ++ get_or runs at d ∷ drop (at + 1) runs
 around runs at d within = sym (take-append-drop at runs) ∙ ap (λ l. take at runs ++ l) (drop_more runs at d within)
 
--- runs of which one lost a page
+-- runs, one of which lost a page
 pub record IsCut (runs new : List Run) (at o : ℕ) (run : Run) : Type 0 where
   pub order : AreRuns new
   pub places : ChangesPlace (run.page + o) Absent runs new
@@ -569,14 +569,14 @@ is_cut runs new at o run within here h lt is =
       places = λ p. ap (λ l. place_of l p) is ∙ cut_places o (take at runs) run (drop (at + 1) runs) order lt p ∙ ap (λ l. with_place (run.page + o) Absent (place_of l) p) (sym parts);
     }
 
--- where nothing stood behind the page
+-- if nothing stood after the page
 pub cut_last : (runs new : List Run) (at o : ℕ) (run : Run) → at < length runs → run ≡ get_or runs at run → AreRuns runs → run.count ≡ o + 1
     → new ≡ take at runs ++ front_piece o run ++ drop (at + 1) runs → IsCut runs new at o run
 cut_last runs new at o run within here h last is =
     let none : eqb run.count (o + 1) ≡ true = eq-eqb run.count (o + 1) last in
     is_cut runs new at o run within here h (omega (arith, last)) (is ∙ append_assoc (take at runs) (front_piece o run) (drop (at + 1) runs) ∙ ap (λ l. take at runs ++ (l ++ drop (at + 1) runs)) (sym (append-nil (front_piece o run)) ∙ ap (λ l. front_piece o run ++ l) (rw none refl)))
 
--- where the pages behind it were put behind the run first
+-- if the pages after it were put after the run first
 pub cut_middle : (runs mid new : List Run) (at o : ℕ) (run : Run) → at < length runs → run ≡ get_or runs at run → AreRuns runs → o + 1 < run.count
     → mid ≡ take (at + 1) runs ++ rest_from (o + 1) run ∷ drop (at + 1) runs
     → new ≡ take at mid ++ front_piece o (get_or mid at run) ++ drop (at + 1) mid → IsCut runs new at o run

@@ -8,7 +8,8 @@ use Rattle.extent_maps.specs.Runs.{AreRuns, BeginBefore, BeginFrom, EndUpTo, IsF
 use Rattle.extent_maps.proofs.RunLemmas.{absent_before, all_map}
 use Rattle.extent_maps.proofs.EditLemmas.{absent_after, absent_in_front, covers_from, covers_is, never_absent, place_append, take_runs}
 
--- no run has a page of one that begins where those in front of a place end, and ends where those behind it begin
+-- no run has a page of one that begins where those before a place end, and ends where those after
+-- it begin
 pub free_between : (runs : List Run) (at : ℕ) (run : Run) → EndUpTo run.page (take at runs) → BeginFrom (end_of run) (drop at runs) → IsFree run runs
 free_between runs at run ends begins p e =
     let is = covers_is run p e in

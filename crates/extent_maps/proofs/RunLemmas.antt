@@ -18,7 +18,7 @@ all_at P [] k d a within = absurd (omega arith)
 all_at P (r ∷ rs) zero d a within = a.0
 all_at P (r ∷ rs) (suc k) d a within = all_at P rs k d a.1 (omega arith)
 
--- the runs behind one begin where it ends or later
+-- the runs after one begin where it ends or later
 pub behind_first : (run : Run) (runs : List Run) → AreRuns (run ∷ runs) → AllByRecursion (λ (r : Run). end_of run ≤ r.page) runs
 behind_first run [] h = tt
 behind_first run (next ∷ runs) h =
@@ -48,7 +48,7 @@ is_run_at [] k d h within = absurd (omega arith)
 is_run_at (r ∷ rs) zero d h within = h.0
 is_run_at (r ∷ rs) (suc k) d h within = is_run_at rs k d h.2 (omega arith)
 
--- a later run begins behind an earlier one
+-- a later run begins after an earlier one
 pub rising : (runs : List Run) (i j : ℕ) (d : Run) → AreRuns runs → i ≤ j → j < length runs → (get_or runs i d).page ≤ (get_or runs j d).page
 rising [] i j d h le within = absurd (omega arith)
 rising (r ∷ rs) zero zero d h le within = omega arith
@@ -80,7 +80,7 @@ absent_between runs n d page h within front back le =
     let begins = take_at (λ (r : Run). r.page ≤ page) runs (suc n) n d front (omega arith) within in
     place_from runs n d page h within begins ∙ rw (covers_not_behind (get_or runs n d) page le) (absent_before (drop (suc n) runs) page back)
 
--- the last run that begins up to a page has it, if it ends behind it
+-- the last run that begins up to a page has it, if it ends after it
 pub has_at : (runs : List Run) (n : ℕ) (e : Run) (page : ℕ) → AreRuns runs → n < length runs → BeginUpTo page (take (suc n) runs)
     → page < end_of (get_or runs n e) → (d : Run) → Has page (get_or runs n d)
 has_at runs n e page h within front lt d =

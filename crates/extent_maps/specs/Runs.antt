@@ -18,11 +18,11 @@ abbrev pub placed : RunPlace → PagePlace
 placed (place.At home) = At home
 placed place.Holes = Hole
 
--- the same but for one page
+-- the places with another place for one page
 abbrev pub with_place : ℕ → PagePlace → Places → Places
 with_place page place places = λ p. if p == page then place else places p
 
--- where a run's page stands that is so many behind its first
+-- the place of the page that stands `count` pages after a run's first
 abbrev pub behind : ℕ → RunPlace → RunPlace
 behind count (place.At home) = place.At (record { vol = home.vol; page = home.page + count })
 behind count place.Holes = place.Holes
@@ -66,17 +66,17 @@ goes_on_last (other ∷ next ∷ runs) run = goes_on_last (next ∷ runs) run
 abbrev pub joined : Run → Run → Run
 joined run next = record run { count = run.count + next.count }
 
--- the pages of a run in front of the one that stands so many behind its first, and those from that
--- one on
+-- a run parted at the page that stands `count` pages after its first: the pages before that one,
+-- and those from it on
 abbrev pub front_of : ℕ → Run → Run
 front_of count run = record run { count = count }
 
--- a run without so many of its first pages
+-- a run without its first `count` pages
 abbrev pub rest_from : ℕ → Run → Run
 rest_from count run =
     record { page = run.page + count; count = run.count - count; first = behind count run.first }
 
--- what is left of a run without that page, in front of it and behind it
+-- what is left of a run without that page, before it and after it
 abbrev pub front_piece : ℕ → Run → List Run
 front_piece count run = if count == 0 then [] else front_of count run ∷ []
 
@@ -84,7 +84,7 @@ front_piece count run = if count == 0 then [] else front_of count run ∷ []
 abbrev pub rest_piece : ℕ → Run → List Run
 rest_piece count run = if run.count == count + 1 then [] else rest_from (count + 1) run ∷ []
 
--- so many pages from a home on are pages that a volume can have
+-- `count` pages from a home on are pages that a volume can have
 abbrev pub FitsVolume : ℕ → RunPlace → Type 0
 FitsVolume count (place.At home) = home.page + count ≤ 2 ^ 32
 FitsVolume count place.Holes = Unit {0}
@@ -101,7 +101,7 @@ pub record Has (page : ℕ) (run : Run) : Type 0 where
   pub begins : run.page ≤ page
   pub ends : page < end_of run
 
--- the second begins behind the first, and does not go on from it
+-- the second begins after the first, and does not go on from it
 pub record Follows (run next : Run) : Type 0 where
   pub behind : end_of run ≤ next.page
   pub apart : goes_on run next ≡ false
@@ -115,7 +115,7 @@ abbrev pub AreRuns : List Run → Type 0
 AreRuns [] = Unit {0}
 AreRuns (run ∷ runs) = IsRun run × FirstFollows run runs × AreRuns runs
 
--- runs that begin at the page or before it, and runs that begin behind it
+-- runs that begin at the page or before it, and runs that begin after it
 abbrev pub BeginUpTo : ℕ → List Run → Type 0
 BeginUpTo page runs = AllByRecursion (λ (run : Run). run.page ≤ page) runs
 
@@ -158,7 +158,7 @@ home_at (At home) = Some home
 home_at Hole = None
 home_at Absent = None
 
--- runs parted at a page: those of the pages in front of it, and those of the pages from it on
+-- runs parted at a page: those of the pages before it, and those of the pages from it on
 pub record IsPartedAt (from : ℕ) (runs front tail : List Run) : Type 0 where
   pub front_runs : AreRuns front
   pub tail_runs : AreRuns tail

@@ -41,7 +41,7 @@ back_few from (r ∷ rs) =
       | inr e ↦ rw e (omega (arith, tail))
     ]
 
--- one row more in front of rows whose places from a page on are known
+-- one row more before rows whose places from a page on are known
 back_place : (from : ℕ) (r : Run) (xs ys : List Run) (p : ℕ) → place_of xs p ≡ places_from from (place_of ys) p
     → place_of (in_back from r ++ xs) p ≡ places_from from (place_of (r ∷ ys)) p
 back_place from r xs ys p tail = go (leb (end_of r) from) refl (ltb p from) refl

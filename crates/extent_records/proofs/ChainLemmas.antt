@@ -27,7 +27,7 @@ over_absent Absent = refl
 over_absent (At home) = refl
 over_absent Hole = refl
 
--- ** Runs in front of a record's and behind them
+-- ** Runs before a record's and after them
 
 module _ (front old new back : List Run) (few : NoPageTwice (front ++ (old ++ back))) (once : NoPageTwice new) where
   sum : (p : ℕ) → times front p + (times old p + times back p) ≤ 1

@@ -11,7 +11,7 @@ use Rattle.extent_maps.proofs.RunLemmas.{absent_before, all_map, behind_first, c
 use Rattle.extent_maps.proofs.EditLemmas.{covers_from, joined_places, never_absent, rest_follows, rest_is_run}
 use Rattle.extent_records.specs.Writing.{parts, pieces}
 
--- rows of so many pages at most, each behind the one before it
+-- rows of at most this number of pages, each after the one before it
 abbrev pub RisingFrom : ℕ → ℕ → List Run → Type 0
 RisingFrom most from [] = Unit {0}
 RisingFrom most from (run ∷ runs) = (from ≤ run.page) × (1 ≤ run.count) × (run.count ≤ most) × RisingFrom most (end_of run) runs
@@ -85,7 +85,7 @@ same_first most from y x ys xs h r same =
     let page = same_page most from y x ys xs h r same in
     placed_is x.first y.first (sym (place_start x xs h.0.some) ∙ same x.page ∙ ap (place_of (y ∷ ys)) page ∙ place_start y ys r.1)
 
--- a run does not go on behind its end
+-- a run does not go on after its end
 ends_there : (x : Run) (xs : List Run) → AreRuns (x ∷ xs) → place_of xs (end_of x) ≡ placed (behind x.count x.first) → ⊥
 ends_there x [] h e = never_absent (behind x.count x.first) (sym e)
 ends_there x (n ∷ ns) h e = go (ltb (end_of x) n.page) refl

@@ -1,4 +1,4 @@
--- The rows of the pages in front of one: no more than those of all pages.
+-- The rows of the pages before one: no more than those of all pages.
 use Rattle.std.proofs.Common.{◌≡◌, ℕ, ◌+◌, ◌-◌, ◌≤◌, min, Bool, true, false, cond, ltb, List, [], ◌∷◌, ◌++◌, length, refl, sym, ◌∙◌, inl, inr, arith}
 use Rattle.std.specs.List.{flat_map}
 use Rattle.std.proofs.lemmas.Bool.{cases_Bool, ltb-true, ltb-false}
@@ -14,7 +14,7 @@ use Rattle.extent_records.specs.Writing.{IsMapRecord, most_pages, most_rows, pla
 use Rattle.extent_records.proofs.FewestLemmas.{RisingFrom, fewest}
 use Rattle.extent_records.proofs.RecordLemmas.{allowed_few}
 
--- the pages of a row in front of one
+-- the pages of a row before one
 abbrev in_front : ℕ → Run → List Run
 in_front from run = cond (ltb run.page from) (front_of (min run.count (from - run.page)) run ∷ []) []
 
@@ -41,7 +41,7 @@ front_few from (r ∷ rs) =
       | inr e ↦ rw e (omega (arith, tail))
     ]
 
--- one row more in front of rows whose places in front of a page are known
+-- one row more before rows whose places before a page are known
 front_place : (from : ℕ) (r : Run) (xs ys : List Run) (p : ℕ) → place_of xs p ≡ places_before from (place_of ys) p
     → place_of (in_front from r ++ xs) p ≡ places_before from (place_of (r ∷ ys)) p
 front_place from r xs ys p tail = go (ltb r.page from) refl (ltb p from) refl (covers r p) refl
@@ -75,7 +75,7 @@ front_places from [] p = elim (cases_Bool (ltb p from)) [
 ]
 front_places from (r ∷ rs) p = front_place from r (flat_map (in_front from) rs) rs p (front_places from rs p)
 
--- the runs of the pages in front of one have room where a record had all
+-- the runs of the pages before one have room where a record had all
 pub front_fits : (r : Record) (from : ℕ) (front : List Run) → IsMapRecord r → AreRuns front → ((p : ℕ) → place_of front p ≡ places_before from (places_in r) p)
     → length (rows_for (kind_of r) front) ≤ most_rows (kind_of r)
 front_fits r from front is h same =

@@ -47,7 +47,7 @@ held_times : (kind : ℕ) (runs : List Run) (r : Record) (p : ℕ) → AreRuns r
 held_times kind runs r p h holds =
     sym (there_times (runs_in r) p (holds.is_map.once p)) ∙ ap there (held_places kind runs r p holds) ∙ there_times runs p (runs_once runs h p)
 
--- two records that hold the runs in front of one and those from it on
+-- two records that hold the runs before one and those from it on
 pub parts_for : (front_kind tail_kind k : ℕ) (runs : List Run) (front tail : Record) → AreRuns runs → HoldsRuns front_kind (take k runs) front → HoldsRuns tail_kind (drop k runs) tail
     → ArePartsFor (place_of runs) front_kind tail_kind front tail
 parts_for front_kind tail_kind k runs front tail h a b = record {
@@ -106,7 +106,7 @@ pub chain_extents : (version : Version) → is_of_holes (chain_kind version) ≡
 chain_extents Three = refl
 chain_extents Four = refl
 
--- the runs behind the first half are all others
+-- the runs after the first half are all others
 pub all_others : (k : ℕ) (runs : List Run) → take (length runs - k) (drop k runs) ≡ drop k runs
 all_others k runs = take_all (length runs - k) (drop k runs) (omega (arith, length-drop k runs))
 

@@ -66,7 +66,7 @@ no_longer (x ∷ xs) ys r m = let tail = no_longer xs (remove x ys) r.1 (all_mem
 
 -- ** Runs begin where rows begin
 
--- what stands at the page in front of a place's is not the page in front of it
+-- what stands at the page before a place's is not the page before it
 abbrev Begins : ℕ → RunPlace → List Run → Type 0
 Begins s first rows = (q : ℕ) → q + 1 ≡ s → (z : RunPlace) → place_of rows q ≡ placed z → first ≡ behind 1 z → ⊥
 
@@ -250,7 +250,7 @@ part_fewest b rows map h once same =
 
 -- ** How many rows records have
 
--- so many records of extents and of holes, and their rows
+-- this number of records of extents and of holes, and their rows
 record Counts (n : ℕ) (rows : List Run) (total : ℕ) : Type 0 where
   pub extents : ℕ
   pub holes : ℕ
@@ -324,7 +324,8 @@ fills_count kind runs (r ∷ next ∷ rs) some h =
     let tail = fills_count kind (drop (most_rows kind) runs) (next ∷ rs) some h.2 in
     omega (arith, tail, h.2.0, length-drop (most_rows kind) runs)
 
--- so many records with n rows each, the last with one at least, are no more than any with room for the rows
+-- this number of records with n rows each, the last with one at least, are no more than any with
+-- room for the rows
 no_more : (n rows a c : ℕ) → n * a < rows + n → rows ≤ n * c → a ≤ c
 no_more n rows a c full room = go (ltb c a) refl
   where

@@ -24,7 +24,7 @@ use Rattle.extent_records.proofs.PutLemmas.{all_append, there_times, times_appen
 use Rattle.extent_records.proofs.RecordLemmas.{map_of_rows, parts_places, rows_once, rows_placed}
 use Rattle.extent_records.proofs.WritingLemmas.{parts_dense, parts_plain, rows_of_runs}
 
--- ** Runs of which some are kept
+-- ** Runs, some of which are kept
 
 -- a function that keeps a run or does not
 abbrev Keeps : (Run → List Run) → Type 0

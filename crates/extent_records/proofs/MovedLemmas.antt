@@ -20,7 +20,7 @@ one_row page home = record { page = page; count = 1; first = place.At home }
 abbrev around : ℕ → Home → Run → List Run → List Run
 around page home r rs = front_piece (page - r.page) r ++ one_row page home ∷ (rest_piece (page - r.page) r ++ rs)
 
--- rows of which the one that has the page is so
+-- rows, with the one that has the page changed like that
 abbrev moved : ℕ → Home → List Run → List Run
 moved page home [] = []
 moved page home (r ∷ rs) = cond (covers r page) (around page home r rs) (r ∷ moved page home rs)

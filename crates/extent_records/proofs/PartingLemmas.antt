@@ -40,7 +40,7 @@ module _ (records : List Record) (i : ℕ) (whole front tail : Record) (from : �
       go true = refl
       go false = refl
 
-  -- a page in front of the one, and one from it on
+  -- a page before the one, and one from it on
   front_has : (p : ℕ) → ltb p from ≡ true → places_in front p ≡ places_in whole p
   front_has p e = parts.front_places p ∙ ap (λ b. cond b (places_in whole p) Absent) e
 

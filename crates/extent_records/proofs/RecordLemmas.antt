@@ -42,7 +42,7 @@ no_hole_said : (es : List HoleField) → AllByRecursion NoHole es → flat_map h
 no_hole_said [] h = refl
 no_hole_said (e ∷ es) h = rw (hole_not_there e h.0.count) (no_hole_said es h.1)
 
--- rows that rise, and no more than so many
+-- rows that rise, and no more than this number of them
 pub record Few (most from n : ℕ) (runs : List Run) : Type 0 where
   pub rising : RisingFrom most from runs
   pub few : length runs ≤ n

@@ -81,7 +81,7 @@ parts_dense_long r lt =
     let long : leb r.count 65535 ≡ false = grind arith in
     rw long refl
 
--- behind page 0 a run has fewer pages than a file
+-- after page 0 a run has fewer pages than a file
 later_short : (rs : List Run) → AreRuns rs → AllByRecursion (λ (r : Run). 1 ≤ r.page) rs → AllByRecursion (λ (r : Run). r.count ≤ 65535) rs
 later_short [] h b = tt
 later_short (r ∷ rs) h b = (omega (arith, h.0.ends, b.0), later_short rs h.2 b.1)

@@ -29,31 +29,31 @@ abbrev pub Takes : ℕ → PagePlace → Record → Type 0
 Takes page place r = IsFor place (kind_of r)
     × CanSay (kind_of r) (with_place page place (places_in r))
 
--- the second place is the one behind the first, or both are holes
+-- the second place is the one after the first, or both are holes
 abbrev pub IsNext : PagePlace → PagePlace → Type 0
 IsNext (At a) (At b) = (a.vol ≡ b.vol) × (a.page + 1 ≡ b.page)
 IsNext Hole Hole = Unit {0}
 IsNext _ _ = ⊥
 
--- the page goes on from the one in front of it
+-- the page goes on from the one before it
 abbrev pub JoinsBefore : ℕ → PagePlace → Record → Type 0
 JoinsBefore page place r = (p : ℕ) × (p + 1 ≡ page) × IsNext (places_in r p) place
 
--- that, or the page behind it goes on from it
+-- that, or the page after it goes on from it
 abbrev pub Joins : ℕ → PagePlace → Record → Type 0
 Joins page place r = JoinsBefore page place r ⊎ IsNext place (places_in r (page + 1))
 
--- the first of the records that is so
+-- the first of the records for which this holds
 pub record IsFirst (P : Record → Type 0) (records : List Record) (i : ℕ) : Type 0 where
   pub within : i < length records
   pub is : (d : Record) → P (get_or records i d)
   pub before : AllByRecursion (λ (r : Record). P r → ⊥) (take i records)
 
--- no record is so
+-- this holds for no record
 abbrev pub IsNone : (Record → Type 0) → List Record → Type 0
 IsNone P records = AllByRecursion (λ (r : Record). P r → ⊥) records
 
--- the first record that is so, or that none is
+-- the first record for which this holds, or that it holds for none
 abbrev pub Finds : (Record → Type 0) → List Record → Option ℕ → Type 0
 Finds P records (Some i) = IsFirst P records i
 Finds P records None = IsNone P records
@@ -92,7 +92,7 @@ pub record KeepsMap (old new : List Record) : Type 0 where
   pub one_map : AreOneMap new
   pub same : (p : ℕ) → place_of (runs_of new) p ≡ place_of (runs_of old) p
 
--- two records, one with the pages of a third in front of one, and one with those from it on
+-- two records, one with the pages of a third that come before one, and one with those from it on
 pub record ArePartsOf (from : ℕ) (whole front tail : Record) : Type 0 where
   pub front_map : IsMapRecord front
   pub tail_map : IsMapRecord tail
@@ -109,13 +109,14 @@ pub record ArePartsFor (places : Places) (front_kind tail_kind : ℕ) (front tai
   pub one_map : AreOneMap (front ∷ tail ∷ [])
   pub same : (p : ℕ) → place_of (runs_of (front ∷ tail ∷ [])) p ≡ places p
 
--- a record that has of another the pages in front of one, where the other has them
+-- a record that has the pages of another that come before one, at the places where the other has
+-- them
 pub record IsCutRecord (from : ℕ) (old new : Record) : Type 0 where
   pub placed : AllByRecursion IsPlaced (runs_in new)
   pub once : NoPageTwice (runs_in new)
   pub places : (p : ℕ) → places_in new p ≡ places_before from (places_in old) p
 
--- the same for each record of a chain
+-- each record of a list has the pages of the old one at its place that come before one
 abbrev pub AreCutRecords : ℕ → List Record → List Record → Type 0
 AreCutRecords from [] [] = Unit {0}
 AreCutRecords from [] (new ∷ news) = ⊥
@@ -123,7 +124,7 @@ AreCutRecords from (old ∷ olds) [] = ⊥
 AreCutRecords from (old ∷ olds) (new ∷ news) = IsCutRecord from old new
     × AreCutRecords from olds news
 
--- a chain whose map has of another's the pages in front of one
+-- a chain whose map has the pages of another's map that come before one
 pub record CutsChain (from : ℕ) (old new : List Record) : Type 0 where
   pub one_map : AreOneMap new
   pub places : (p : ℕ) → place_of (runs_of new) p ≡ places_before from (place_of (runs_of old)) p

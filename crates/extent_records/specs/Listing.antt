@@ -73,7 +73,8 @@ pub record AddsAll (kind : ℕ) (runs : List Run) (old new : List Record) : Type
   pub list : new ≡ old ++ more
   pub fills : Fills kind runs more
 
--- the same for the runs that come first, and the records of those that are left come behind them
+-- more records, filled by the runs that come first; the records of the runs that are left come
+-- after them
 pub record AddsFirst (kind : ℕ) (runs rest : List Run) (old new : List Record) : Type 0 where
   pub more : List Record
   pub list : new ≡ old ++ more

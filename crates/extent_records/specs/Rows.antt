@@ -25,7 +25,7 @@ run_of e = record {
 abbrev pub hole_run : HoleField → Run
 hole_run h = record { page = h.page; count = h.count; first = place.Holes }
 
--- the same where the row is used: a row of no pages is not
+-- the pages that a row names if it is used: a row of no pages is not
 abbrev pub runs_at : ExtentField → List Run
 runs_at e = if e.count == 0 then [] else run_of e ∷ []
 

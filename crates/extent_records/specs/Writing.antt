@@ -66,7 +66,7 @@ pub record IsMapRecord (r : Record) : Type 0 where
 abbrev pub places_in : Record → Places
 places_in r = place_of (runs_in r)
 
--- the places of the pages in front of one
+-- the places of the pages before one
 abbrev pub places_before : ℕ → Places → Places
 places_before from places page = if nat_lt page from then places page else Absent
 
@@ -111,7 +111,7 @@ Suits kind Hole = is_of_holes kind ≡ true
 abbrev pub AllSuit : ℕ → List Run → Type 0
 AllSuit kind = AllByRecursion (λ (run : Run). Suits kind (placed run.first))
 
--- a run as rows of so many pages at most: two where it has more
+-- a run as rows of at most this number of pages: two rows if it has more
 abbrev pub pieces : ℕ → Run → List Run
 pieces most run =
     if nat_le run.count most then run ∷ [] else front_of most run ∷ rest_from most run ∷ []
@@ -150,7 +150,7 @@ hole_of run = record { page = run.page; count = run.count }
 abbrev pub filled : {X : Type 0} → (Run → X) → X → ℕ → List Run → List X
 filled row none n runs = map row runs ++ replicate (n - length runs) none
 
--- a record of that kind with these rows, or none where they are more than it has
+-- a record of that kind with these rows, or none if they are more than it has
 pub record HasRows (kind : ℕ) (rows : List Run) (r : Record) : Type 0 where
   pub of_kind : kind_of r ≡ kind
   pub allowed : Allowed r
@@ -161,14 +161,14 @@ abbrev pub IsRecordOf : ℕ → List Run → Option Record → Type 0
 IsRecordOf kind rows (Some r) = HasRows kind rows r
 IsRecordOf kind rows None = most_rows kind < length rows
 
--- a run that can be a row of a record of that kind, behind those that end at that page
+-- a run that can be a row of a record of that kind, after those that end at that page
 pub record IsRow (kind from : ℕ) (run : Run) : Type 0 where
   pub is_run : IsRun run
   pub begins : from ≤ run.page
   pub short : run.count ≤ most_pages kind
   pub suits : Suits kind (placed run.first)
 
--- runs that can be its rows, each behind the one before it
+-- runs that can be its rows, each after the one before it
 abbrev pub AreRowsFrom : ℕ → ℕ → List Run → Type 0
 AreRowsFrom kind from [] = Unit {0}
 AreRowsFrom kind from (run ∷ runs) = IsRow kind from run × AreRowsFrom kind (end_of run) runs

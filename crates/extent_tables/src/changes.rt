@@ -14,7 +14,7 @@ use extent_records::{
 };
 use std::alloc::Global;
 
-/// Puts a page at a home, where it is absent.
+/// Puts a page at a home, if it is absent.
 fn put(alloc: Global, value: &mut Record, page: u32, home: Home) -> Result<bool, OutOfMemory>
     requires is_map { IsMapRecord value.old }
     requires extents { is_of_holes (kind_of value.old) ≡ false }
@@ -40,7 +40,7 @@ fn switch(alloc: Global, value: &mut Record, page: u32, home: Home) -> Result<bo
     }
 }
 
-/// Keeps a page as a hole, where it is absent.
+/// Keeps a page as a hole, if it is absent.
 fn keep(alloc: Global, value: &mut Record, page: u32) -> Result<bool, OutOfMemory>
     requires is_map { IsMapRecord value.old }
     requires holes { is_of_holes (kind_of value.old) ≡ true }

@@ -1,5 +1,5 @@
 //! Where the pages of a file stand: maps and records of extents that are changed by rows of words.
-//! Below a row stands what comes of it.
+//! The answer follows below each row.
 #![tactic(auto)]
 
 mod changes;

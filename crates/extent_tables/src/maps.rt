@@ -135,7 +135,7 @@ fn whole_file(map: &mut ExtentMap, place: &str, is_rising: bool, out: &mut Strin
     push_map(map, out).ok()
 }
 
-/// Puts so many pages, each second one on another volume.
+/// Puts `pairs` pairs of pages, the second of each on another volume.
 fn put_pairs(map: &mut ExtentMap, pairs: u16) -> Option<()> {
     for page in 0..2 * u32::from(pairs) {
         let vol = VolIx::new(1 + page % 2)?;
@@ -152,7 +152,7 @@ fn cut_seconds(map: &mut ExtentMap, pairs: u16) -> Option<()> {
     Some(())
 }
 
-/// Says how many runs so many pairs of pages are, the second of each on another volume, and how
+/// Says how many runs some pairs of pages are, the second of each on another volume, and how
 /// many are left when the second ones are cut.
 fn every_second(map: &mut ExtentMap, pairs: &str, out: &mut String) -> Option<()> {
     let pairs = pairs.parse().ok()?;

@@ -3,7 +3,7 @@
 
 use extent_records::{ExtentField, ExtentMap, HoleField, OutOfMemory, Run, RunPlace};
 
-/// A number, and one after that character, or the other number where it does not stand there.
+/// A number, and one after that character, or the other number if that character is not there.
 fn numbers(word: &str, between: char, other: u32) -> Option<(u32, u32)> {
     match word.split_once(between) {
         Some((first, second)) => Some((first.parse().ok()?, second.parse().ok()?)),
@@ -17,7 +17,7 @@ pub fn place_of(word: &str) -> Option<(u32, u32)> {
     Some((vol.parse().ok()?, page.parse().ok()?))
 }
 
-/// The pages that a word names, on volume 0 where they are holes.
+/// The pages that a word names, on volume 0 if they are holes.
 pub fn field_of(word: &str) -> Option<ExtentField> {
     let (pages, place) = word.split_once('@').unwrap_or((word, "0:0"));
     let (page, count) = numbers(pages, '+', 1)?;
@@ -36,7 +36,7 @@ pub fn two_numbers(rest: &str) -> Option<(u64, u32)> {
     Some((seed.parse().ok()?, calls.parse().ok()?))
 }
 
-/// The pages of a run, on volume 0 where they are holes.
+/// The pages of a run, on volume 0 if they are holes.
 fn run_field(run: &Run) -> ExtentField {
     let (vol, first) = match run.first {
         RunPlace::At(home) => (home.vol.number(), home.page),
@@ -70,7 +70,7 @@ fn push_field(field: &ExtentField, out: &mut String) -> Result<(), OutOfMemory> 
     Ok(())
 }
 
-/// Adds `none` where nothing was added to a text of that length.
+/// Adds `none` if nothing was added to a text of that length.
 fn push_none(length: usize, out: &mut String) -> Result<(), OutOfMemory> {
     if out.len() == length {
         out.push_str("none")?;

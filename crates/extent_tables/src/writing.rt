@@ -272,7 +272,7 @@ pub fn choose_hole_alone(alloc: Global, kind: &str, out: &mut String) -> Option<
     }
 }
 
-/// Puts every fourth page at a home, so many, and keeps pages between them as holes, so many.
+/// Puts `homes` pages at homes, every fourth one, and keeps `holes` pages between them as holes.
 fn put_scattered(map: &mut ExtentMap, homes: u16, holes: u16) -> Option<()> {
     let vol = VolIx::new(1)?;
     for number in 0..u32::from(homes) {
@@ -308,8 +308,8 @@ fn push_records(
     write!(out, ", read again: {is_same}")
 }
 
-/// Says how many rows each record of a map uses that has so many runs of homes and of holes, and
-/// whether they are read to the same runs.
+/// Says how many rows each record of a map uses if the map has these numbers of runs of homes and
+/// of holes, and whether they are read to the same runs.
 pub fn scattered(alloc: Global, map: &mut ExtentMap, rest: &str, out: &mut String) -> Option<()> {
     let (version, rest) = rest.split_once(' ')?;
     let (homes, holes) = rest.split_once(' ')?;

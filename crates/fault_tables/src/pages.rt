@@ -88,7 +88,7 @@ fn tell_shared(
     Ok(())
 }
 
-/// The owned pages of volume 1, where tables have some.
+/// The owned pages of volume 1, if tables have some.
 fn owned(alloc: Global, words: &mut Words, given: &Given) -> Result<SpanSet, OutOfMemory> {
     let runs = runs_of(alloc, given)?;
     find_owned(alloc, spans_of(alloc, words)?, &runs, home(0).vol)

@@ -1,4 +1,4 @@
--- A file with a cell more, right behind its first one.
+-- A file with a cell more, right after its first one.
 use Rattle.std.proofs.Common.{◌≡◌, ◌∙◌, ◌⊎◌, ◌&&◌, ℕ, zero, suc, ◌-◌, ◌<◌, ◌≤◌, ◌||◌, not, Bool, true, false, cond, nat_eq, nat_lt, List, [], ◌∷◌, ◌++◌, map, length, Some, IsSome, IsSomeAnd, Contains, refl, sym, ap, subst, arith, ⊎_elim, inl, inr, true≢false}
 use Rattle.std.proofs.lemmas.Bool.{and_from, and_parts, cases_Bool, eq-eqb, lt-ltb, or_parts}
 use Rattle.std.proofs.lemmas.List.Elements.{Contains-push_cases}

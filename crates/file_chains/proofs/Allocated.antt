@@ -44,7 +44,7 @@ module _ (space : Spaces) (cells new_cells : Cells) (pages new_pages : Pages) (h
   abbrev now : Spaces
   now = change_volume (with_page home.page) space home.vol
 
-  -- a volume's table is as it was, or has the page behind it
+  -- a volume's table is as it was, or has the page after it
   table_other : (vol : ℕ) → nat_eq vol home.vol ≡ false → table_of new_cells vol ≡ table_of cells vol
   table_other vol other = joins.tables vol ∙ ap (λ (b : Bool). cond b (table_of cells vol ++ home.page ∷ []) (table_of cells vol)) other
 

@@ -1,4 +1,4 @@
--- A chain of which one cell has another record that says where pages stand.
+-- A chain with another record in one of its cells that says where pages stand.
 use Rattle.std.proofs.Common.{◌≡◌, ◌∙◌, ℕ, zero, suc, ◌<◌, ◌&&◌, true, false, cond, nat_eq, List, [], ◌∷◌, ◌++◌, get_or, set, map, length, Some, IsSome, Contains, refl, sym, ap, subst, arith, ⊎_elim}
 use Rattle.std.proofs.lemmas.Bool.{and_parts, cases_Bool, eqb-true}
 use Rattle.std.specs.List.{AllByRecursion}
@@ -59,7 +59,7 @@ inside_places (x ∷ xs) c (suc k, within, is) = in_later c.at x xs (inside_plac
 
 -- ---- chains whose cells say where pages stand in records of the kinds that they had
 
--- chains that keep kinds, each behind a cell that does
+-- chains that keep kinds, each after a cell that does
 pub kinds_on : (c d : PlacedCell) (cs ds : List PlacedCell) → d.at ≡ c.at → map_kinds d.cell.records ≡ map_kinds c.cell.records → ¬ Contains (places cs) c.at → ¬ Contains (places ds) c.at → KeepKinds cs ds → KeepKinds (c ∷ cs) (d ∷ ds)
 kinds_on c d cs ds same kinds apart apart_now keep was now (zero, within, is) (zero, within_now, is_now) at =
     ap (λ (p : PlacedCell). map_kinds p.cell.records) (sym is_now) ∙ kinds ∙ ap (λ (p : PlacedCell). map_kinds p.cell.records) is
@@ -179,7 +179,7 @@ module _ (old new : Pages) (at : CellAt) (value : Record) (page : ℕ) (place : 
   abbrev pub cell_after : Cell → Cell
   cell_after cell = with_record (kind_of value) (Some changes.after) cell
 
-  -- behind a cell that is not changed
+  -- after a cell that is not changed
   follow_set : (i : ℕ) (cell : Cell) (head : CellHead) (cs : List PlacedCell) → AreDistinct cs → IsThere i cs at cell → StandsAt old at cell → Follow old head cs → Follow new head (set_cell i (cell_after cell) cs)
   follow_set i cell head [] distinct there stands follow = absurd (omega (arith, there.0))
   follow_set zero cell head (x ∷ cs) distinct there stands follow =

@@ -45,8 +45,8 @@ then_changes a b old between new first second = record {
       ∙ first.others h (λ inside. out (Contains-append_left first.homes second.homes h inside));
 }
 
--- where a cell was handed out that is linked behind another, with the last page of a table if one
--- was added behind it
+-- if a cell was handed out that is linked after another, with the last page of a table if one was
+-- added after it
 pub linked_changes : (prefer : ℕ) (at : CellAt) (space space_now : Spaces) (cells cells_now : Cells) (old between new : Pages) → Takes prefer at space space_now cells cells_now old between → (start : CellAt)
     → ((h : Home) → same_home h (home_of at) ≡ false → same_home h (home_of start) ≡ false → new h ≡ between h) → ChangesAtMost 3 old new
 linked_changes prefer at space space_now cells cells_now old between new takes start elsewhere = ⊎_elim

@@ -14,7 +14,7 @@ use Rattle.file_chains.specs.Files.{HasMap, has_rows, map_records}
 abbrev pub map_kinds : List ℕ
 map_kinds = 3 ∷ 4 ∷ 5 ∷ 13 ∷ 14 ∷ []
 
--- a record has rows exactly where its kind is one of five, and else says nothing
+-- a record has rows if and only if its kind is one of five, and else says nothing
 pub of_map_kind : (r : Record) → has_rows r ≡ true → list_any (nat_eq (kind_of r)) map_kinds ≡ true
 of_map_kind (Attributes kind uid gid flags size keep links birth unsynced) has = absurd (true≢false (sym has))
 of_map_kind (CloneFile vol cell page frozen) has = absurd (true≢false (sym has))

@@ -176,7 +176,7 @@ module _ (value after : Record) (is_map : IsMapRecord after) (same : kind_of aft
   other_false : (r : Record) (rs : List Record) → has_rows r ≡ true → other_records (r ∷ rs) ≡ other_records rs
   other_false r rs rows = filter_false (λ r. not (has_rows r)) r rs (ap not rows)
 
-  -- behind a record of a greater kind all are of greater kinds
+  -- after a record of a greater kind all are of greater kinds
   all_above : (low : ℕ) (rs : List Record) → 2 ^ 32 * (kind + 1) ≤ low → AreRising low rs → AllByRecursion Allowed rs → (below kind rs ≡ []) × (above kind rs ≡ rs)
   all_above low [] high rising good = (refl, refl)
   all_above low (r ∷ rs) high rising good =

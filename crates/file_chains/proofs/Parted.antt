@@ -1,4 +1,4 @@
--- A file of which one cell's record is parted, and the second part stands in a cell right behind.
+-- A file in which one cell's record is parted, and the second part stands in a cell right after it.
 use Rattle.std.proofs.Common.{◌≡◌, ◌∙◌, ℕ, zero, suc, ◌<◌, ◌||◌, ◌⊎◌, Bool, true, cond, nat_eq, List, [], ◌∷◌, ◌++◌, map, take, drop, length, Some, IsSome, Contains, refl, sym, ap, subst, arith, ⊎_elim, inl, inr}
 use Rattle.std.proofs.lemmas.Bool.{true≢false}
 use Rattle.std.specs.List.{AllByRecursion}
@@ -34,7 +34,7 @@ use Rattle.file_chains.proofs.MapRecords.{one_map_back, one_map_record, rows_kin
 use Rattle.file_chains.proofs.OneRecord.{map_cell_after, only_after, others_same, still_found}
 use Rattle.file_chains.proofs.Walks.{Mapped, distinct_file}
 
--- ---- the cells of which one is another, and one comes behind it
+-- ---- the cells, one of which is another, and one comes after it
 
 abbrev pub part_at : ℕ → Cell → PlacedCell → List PlacedCell → List PlacedCell
 part_at i cell back [] = []

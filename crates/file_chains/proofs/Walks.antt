@@ -1,4 +1,4 @@
--- A walk along the cells of a file, none of which it remembers.
+-- A walk along the cells of a file that remembers none of them.
 use Rattle.std.proofs.Common.{◌≡◌, ◌≢◌, ◌∙◌, ℕ, zero, suc, ◌+◌, ◌<◌, ◌≤◌, true, false, nat_eq, List, [], ◌∷◌, ◌++◌, length, map, Option, Some, None, Contains, refl, sym, ap, subst, arith, append_assoc, length-append, ⊎_elim}
 use Rattle.std.proofs.lemmas.Bool.{eqb-true, ne_eqb, or_cases, true≢false}
 use Rattle.std.proofs.lemmas.Grind.{flat_map-append}
@@ -78,7 +78,7 @@ cell_places cell value page has = ap (λ rs. place_of rs page) (runs_by_map cell
 pub first_places : (c : PlacedCell) (cs : List PlacedCell) (page : ℕ) → places_of (c ∷ cs) page ≡ over (place_of (runs_of c.cell.records) page) (places_of cs page)
 first_places c cs page = ap (λ rs. place_of rs page) (flat_map-append runs_in c.cell.records (records_of cs)) ∙ place_append (runs_of c.cell.records) (runs_of (records_of cs)) page
 
--- the cell that a walk is at, and those behind it
+-- the cell that a walk is at, and those after it
 pub record There (pages : Pages) (at : CellAt) (rest : List PlacedCell) : Type 0 where
   pub c : PlacedCell
   pub cs : List PlacedCell

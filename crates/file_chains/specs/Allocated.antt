@@ -1,4 +1,4 @@
--- Cells that are handed out, and pages of cells that are added where none is free.
+-- Cells that are handed out, and pages of cells that are added if none is free.
 use Rattle.std.specs.Prelude.{◌≡◌, ◌⊎◌, ℕ, ◌<◌, ◌≤◌, true, false, length, slice_index, IsSomeAnd}
 use Rattle.free_cells.specs.domain_base.declared.place.CellAt.{CellAt}
 use Rattle.free_cells.specs.domain_base.declared.place.Home.{Home}
@@ -12,8 +12,9 @@ use Rattle.free_cells.specs.Belong.{Belong, LeadsTo, last_home}
 use Rattle.free_cells.specs.free_space.VolumeSpace.{with_page}
 use Rattle.free_cells.specs.free_space.Spaces.{CanTake, IsHeld, Spaces, change_volume, missed}
 
--- free cells, free space and pages that belong together: each page of a table is used, and a volume
--- of which a page may be taken has a table whose last page leads to none, and is not closed
+-- free cells, free space and pages that belong together: each page of a table is used, and if a
+-- page of a volume may be taken, the volume has a table whose last page leads to none, and is not
+-- closed
 pub record AreAllocated (space : Spaces) (cells : Cells) (pages : Pages) : Type 0 where
   pub belong : Belong cells pages
   pub held : (vol place : ℕ) → 1 ≤ vol → place < length (table_of cells vol)
@@ -23,7 +24,7 @@ pub record AreAllocated (space : Spaces) (cells : Cells) (pages : Pages) : Type 
   pub first : (vol p : ℕ) → 1 ≤ vol → CanTake space vol p → ¬ p ≡ 0
   pub ends : (vol : ℕ) → LeadsTo cells vol pages 0
 
--- a page of free cells stands behind its volume's table, on a page that was free
+-- a page of free cells stands after its volume's table, on a page that was free
 pub record AddsTablePage (home : Home) (space space_now : Spaces) (cells cells_now : Cells)
     (old new : Pages) : Type 0 where
   pub free : CanTake space home.vol home.page
@@ -53,7 +54,7 @@ pub record HadNone (prefer : ℕ) (at : CellAt) (space space_now : Spaces) (cell
   pub on : is_on home at ≡ true
   pub preferred : (p : ℕ) → CanTake space prefer p → home.vol ≡ prefer
 
--- a cell is handed out, and where none was free a page of cells is added first
+-- a cell is handed out, and if none was free a page of cells is added first
 pub record Takes (prefer : ℕ) (at : CellAt) (space space_now : Spaces) (cells cells_now : Cells)
     (old new : Pages) : Type 0 where
   pub between : Cells

@@ -19,7 +19,7 @@ above kind records = filter (λ r. nat_lt kind (kind_of r)) records
 abbrev pub with_kind : ℕ → Option Record → List Record → List Record
 with_kind kind value records = below kind records ++ (option_to_list value ++ above kind records)
 
--- the cell with its records so
+-- the cell with this record of a kind, or with none of that kind
 abbrev pub with_record : ℕ → Option Record → Cell → Cell
 with_record kind value cell = record cell { records = with_kind kind value cell.records }
 
@@ -27,7 +27,7 @@ with_record kind value cell = record cell { records = with_kind kind value cell.
 abbrev pub IsInUse : Pages → CellAt → Type 0
 IsInUse pages at = (cell : Cell) × StandsAt pages at cell
 
--- a cell in use stands there that has room for its records so
+-- a cell in use stands there that has room for its records if that of a kind is this one
 pub record HasRoom (pages : Pages) (at : CellAt) (kind : ℕ) (value : Option Record) : Type 0 where
   pub cell : Cell
   pub stands : StandsAt pages at cell
@@ -44,7 +44,7 @@ pub record HasRoomForTwo (pages : Pages) (at : CellAt) (one other : Record) : Ty
   pub stands : StandsAt pages at cell
   pub fits : length (spellings (with_two one other cell).records) ≤ 272
 
--- the cells of which the one at a place is another
+-- the cells with another cell for the one at a place
 abbrev pub with_cell : CellAt → Cell → List PlacedCell → List PlacedCell
 with_cell at cell [] = []
 with_cell at cell (c ∷ cs) =

@@ -55,7 +55,7 @@ pub record AreFile (pages : Pages) (first : PlacedCell) (rest : List PlacedCell)
   pub others : AllByRecursion (λ (c : PlacedCell). IsMapCell c.cell) rest
   pub one_map : AreOneMap (records_of (first ∷ rest))
 
--- the same of the chain that begins at a place
+-- the chain that begins at a place is such a file
 abbrev pub IsFile : Pages → CellAt → List PlacedCell → Type 0
 IsFile pages at [] = ⊥
 IsFile pages at (first ∷ rest) = (first.at ≡ at) × AreFile pages first rest

@@ -108,7 +108,7 @@ abbrev pub LeavesOffTables : Cells → Pages → Pages → Type 0
 LeavesOffTables cells old new =
     (home : Home) → ¬ Contains (table_of cells home.vol) home.page → new home ≡ old home
 
--- each page stays but those of some homes, which are so many at most
+-- each page stays except those of some homes, which are at most this number
 pub record ChangesAtMost (count : ℕ) (old new : Pages) : Type 0 where
   pub homes : List Home
   pub few : length homes ≤ count

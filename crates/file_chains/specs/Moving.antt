@@ -53,7 +53,7 @@ pub record HaveParts (value : Record) (page : ℕ) (place : PagePlace) (version 
   pub tail_is : tail_records ≡ tail ∷ []
 
 -- a cell is handed out, and what another one says of pages stands in both, with one page at another
--- place: the second one comes right behind the first
+-- place: the second one comes right after the first
 pub record PartsCell (at : CellAt) (value : Record) (page : ℕ) (place : PagePlace)
     (version : Version) (prefer : ℕ) (space space_now : Spaces) (cells cells_now : Cells)
     (old new : Pages) : Type 0 where

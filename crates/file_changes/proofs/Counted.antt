@@ -81,7 +81,7 @@ some_len pages q there = ⊎_elim (λ none. absurd (not_empty (map.empty_of_len 
     not_empty : pages ≡ map.empty → ⊥
     not_empty is = true≢false (sym there ∙ ap (λ (m : Pages). contains_key m q) is ∙ ap is_some (map.get-empty nat_cmp q))
 
--- those of numbers in front of one are counted
+-- those of numbers before one are counted
 pub keys_counted : (has : ℕ → Bool) (keep : ℕ) (pages : Pages) → ((q : ℕ) → q < keep → contains_key pages q ≡ has q) → ((q : ℕ) → keep ≤ q → contains_key pages q ≡ false) → len pages ≡ count_by has (range_with_len 0 keep)
 keys_counted has zero pages near far = ap len (no_key pages (λ q. far q (omega arith))) ∙ map.len-empty nat_cmp (List ℕ)
 keys_counted has (suc k) pages near far =
@@ -165,12 +165,12 @@ module _ (run : Run) (runs : List Run) (keep : ℕ) (are : AreRuns (run ∷ runs
   own_counted place.Holes is n within =
       count_none (has_home (run ∷ runs)) run.page n (λ q low high. covered q low (omega (arith, high, within)) ∙ ap (λ f. is_some (home_at (placed (behind (q - run.page) f)))) is)
 
-  -- where it is not reached none of it counts
+  -- if it is not reached, none of it counts
   none_counted : (first : RunPlace) → keep ≤ run.page → count_between first run.page (min keep (end_of run)) ≡ 0
   none_counted (place.At home) low = omega (arith, low)
   none_counted place.Holes low = refl
 
-  -- those in front of it are absent
+  -- those before it are absent
   module _ (from : ℕ) (begins : from ≤ run.page) where
     front : (a : ℕ) → from + a ≤ run.page → count_by (has_home (run ∷ runs)) (range_with_len from a) ≡ 0
     front a near = count_none (has_home (run ∷ runs)) from a (λ q low high. ap (λ p. is_some (home_at p)) (absent_before (run ∷ runs) run.page q (omega arith, behind_first) (omega (arith, high, near))))

@@ -49,7 +49,7 @@ with_one home space space_now cells cells_now k = record {
   marks = k.marks;
 }
 
--- where a cell is handed out
+-- if a cell is handed out
 one_kept : (prefer : ℕ) (space space_now : Spaces) (cells cells_now : Cells) (old : Pages) → TakesOne prefer space space_now cells cells_now old → KeptOver space space_now cells cells_now
 one_kept prefer space space_now cells cells_now old t = ⊎_elim
     (λ had. record {
@@ -113,7 +113,7 @@ module _ (old new : DomainMemory) (same : new ≡ record old { pages = new.pages
     list = ap (λ (m : DomainMemory). m.list.list) same;
   }
 
--- where there is more room on the list too
+-- if there is more room on the list too
 module _ (old new : DomainMemory) (same : new ≡ record old { pages = new.pages; space = new.space; cells = new.cells; list = new.list; listed = new.listed }) where
   pub back_kept : ∥ MayGoBack old ∥₁ → ∥ MayGoBack new ∥₁
   back_kept may = ∥∥₁_map may (λ m. record {

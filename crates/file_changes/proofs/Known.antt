@@ -1,4 +1,4 @@
--- A file that memory has, where that is known only of some filesets.
+-- A file that memory has, if that is known only of some filesets.
 use Rattle.std.proofs.Common.{◌≡◌, ◌<◌, ℕ, true, Option, Some, None, IsSomeAnd, slice_get, refl, subst, arith, ⊎_elim}
 use Rattle.std.proofs.Math.Logic.{∥∥₁_elim, ∥∥₁_map}
 use Rattle.std.proofs.lemmas.Bool.{cases_lt}

@@ -1,4 +1,4 @@
--- Pages that may be written stay so where a file changes.
+-- Pages that may be written can still be written if a file changes.
 use Rattle.std.proofs.Common.{◌≡◌, ◌∙◌, ◌<◌, ℕ, Bool, true, false, cond, ◌==◌, Some, IsSomeAnd, refl, sym, ap, subst}
 use Rattle.std.specs.Option.{option_and_then, option_map}
 use Rattle.domain_memory.specs.domain_base.declared.place.Home.{Home}

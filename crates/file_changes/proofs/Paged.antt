@@ -90,7 +90,7 @@ module _ (memory : DomainMemory) (number : ℕ) (tag : Tag) (path : Path) (all :
     abbrev before : Bool → PagePlace → Option (List ℕ)
     before b place = option_map contents (home_at (cond b place Absent))
 
-    -- one behind those that it keeps is none of them
+    -- one after those that it keeps is none of them
     pub far_page : (keep page : ℕ) → option_and_then (of_live keep_of) (chains tag) ≡ Some keep → keep ≤ page → get (pages_at fileset.tree path) page ≡ None
     far_page keep page kept far =
         its_pages.each page ∙ ap (λ k. before (nat_lt page k) (place_at chains tag page)) (keep_is keep kept) ∙ ap (λ b. before b (place_at chains tag page)) (le-ltb page keep far)

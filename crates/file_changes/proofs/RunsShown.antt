@@ -23,7 +23,7 @@ use Rattle.file_changes.proofs.Counted.{absent_before, begin_from, covers_not}
 
 -- ---- one run
 
--- what a run in front of a page is as an extent
+-- what a run before a page is as an extent
 pub record IsCut (keep : ℕ) (run : Run) (e : ExtentItem) : Type 0 where
   pub home : Home
   pub first : run.first ≡ At home
@@ -45,7 +45,7 @@ cut_of keep run e is = by_first run.first refl is
     by_first (At home) first is = by_test home first (nat_lt run.page (min keep (end_of run))) refl is
     by_first Holes first is = absurd (let n : None ≡ Some e = is in cc)
 
--- where it is none, none of its pages in front of that has a home
+-- if it is none, none of its pages before that has a home
 cut_none : (keep : ℕ) (run : Run) → extent_of keep run ≡ None → (q : ℕ) → run.page ≤ q → q < end_of run → q < keep → (home : Home) → ¬ placed (behind (q - run.page) run.first) ≡ at.At home
 cut_none keep run none q low high near home = by_first run.first none
   where
@@ -67,7 +67,7 @@ abbrev pub Chained : List ExtentItem → Type 0
 Chained [] = Unit {0}
 Chained (e ∷ es) = (0 < e.count) × FirstAfter e es × Chained es
 
--- an extent that ends in front of another does not touch it
+-- an extent that ends before another does not touch it
 ends_before : (e n : ExtentItem) → e.page + e.count < n.page → touches e n ≡ false
 ends_before e n less = by_test (e.page + e.count == n.page) refl
   where
@@ -75,7 +75,7 @@ ends_before e n less = by_test (e.page + e.count == n.page) refl
     by_test true is = let same = eqb-true (e.page + e.count) n.page is in absurd (omega (arith, same, less))
     by_test false is = refl
 
--- so none does behind a gap
+-- so none does after a gap
 gap : (keep : ℕ) (e : ExtentItem) (limit : ℕ) → e.page + e.count < limit → (rest : List Run) → BeginFrom limit rest → FirstAfter e (filter_map (extent_of keep) rest)
 gap keep e limit less [] from = tt
 gap keep e limit less (run ∷ runs) from = by_option (extent_of keep run) refl (gap keep e limit less runs from.1)
@@ -212,7 +212,7 @@ covered keep (run ∷ runs) are q home near there = by_cover (covered keep runs 
     by_cover rest true is place = let c = covers_is run q is in by_option (extent_of keep run) refl c.0 c.1 place
     by_cover rest false is place = later (extent_of keep run) (rest place)
 
--- and so is each of theirs, which is in front of the last one that is kept
+-- and so is each of theirs, which is before the last one that is kept
 pub record IsThere (keep : ℕ) (runs : List Run) (e : ExtentItem) : Type 0 where
   pub stands : StandsThere (place_of runs) e
   pub kept : e.page + e.count ≤ keep

@@ -10,6 +10,6 @@ abbrev pub count_between : RunPlace → ℕ → ℕ → ℕ
 count_between (At home) from end = end - from
 count_between Holes from end = 0
 
--- how many pages of a run do in front of one
+-- how many pages of a run that come before page `keep` have a home
 abbrev pub count_in : ℕ → Run → ℕ
 count_in keep run = count_between run.first run.page (min keep (end_of run))

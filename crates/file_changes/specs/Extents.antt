@@ -21,13 +21,13 @@ abbrev pub HasMembers : Frame → MemberMap → Type 0
 HasMembers frame members = (home : Home) → IsWithin frame home
     → IsSomeAnd (get members home.vol) (λ member. home.page < member.pages)
 
--- the pages from one up to another, if there are any, where the first has a home
+-- the pages from one up to another, if there are any and the first has a home
 abbrev pub extent_between : RunPlace → ℕ → ℕ → Option ExtentItem
 extent_between (At home) from end = if nat_lt from end
     then Some (record { page = from; count = end - from; vol = home.vol; first = home.page })
     else None
 extent_between Holes from end = None
 
--- those of a run in front of a page
+-- those of a run that come before a page
 abbrev pub extent_of : ℕ → Run → Option ExtentItem
 extent_of keep run = extent_between run.first run.page (min keep (end_of run))

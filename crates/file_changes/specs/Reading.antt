@@ -24,14 +24,14 @@ abbrev pub IsThereIn : DomainMemory → ℕ → Tag → Type 0
 IsThereIn memory number tag = (chains : Chains) → AreFilesIn memory number chains
     → IsSome (option_and_then (of_live attributes_of) (chains tag))
 
--- this is what a node is, but for its pages
+-- this is what a node is, except for its pages
 abbrev pub IsDescribed : Attributes → Node → Type 0
 IsDescribed what (File uid gid size logged pages) = (what.kind ≡ kind.File) × (what.uid ≡ uid)
     × (what.gid ≡ gid) × (what.size ≡ size) × (what.is_logged ≡ logged)
 IsDescribed what (Directory uid gid) =
     (what.kind ≡ kind.Directory) × (what.uid ≡ uid) × (what.gid ≡ gid)
 
--- so it is of the node at a path, which is a tag's, and as many paths lead there
+-- this is what the node at a path is, which is a tag's, and as many paths lead there as it says
 pub record IsWhatIs (path : Path) (tag : Tag) (tree : Fileset) (what : Attributes) : Type 0 where
   pub node : IsSomeAnd (node_at tree path) (IsDescribed what)
   pub links : what.links ≡ paths_to tree (number_of tag)
@@ -43,7 +43,7 @@ abbrev pub pages_in : Node → Pages
 pages_in (File uid gid size logged pages) = pages
 pages_in (Directory uid gid) = empty
 
--- the pages of the file at a path, none where none is
+-- the pages of the file at a path, or none if no file is there
 abbrev pub pages_at : Fileset → Path → Pages
 pages_at tree path = option_map_or pages_in (node_at tree path) empty
 
@@ -57,7 +57,7 @@ abbrev pub IsOpen : DomainMemory → ℕ → Tag → ℕ → Type 0
 IsOpen memory number tag page =
     (chains : Chains) → AreFilesIn memory number chains → IsOpenAt tag page chains
 
--- so it is of each page that so many bytes from an offset on lie in
+-- the file keeps, without a hole, each page that has any of the `len` bytes from `offset` on
 abbrev pub AreOpen : DomainMemory → ℕ → Tag → ℕ → ℕ → Type 0
 AreOpen memory number tag offset len =
     (page : ℕ) → Contains (pages_of offset len) page → IsOpen memory number tag page

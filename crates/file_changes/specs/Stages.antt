@@ -69,13 +69,13 @@ pub record HasFile (memory : DomainMemory) (number : ℕ) (tag : Tag) (path : Pa
 
 -- ** After
 
--- it stands for the filesets in which the node at the path has changed so
+-- memory stands for these filesets with `change` made to the node at the path
 abbrev pub StandsChanged : Path → (Node → Node) → FilesetMap → FilesetEntry → FilesetSlot
     → DomainMemory → Type 0
 StandsChanged path change all entry fileset now = IsStaged now
     (insert all entry.name (record fileset { tree = with_change path change fileset.tree }))
 
--- a page is free that no record of the tag's file can take, so that a cell is asked too; and no
+-- a page is free, but no record of the tag's file can take it, so that a cell is needed too; and no
 -- cell is free, nor another page
 pub record LacksCell (memory : DomainMemory) (number : ℕ) (tag : Tag) (page : ℕ) : Type 0 where
   pub home : Home
@@ -86,13 +86,13 @@ pub record LacksCell (memory : DomainMemory) (number : ℕ) (tag : Tag) (page : 
   pub no_other : (vol p : ℕ)
       → ¬ CanTake (change_volume (with_page home.page) memory.space home.vol) vol p
 
--- no page is given: none is free, or one alone and a cell is asked too; or memory was short
+-- no page is given: none is free, or only one is and a cell is needed too; or memory was short
 abbrev pub GivesNone : DomainMemory → ℕ → Tag → ℕ → StoreFault → Type 0
 GivesNone memory number tag page NoPage =
     ((vol p : ℕ) → ¬ CanTake memory.space vol p) ⊎ LacksCell memory number tag page
 GivesNone memory number tag page OutOfMemory = Unit {0}
 
--- what is left to be done is listed behind the rest
+-- what is left to be done is listed after the rest
 abbrev pub ListsLeft : Option CellAt → List CellAt → List CellAt → Type 0
 ListsLeft None listed listed_now = listed_now ≡ listed
 ListsLeft (Some at) listed listed_now = listed_now ≡ listed ++ at ∷ []

@@ -32,7 +32,7 @@ cleared_behind size node =
     option_map_or (λ bytes. with_page page (zeros_behind size page bytes) node)
     (get (pages_in node) page) node
 
--- beside files all of memory is as it was, and the change can be taken back
+-- apart from files, all of memory is as it was, and the change can be taken back
 pub record StaysElse (old new : DomainMemory) : Type 0 where
   pub kept : KeepsKept old new
   pub back : ∥ MayGoBack new ∥₁
@@ -51,7 +51,7 @@ abbrev pub pages_before : ℕ → ℕ → List ℕ
 pages_before offset page =
     range_with_len (offset / PAGE_BYTES) (page - offset / PAGE_BYTES)
 
--- one of the pages of a write is absent, and none is given once those in front of it are written
+-- one of the pages of a write is absent, and none is given once those before it are written
 pub record WantsPage (old : DomainMemory) (number : ℕ) (tag : Tag) (offset : ℕ) (bytes : List ℕ)
     : Type 0 where
   pub page : ℕ

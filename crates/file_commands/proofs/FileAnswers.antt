@@ -78,7 +78,7 @@ module _ (memory : DomainMemory) (all : FilesetMap) (place : Place) (number : �
       in_this all place.fileset p.fileset (λ slot. read_only slot ∷ target_refusal slot place.path ∷ directory_here slot place.path ∷ rest slot) p.here
       ∙ (λ i. first_refusal (original_writable p.fileset p.role i ∷ p.leads.allowed i ∷ directory_is memory all place number tag of p i ∷ rest p.fileset))
 
-  -- a directory is, and of a file what is asked behind that
+  -- a directory is, and of a file what is asked after that
   pub filing_directory : of ≡ kind.Directory → in_fileset all place.fileset (λ slot. read_only slot ∷ target_refusal slot place.path ∷ directory_here slot place.path ∷ rest slot) ≡ Some IsDirectory
   filing_directory is = filing_refusal ∙ ap (λ k. first_refusal (refuse_if (is_directory_kind k) IsDirectory ∷ rest p.fileset)) is
 
@@ -136,7 +136,7 @@ module _ (memory : DomainMemory) (all : FilesetMap) (place : Place) (number : �
       ∙ ap (λ b. first_refusal (refuse_if b TooFar ∷ [])) (le-ltb file_bytes size fits))
       refl (in_tree memory all place number tag p (truncated_node size) (cut_ids size))
 
--- ---- before and behind
+-- ---- before and after
 
 pub placed_some : (memory last : DomainMemory) → IsSame memory last → (place : Place) (number : ℕ) (tag : Tag) (of : Kind) → ∥ StandsForSome memory ∥₁ → ((all : FilesetMap) → StandsFor memory all → IsPlaced memory all place number tag of) → ∥ IsPlacedForSome last number tag of ∥₁
 placed_some memory last same place number tag of stands placed = ∥∥₁_map stands (λ s. record {

@@ -101,7 +101,7 @@ module _ (memory : DomainMemory) (all : FilesetMap) (place : Place) (number : �
     abbrev pub all_now : FilesetMap
     all_now = insert all p.entry.name (record p.fileset { tree = with_change place.path change tree })
 
-    -- filesets of which the named one has this node are those with this change of it
+    -- filesets whose named one has this node are those with this change of it
     pub in_tree : all_now ≡ with_tree all place.fileset (with_change place.path change)
     in_tree = ap (λ (n : Name). insert all n (record p.fileset { tree = with_change place.path change tree })) p.named
         ∙ sym (ap (λ (o : Option FilesetSlot). option_map_or (λ (s : FilesetSlot). insert all place.fileset (record s { tree = with_change place.path change s.tree })) o all) p.here)

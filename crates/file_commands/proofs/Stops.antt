@@ -22,7 +22,7 @@ module _ (memory : DomainMemory) (all : FilesetMap) (command : Command) (r : Res
       by (Ok reply) e = absurd e
       by (Err e) e_is = subst (λ (s : Stop). StopsAs all command s) (sym (e_is ∙ is)) refuses
 
-  -- a call wants a page or memory, where no rule refuses it
+  -- a call wants a page or memory, if no rule refuses it
   pub ends_wanting : (why : StoreFault) → IsErrAnd r (λ e. e ≡ stop_of why) → refusal_of all command ≡ None → EndsAs memory all command r
   ends_wanting why same allowed = by r same
     where

@@ -82,7 +82,7 @@ module _ (memory : DomainMemory) (all : FilesetMap) (place : Place) (number : �
   pub pages_there : pages_at tree place.path ≡ pages_in node
   pages_there = ap (λ (o : Option Node). option_map_or pages_in o empty) node_there
 
-  -- behind the end of all files, and then a quota
+  -- after the end of all files, and then a quota
   write_refusal : refusal_of all (Write place offset bytes) ≡ first_refusal (refuse_if (nat_lt file_bytes (offset + length bytes)) TooFar ∷ quota_refusal tree (uid_of node) (gid_of node) 0 (16 * absent_pages (pages_in node) offset (length bytes)) ∷ [])
   write_refusal =
       filing_file memory all place number tag kind.File p (λ slot. refuse_if (nat_lt file_bytes (offset + length bytes)) TooFar ∷ option_map_or (write_quota slot.tree offset bytes) (node_at slot.tree place.path) None ∷ []) refl
@@ -124,7 +124,7 @@ module _ (memory : DomainMemory) (all : FilesetMap) (place : Place) (number : �
   asked_there near what told absent blocks counted are over asked =
       refuses_over near what.uid what.gid blocks (ids_there (node_at tree place.path) node node_there what told.node) absent counted are over asked
 
-  -- ---- where a page is wanted
+  -- ---- if a page is wanted
 
   takes_space : Any (λ q. contains_key (pages_at tree place.path) q ≡ false) (pages_of offset (length bytes)) → TakesSpace all (Write place offset bytes)
   takes_space some = subst (λ (pages : Pages). Any (λ q. contains_key pages q ≡ false) (pages_of offset (length bytes))) (pages_there ∙ sym told) some
@@ -149,7 +149,7 @@ pub wants_all : {X : Type 0} (memory : DomainMemory) (place : Place) (offset : �
 wants_all memory place offset bytes (Ok x) wants = tt
 wants_all memory place offset bytes (Err stop) wants = λ wanted all stands. wants all stands wanted
 
--- where a call wants a page
+-- if a call wants a page
 pub wants_from : {X : Type 0} (T : Type 0) (r : Result X Stop) (why : StoreFault) → IsErrAnd r (λ e. e ≡ stop_of why) → (why ≡ fault.NoPage → T) → IfErr r (λ stop. stop ≡ NoPage → T)
 wants_from T (Ok x) why same then = tt
 wants_from T (Err e) why same then = λ is. by_fault why (sym same ∙ is) then

@@ -137,7 +137,7 @@ some_waits (Some frame) group is = refl
 
 -- Uses of several frames, one after the other.
 
--- each of these comes among the first k of an order, where its frame is clean
+-- each of these comes among the first k of an order, if its frame is clean
 abbrev pub ComeWithin : ℕ → List Home → Frames → List ℕ → Type 0
 ComeWithin k homes frames order = (home : Home) → is_among homes home ≡ true → is_clean (frames home) ≡ true → ComesWithin k (number_of home) order
 

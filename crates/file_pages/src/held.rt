@@ -1,4 +1,4 @@
-//! Frames of pages, of which some are lent to an event.
+//! Frames of pages. Some are lent to an event.
 ghost use Rattle.std.specs.Prelude.{
   ◌≡◌,
   ◌+◌,

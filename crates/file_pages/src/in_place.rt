@@ -38,7 +38,7 @@ use logged_rack::{Home, LoggedRack, Page, Rack, VolIx};
 use std::alloc::Global;
 
 impl FilePages {
-    /// Lends the page in place of a home. Where it has no frame it is read and kept in a clean one,
+    /// Lends the page in place of a home. If it has no frame, it is read and kept in a clean one,
     /// for which a clean one that is not lent goes if 1,024 are kept. The log must have no image of
     /// the home, since what stands there is not its page then. After an error no frame has changed,
     /// and nothing more is lent.

@@ -1,4 +1,4 @@
-//! Pages of files that stand in place: in frames of a cache, of which an event is lent some, and
+//! Pages of files that stand in place: in frames of a cache, some of them lent to an event, and
 //! read from and written to a rack with its log.
 #![tactic(auto)]
 

@@ -120,7 +120,7 @@ skip_kind Volume Chain c x y = absurd (true≢false (sym x))
 skip_kind Volume Quota c x y = absurd (true≢false (sym x))
 skip_kind Volume Volume c x y = absurd (true≢false (sym x))
 
--- what followed a cell follows the one in front of it
+-- what followed a cell follows the one before it
 skip_cell : (old new : Pages) (b : CellHead) (c : CellHead) (rest : List PlacedCell) → may_follow b.kind c.kind ≡ true → AllStand new rest → Follow old c rest → Follow new (record b { next = c.next }) rest
 skip_cell old new b c [] kinds stand follow = follow
 skip_cell old new b c (r ∷ rest) kinds stand follow = (follow.0, skip_kind b.kind c.kind r.cell.head.kind kinds follow.1, stand.0, follow_by new old r.cell.head rest stand.1 follow.3)

@@ -1,4 +1,4 @@
--- The cell in front of one that has something to let go of, which the next step begins behind.
+-- The cell before one that has something to let go of, after which the next step begins.
 use Rattle.std.proofs.Common.{◌≡◌, ◌∙◌, ℕ, List, [], ◌∷◌, Option, Some, None, Result, Ok, Err, IfSome, OnErr, OnOk, Contains, refl, sym, ap, subst, unwrap_or, ⊎_elim}
 use Rattle.fileset_files.specs.domain_base.declared.place.CellAt.{CellAt}
 use Rattle.fileset_files.specs.page_store.Pages.{Pages}

@@ -52,7 +52,7 @@ over_some Absent y some = absurd (some refl)
 over_some (At home) y some = refl
 over_some Hole y some = refl
 
--- a page that a record has is nowhere in front of it
+-- a page that a record has is nowhere before it
 pub shown_runs : (front old back : List Run) → NoPageTwice (front ++ (old ++ back)) → (p : ℕ) → (place_of old p ≡ Absent → ⊥) → place_of (front ++ (old ++ back)) p ≡ place_of old p
 shown_runs front old back few p some =
     place_append front (old ++ back) p ∙ ap (over (place_of front p)) (place_append old back p) ∙ ap (λ x. over x (over (place_of old p) (place_of back p))) none ∙ over_some (place_of old p) (place_of back p) some

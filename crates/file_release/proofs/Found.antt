@@ -112,7 +112,7 @@ places_append (x ∷ xs) ys p =
     over_assoc (At home) b c = refl
     over_assoc Hole b c = refl
 
--- behind the cells that are skipped none so far has anything to let go of
+-- after the cells that are skipped none so far has anything to let go of
 pub record IsOnWay (pages : Pages) (from i : ℕ) (cursor before next : Option CellAt) (chain : List PlacedCell) : Type 0 where
   pub skipped : List PlacedCell
   pub passed : List PlacedCell
@@ -142,7 +142,7 @@ way_begins pages from start (first ∷ rest) is = record {
   released = λ _. record { absent = λ page less. refl; later = tt };
 }
 
--- the cells behind one of a chain
+-- the cells after one of a chain
 pub record IsSplit (pages : Pages) (at : CellAt) (cells : List PlacedCell) : Type 0 where
   pub front : List PlacedCell
   pub c : PlacedCell
@@ -185,7 +185,7 @@ split_file pages start at (first ∷ rest) is inside = split_at pages at first r
 some_none : (at : CellAt) → Some at ≡ None → ⊥
 some_none at is = cc
 
--- the walk begins behind a cell
+-- the walk begins after a cell
 pub way_goes_on : (pages : Pages) (from : ℕ) (start at : CellAt) (chain : List PlacedCell) → IsFile pages start chain → (s : IsSplit pages at chain) → IsOnWay pages from 0 (Some at) (Some at) s.c.cell.head.next chain
 way_goes_on pages from start at chain is s = record {
   skipped = s.front ++ s.c ∷ [];

@@ -1,4 +1,4 @@
--- Runs without a gap in front of a page.
+-- Runs without a gap before a page.
 use Rattle.std.proofs.Common.{◌≡◌, ◌∙◌, ℕ, suc, ◌+◌, ◌-◌, ◌<◌, ◌≤◌, List, length, get_or, take, drop, sym, ap, subst, arith, ⊎_elim}
 use Rattle.std.proofs.lemmas.Bool.{cases_lt}
 use Rattle.fileset_files.specs.extent_maps.declared.run.Run.{Run}
@@ -7,7 +7,7 @@ use Rattle.fileset_files.specs.extent_maps.Runs.{AreRuns, BeginBefore, BeginFrom
 use Rattle.fileset_files.proofs.OfExtentMaps.EditLemmas.{never_absent, run_at}
 use Rattle.fileset_files.proofs.OfExtentMaps.RunLemmas.{absent_before, absent_between, all_drop, all_map, all_take, is_run_at, place_at, rising, take_at}
 
--- runs have each page from one on and in front of another, and those from a place on begin there
+-- runs have each page from one on and before another, and those from a place on begin there
 -- or later
 pub record AreGapless (runs : List Run) (i begin to : ℕ) : Type 0 where
   pub within : begin ≤ to
@@ -32,7 +32,7 @@ module _ (runs : List Run) (are : AreRuns runs) (i : ℕ) (run : Run) (within : 
   run_is : (d : Run) → get_or runs i d ≡ run
   run_is d = run_at runs i run d within is
 
-  -- a run that ends in front of them leaves a gap
+  -- a run that ends before them leaves a gap
   pub gap_before : end_of run < begin → place_of runs (begin - 1) ≡ Absent
   gap_before ends =
       absent_between runs i run (begin - 1) are within
@@ -60,7 +60,7 @@ module _ (runs : List Run) (are : AreRuns runs) (i : ℕ) (run : Run) (within : 
         omega (arith, up, same)) (omega (arith, within));
   }
 
--- the same of the run in front of a place
+-- the same of the run before a place
 module _ (runs : List Run) (are : AreRuns runs) (n : ℕ) (run : Run) (some : 1 ≤ n) (within : n ≤ length runs) (is : run ≡ get_or runs (n - 1) run) where
   inside : n - 1 < length runs
   inside = omega (arith, some, within)

@@ -36,7 +36,7 @@ use Rattle.file_release.proofs.Given.{absent_home, gives_by, held_given}
 use Rattle.fileset_files.proofs.Grown.{apart_grows}
 use Rattle.file_release.proofs.Once.{file_map, good_page}
 
--- ---- files of which each cell stands
+-- ---- files all of whose cells stand
 
 pub reader_stands : (pages : Pages) (reader : Option Reader) (own : List PlacedCell) → IsReader pages reader own → AllStand pages own
 reader_stands pages None own is = subst (AllStand pages) (sym is) tt

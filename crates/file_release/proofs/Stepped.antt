@@ -66,7 +66,7 @@ in_split [] ys at inside = inr inside
 in_split (x ∷ xs) ys at (zero, within, is) = inl (in_first at x xs is)
 in_split (x ∷ xs) ys at (suc k, within, is) = ⊎_elim (λ front. inl (in_later at x xs front)) (λ back. inr back) (in_split xs ys at (k, omega (arith, within), is))
 
--- a row of cells of which one is new
+-- a row of cells, one of which is new
 one_changed : (xs : List PlacedCell) (d : PlacedCell) (ys chain : List PlacedCell) → ((c : PlacedCell) → Contains xs c → Contains chain c) → ((c : PlacedCell) → Contains ys c → Contains chain c) → ChangesOne chain (xs ++ d ∷ ys)
 one_changed xs d ys chain front back = record {
   at = d.at;
@@ -77,14 +77,14 @@ one_changed xs d ys chain front back = record {
     by_place c other (zero, within, is) = absurd (other (ap (λ (x : PlacedCell). x.at) (sym is)))
     by_place c other (suc k, within, is) = back c (k, omega (arith, within), is)
 
--- a row of cells of which one says where pages stand in a record of the kind that it had
+-- a row of cells, one of which says where pages stand in a record of the kind that it had
 kinds_row : (xs : List PlacedCell) (c d : PlacedCell) (ys : List PlacedCell) → d.at ≡ c.at → map_kinds d.cell.records ≡ map_kinds c.cell.records → AreDistinct (xs ++ c ∷ ys) → KeepKinds (xs ++ c ∷ ys) (xs ++ d ∷ ys)
 kinds_row [] c d ys at same distinct = kinds_on c d ys ys at same distinct.0 distinct.0 (kinds_same ys distinct.1)
 kinds_row (x ∷ xs) c d ys at same distinct =
     kinds_on x x (xs ++ c ∷ ys) (xs ++ d ∷ ys) refl refl distinct.0 (λ inside. distinct.0 (subst (λ (ps : List CellAt). Contains ps x.at) (places_same xs d c ys at) inside))
     (kinds_row xs c d ys at same distinct.1)
 
--- and of which the one behind it is left out
+-- and the one after it is left out
 kinds_less : (xs : List PlacedCell) (b d c : PlacedCell) (ys : List PlacedCell) → d.at ≡ b.at → map_kinds d.cell.records ≡ map_kinds b.cell.records → AreDistinct (xs ++ b ∷ c ∷ ys) → KeepKinds (xs ++ b ∷ c ∷ ys) (xs ++ d ∷ ys)
 kinds_less [] b d c ys at same distinct =
     kinds_on b d (c ∷ ys) ys at same distinct.0 (λ inside. distinct.0 (in_later b.at c ys inside)) (λ was now in_was in_now here. by_place was now in_was in_now here)

@@ -53,7 +53,7 @@ unread_from run from frozen end to own less most there page begins is_frozen = �
     (λ past. unread_none (own page) (place_of (run ∷ []) page) (none_outside run page (covers_not_behind run page past)))
     (cases_lt page (end_of run))
 
--- the same from a page on that may be in front of the run
+-- the same from a page on that may be before the run
 pub unread_run : (run : Run) (from frozen begin end to : ℕ) (own : Places) → end ≤ begin → ((page : ℕ) → run.page ≤ page → from ≤ page → begin ≤ page) → ((page : ℕ) → page < end_of run → page < frozen → page < to) → ((page : ℕ) → end ≤ page → page < to → ¬ own page ≡ Absent) → AreUnread from frozen own (place_of (run ∷ []))
 unread_run run from frozen begin end to own less least most there page begins is_frozen = ⊎_elim
     (λ before. unread_none (own page) (place_of (run ∷ []) page) (none_outside run page (covers_not_before run page before)))

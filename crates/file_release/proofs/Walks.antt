@@ -55,7 +55,7 @@ module _ (runs : List Run) (are : AreRuns runs) (i : ℕ) (run : Run) (within : 
   parts : runs ≡ take i runs ++ run ∷ drop (i + 1) runs
   parts = around runs i run within ∙ ap (λ (r : Run). take i runs ++ r ∷ drop (i + 1) runs) (sym is)
 
-  -- the runs in front of it do not have its pages
+  -- the runs before it do not have its pages
   pub not_before : (p : ℕ) (home : Home) → place_of (run ∷ []) p ≡ At home → place_of (take i runs) p ≡ Absent
   not_before p home there = absent_after (take i runs) p run.page (ends_before (take i runs) run (drop (i + 1) runs) (subst AreRuns parts are)) (in_run run p home there).begins
 
@@ -79,7 +79,7 @@ module _ (runs : List Run) (are : AreRuns runs) (i : ℕ) (run : Run) (within : 
       ap (λ (rs : List Run). place_of rs p) parts ∙ place_append (take i runs) (run ∷ drop (i + 1) runs) p
       ∙ over_first (place_of (take i runs) p) (place_of (run ∷ drop (i + 1) runs) p) home there
 
-  -- no home stands in both, where none does twice in the map
+  -- no home stands in both, if none does twice in the map
   pub never_both : ((p q : ℕ) (h : Home) → place_of runs p ≡ At h → place_of runs q ≡ At h → p ≡ q) → (p q : ℕ) (home : Home) → place_of (take i runs) p ≡ At home → place_of (run ∷ []) q ≡ At home → ⊥
   never_both once p q home first second =
       let same : q ≡ p = once q p home (in_map q home second) (in_front p home first) in

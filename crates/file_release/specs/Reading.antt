@@ -5,14 +5,14 @@ use Rattle.fileset_files.specs.extent_maps.declared.run.PagePlace.{PagePlace}
 use Rattle.fileset_files.specs.extent_maps.declared.run.PagePlace.TheVariants.{At, Hole, Absent}
 use Rattle.fileset_files.specs.extent_maps.Runs.{Places, home_at}
 
--- the home of a page that is there, none of a hole, and where it is absent another one
+-- the home of a page that is there, none of a hole, and if it is absent another one
 abbrev pub own_or : PagePlace → Option Home → Option Home
 own_or (At home) other = Some home
 own_or Hole other = None
 own_or Absent other = other
 
--- the home at which a page is read, none where zeros are read: its own, and where it is absent and
--- in front of the frozen pages that of the source, whatever the source keeps
+-- the home at which a page is read, none if zeros are read: its own, and if it is absent and before
+-- the end of the frozen pages that of the source, whatever the source keeps
 abbrev pub read_home : ℕ → Places → Places → ℕ → Option Home
 read_home frozen own source page =
     own_or (own page) (if nat_lt page frozen then home_at (source page) else None)

@@ -99,7 +99,7 @@ Progresses released.Pages from chain after cells cells_now =
     LosesPage from chain after cells cells_now
 Progresses released.Cell from chain after cells cells_now = FreesOne chain after cells cells_now
 
--- of the cells that are left one alone says something else than it did
+-- only one of the cells that are left says something else than it did
 pub record ChangesOne (chain after : List PlacedCell) : Type 0 where
   pub at : CellAt
   pub others : (c : PlacedCell) → Contains after c → ¬ c.at ≡ at → Contains chain c

@@ -16,7 +16,7 @@ use Rattle.fileset_files.specs.Together.{IsHeldApart}
 use Rattle.file_release.specs.declared.reader.OwnPages.{OwnPages}
 use Rattle.file_release.specs.declared.reader.Reader.{Reader}
 
--- the chain of the file that reads through another, and no cell where there is none
+-- the chain of the file that reads through another, and no cell if there is none
 abbrev pub IsReader : Pages → Option Reader → List PlacedCell → Type 0
 IsReader pages None own = own ≡ []
 IsReader pages (Some reader) own = IsFile pages reader.at own
@@ -57,8 +57,8 @@ abbrev pub LaterHavePages : List PlacedCell → Type 0
 LaterHavePages [] = Unit {0}
 LaterHavePages (first ∷ rest) = AllByRecursion HasPages rest
 
--- a chain has let go of all its pages from one on, and of all cells behind its first that say of
--- none where it stands
+-- a chain has let go of all its pages from one on, and of all cells after its first that say of no
+-- page where it stands
 pub record IsReleased (from : ℕ) (chain : List PlacedCell) : Type 0 where
   pub absent : (page : ℕ) → from ≤ page → places_of chain page ≡ Absent
   pub later : LaterHavePages chain

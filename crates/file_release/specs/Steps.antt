@@ -40,7 +40,8 @@ use Rattle.file_release.specs.Sharing.{AreSharing, IsReader, frozen_of}
 abbrev pub AllStand : Pages → List PlacedCell → Type 0
 AllStand pages cells = AllByRecursion (λ (c : PlacedCell). StandsAt pages c.at c.cell) cells
 
--- a record has something to let go of: a page from one on or, behind the first cell, none at all
+-- a record has something to let go of: it has a page from one on or, after the first cell, no page
+-- at all
 abbrev pub IsStale : ℕ → Bool → Places → Type 0
 IsStale from is_behind places =
     HasPageFrom from places ⊎ ((is_behind ≡ true) × ((page : ℕ) → places page ≡ Absent))
@@ -71,7 +72,7 @@ KeepsCells freed start chain new = (after : List PlacedCell) → IsFile new star
 
 -- ** The tail of its pages
 
--- the home at which the reader reads a page through the file, where it is frozen
+-- the home at which the reader reads a page through the file, if it is frozen
 abbrev pub through : PagePlace → PagePlace → Option Home
 through Absent source = home_at source
 through (At home) source = None
@@ -104,13 +105,13 @@ pub record IsTail (from frozen : ℕ) (own map : Places) (tail : Tail) : Type 0 
   pub unread : IfNone tail.home (AreUnread tail.from frozen own map)
   pub some : HasPageFrom from map → HasPageFrom tail.from map
 
--- a record with the pages of another in front of one
+-- a record with the pages of another that come before one
 pub record IsCut (from : ℕ) (value after : Record) : Type 0 where
   pub is_map : IsMapRecord after
   pub same_kind : kind_of after ≡ kind_of value
   pub at_page : (page : ℕ) → places_in after page ≡ places_before from (places_in value) page
 
--- the home of a page from one on, and in front of another
+-- the home of a page from one on and before another
 pub record IsHomeWithin (from to : ℕ) (map : Places) (home : Home) : Type 0 where
   pub page : ℕ
   pub begins : from ≤ page
@@ -134,7 +135,7 @@ pub record Rewrites (c : PlacedCell) (value after : Record) (edit : ChainEdit) :
   pub cell : edited edit ≡ with_record (kind_of value) (Some after) c.cell
   pub none : edit.freed ≡ None
 
--- the cell in front of it leads to what it led to, and it is free
+-- the cell before it leads to what it led to, and it is free
 pub record Unlinks (front : List PlacedCell) (c : PlacedCell) (edit : ChainEdit) : Type 0 where
   pub earlier : List PlacedCell
   pub before : PlacedCell
@@ -145,7 +146,7 @@ pub record Unlinks (front : List PlacedCell) (c : PlacedCell) (edit : ChainEdit)
   }
   pub freed : edit.freed ≡ Some c.at
 
--- a cell behind the first whose record then has no page goes, and else its record is another
+-- a cell after the first whose record then has no page goes; else its record is another
 pub record EditsCell (front : List PlacedCell) (c : PlacedCell) (value : Record) (from : ℕ)
     (edit : ChainEdit) : Type 0 where
   pub after : Record

@@ -1,4 +1,4 @@
-//! Pages and cells of a file, let go step by step.
+//! How the pages and cells of a file are given back, step by step.
 #![tactic(auto)]
 
 mod edits;

@@ -20,7 +20,7 @@ inserted (suc k) page [] within = absurd (omega (arith, within))
 inserted zero page (first ∷ more) within = omega arith
 inserted (suc k) page (first ∷ more) within = let rest = inserted k page more (omega (arith, within)) in omega (arith, rest)
 
--- a directory of which the file is another one
+-- a directory whose file is another one
 pub record Has (set : Bitfiles) (tag : Tag) (count : ℕ) : Type 0 where
   pub directory : IsDirectory set tag
   pub pages : count_index set tag ≡ count

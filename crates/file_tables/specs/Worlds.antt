@@ -27,7 +27,7 @@ IsSomeSet world = (set : Bitfiles) × IsSet world set
 abbrev pub HasTag : World → Tag → Type 0
 HasTag world tag = (set : Bitfiles) × IsSet world set × IsSome (set tag)
 
--- some set that has a directory at a tag, with so many pages of an index
+-- some set that has a directory at a tag, with `count` pages of an index
 abbrev pub HasIndex : World → Tag → ℕ → Type 0
 HasIndex world tag count = (set : Bitfiles) × IsSet world set × IsDirectory set tag
     × (count_index set tag ≡ count)

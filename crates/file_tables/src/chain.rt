@@ -83,7 +83,7 @@ pub fn set_line(
     set(alloc, world, first, who, limits)
 }
 
-/// Takes so many cells for something else, where no chain has begun.
+/// Takes `count` cells for something else, if no chain has begun.
 pub fn use_cells(alloc: Global, world: &mut World, count: u32) -> Result<(), Fail>
     requires { HasChain world.old None }
     ensures { IfOk result (λ _. HasChain world.new None) }

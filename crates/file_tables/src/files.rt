@@ -105,7 +105,7 @@ fn answer_of_words(
     }
 }
 
-/// Begins anew with a volume of so many pages, of which the first three are used.
+/// Begins anew with a volume of `count` pages, the first three used.
 fn begin(alloc: Global, world: &mut World, count: u32) -> Result<(), Fail>
     ensures { IfOk result (λ _. IsWorld world.new) }
 {
@@ -124,7 +124,7 @@ fn begin_with_root(alloc: Global, world: &mut World) -> Result<(), Fail>
     Ok(())
 }
 
-/// Makes so many files.
+/// Makes `count` files.
 fn make_all(alloc: Global, world: &mut World, count: u32) -> Result<(), Fail>
     requires { IsWorld world.old }
     ensures { IfOk result (λ _. IsWorld world.new) }
@@ -135,7 +135,7 @@ fn make_all(alloc: Global, world: &mut World, count: u32) -> Result<(), Fail>
     Ok(())
 }
 
-/// Makes so many files and takes the name of each again: their cells stay in use.
+/// Makes `count` files and takes the name of each again: their cells stay in use.
 fn spend_all(alloc: Global, world: &mut World, count: u32) -> Result<(), Fail>
     requires { IsWorld world.old }
     ensures { IfOk result (λ _. IsWorld world.new) }
@@ -147,7 +147,7 @@ fn spend_all(alloc: Global, world: &mut World, count: u32) -> Result<(), Fail>
     Ok(())
 }
 
-/// Gives a file every second page, so many of them: how many were given.
+/// Gives a file a number of pages, every second one: how many were given.
 fn give_all(alloc: Global, world: &mut World, numbers: &[u64], out: &mut String) -> Result<(), Fail>
     requires { IsWorld world.old }
     ensures { IfOk result (λ _. IsWorld world.new) }
@@ -173,7 +173,7 @@ fn put_by(alloc: Global, world: &mut World, numbers: &[u64]) -> Result<(), Fail>
     put_in(alloc, world, tag_of(numbers), parent)
 }
 
-/// Stripes a file over so many volumes with a mark, and says the first three of them.
+/// Stripes a file over a number of volumes with a mark, and says the first three of them.
 fn stripe_by(alloc: Global, world: &mut World, numbers: &[u64]) -> Result<(), Fail>
     requires { IsWorld world.old }
     ensures { IfOk result (λ _. IsWorld world.new) }
@@ -204,8 +204,8 @@ fn describe_by(alloc: Global, world: &mut World, tag: Tag) -> Result<(), Fail>
     Ok(())
 }
 
-/// Says of a directory that its index begins at a page of the volume and has so many entries, or
-/// that it has none.
+/// Says of a directory that its index begins at a page of the volume and has a number of entries,
+/// or that it has none.
 fn index_by(alloc: Global, world: &mut World, numbers: &[u64]) -> Result<(), Fail>
     requires { IsWorld world.old }
     ensures { IfOk result (λ _. IsWorld world.new) }
@@ -342,7 +342,7 @@ fn say_told_index(world: &World, tag: Tag, out: &mut String) -> Result<(), Fail>
     }
 }
 
-/// The number of a run's first home, 0 where it has none.
+/// The number of a run's first home, 0 if it has none.
 fn first_of(place: &RunPlace) -> u64 {
     match place {
         RunPlace::At(home) => u64::from(home.page),
@@ -388,7 +388,7 @@ fn count_there(world: &World, numbers: &[u64], out: &mut String) -> Result<(), F
     say_numbers(out, &[there])
 }
 
-/// The number of a page's home: 0 where it stands nowhere.
+/// The number of a page's home: 0 if it stands nowhere.
 fn number_of(world: &World, tag: Tag, page: u32) -> u32
     requires { IsWorld world.now }
 {

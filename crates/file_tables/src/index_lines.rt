@@ -70,7 +70,7 @@ fn answer_of_words(
     }
 }
 
-/// Begins anew with a volume of so many free pages, and an index that has none.
+/// Begins anew with a volume of `count` free pages, and an index that has none.
 fn begin(alloc: Global, world: &mut World, count: u32) -> Result<(), Fail>
     ensures { IfOk result (λ _. IsIndexOn (pages_of world.new.pages.entries.items) world.new.space
         world.new.first) }
@@ -123,7 +123,7 @@ fn put_by(alloc: Global, world: &mut World, numbers: &[u64], out: &mut String) -
     say_whether(out, &[put(world, small(numbers, 0), page)])
 }
 
-/// The mark of an index's page, 255 where there is none.
+/// The mark of an index's page, 255 if there is none.
 fn mark_at(pages: &MemoryPages, first: &Option<Home>, number: u32) -> u8
     requires { HasIndexHomes (pages_of pages.now.entries.items) first.now }
 {
@@ -136,7 +136,7 @@ fn mark_at(pages: &MemoryPages, first: &Option<Home>, number: u32) -> u8
     }
 }
 
-/// Says the marks of the first four pages, 255 where there is none, and how many pages there are.
+/// Says the marks of the first four pages, 255 if there is none, and how many pages there are.
 fn say_marks(pages: &MemoryPages, first: &Option<Home>, out: &mut String) -> Result<(), Fail>
     requires { HasIndexHomes (pages_of pages.now.entries.items) first.now }
 {
@@ -179,7 +179,7 @@ fn first_page_goes_in(
     say_page_gone(world, numbers, out)
 }
 
-/// Says what is seen where the first page of an index goes, on a volume of 64.
+/// Says what is seen if the first page of an index goes, on a volume of 64.
 fn first_page_goes(alloc: Global, numbers: &[u64], out: &mut String) -> Result<(), Fail> {
     let mut world = new_world(alloc, 64)?;
     first_page_goes_in(alloc, &mut world, numbers, out)

@@ -11,7 +11,7 @@ use stored_set::{
     count_index_of, index_page_of, insert_index_page, one_set_is_shown, remove, write_index_page,
 };
 
-/// A page that says that it has so many entries, and whose first entry's hash is that number too.
+/// A page that says that it has `entries` entries, and whose first entry's hash is that number too.
 pub fn index_page(alloc: Global, entries: u8) -> Result<Page, Fail> {
     let mut page = Page::zeros(alloc)?;
     page.set(4, &[entries]);
@@ -28,7 +28,7 @@ fn start(alloc: Global, world: &mut World) -> Result<Tag, Fail>
     Ok(tag)
 }
 
-/// Puts a page with so many entries into the index, which has so many pages.
+/// Puts a page with `entries` entries into the index, which has `count` pages.
 fn put_in(
     alloc: Global,
     world: &mut World,
@@ -85,7 +85,7 @@ fn write(
     Ok(())
 }
 
-/// The byte of the first entry of a page of the index; 0 where it has no such page.
+/// The byte of the first entry of a page of the index; 0 if it has no such page.
 fn first_of(world: &World, tag: Tag, count: u32, number: u32) -> u8
     requires { HasIndex world.now tag count }
 {
@@ -104,7 +104,7 @@ fn first_of(world: &World, tag: Tag, count: u32, number: u32) -> u8
 }
 
 /// What is told of an index: how many pages it has, how many entries its first cell says that it
-/// has, and the first entries of its first five pages, 0 where it has fewer.
+/// has, and the first entries of its first five pages, 0 if it has fewer.
 fn tell(world: &World, tag: Tag, count: u32) -> Result<(u32, u32, [u8; 5]), Fail>
     requires { HasIndex world.now tag count }
 {
@@ -135,8 +135,8 @@ fn told_in(alloc: Global, world: &mut World) -> Result<[(u32, u32, [u8; 5]); 2],
     Ok([before, tell(world, tag, 4)?])
 }
 
-/// An index that gets its first page, one after it, one before both and one between, and of which
-/// the last page is then written anew: what is told of it before that and after.
+/// An index that gets its first page, one after it, one before both and one between. Its last page
+/// is then written anew: what is told of it before that and after.
 pub fn told(alloc: Global) -> Result<[(u32, u32, [u8; 5]); 2], Fail> {
     let mut world = empty_world(alloc)?;
     told_in(alloc, &mut world)

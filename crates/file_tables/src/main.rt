@@ -1,6 +1,6 @@
 //! Files, sets of files, indexes and chains of quota cells over pages in memory: a program that
 //! makes the calls of the lines that it reads, and prints each line with its answer. A heading with
-//! `##` names the room that the lines after it speak of. What stands in its input is what no clause
+//! `##` names the room that the lines after it speak of. Its input covers what no clause
 //! says; the functions with contracts are callers that show what the calls promise one after the
 //! other.
 #![tactic(auto)]

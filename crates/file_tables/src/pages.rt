@@ -26,7 +26,7 @@ fn start(alloc: Global, world: &mut World) -> Result<Tag, Fail>
     Ok(tag)
 }
 
-/// Adds a page to the directory, which has so many.
+/// Adds a page to the directory, which has `count`.
 fn add(alloc: Global, world: &mut World, tag: Tag, count: u32, byte: u8) -> Result<(), Fail>
     requires pages { HasPages world.old tag count }
     requires small { count < file_pages }
@@ -76,7 +76,7 @@ fn write(
     Ok(())
 }
 
-/// The first byte of a page of the directory; 0 where it has no such page.
+/// The first byte of a page of the directory; 0 if it has no such page.
 fn first_of(world: &World, tag: Tag, count: u32, number: u32) -> u8
     requires { HasPages world.now tag count }
 {
@@ -94,7 +94,7 @@ fn first_of(world: &World, tag: Tag, count: u32, number: u32) -> u8
     }
 }
 
-/// How many pages the directory has, and the first bytes of its first four, 0 where it has fewer.
+/// How many pages the directory has, and the first bytes of its first four, 0 if it has fewer.
 fn tell(world: &World, tag: Tag, count: u32) -> (u32, [u8; 4])
     requires { HasPages world.now tag count }
 {
@@ -121,8 +121,8 @@ fn told_in(alloc: Global, world: &mut World) -> Result<[(u32, [u8; 4]); 2], Fail
     Ok([before, tell(world, tag, 3)])
 }
 
-/// A directory that gets three pages, of which the second is then written anew: what is told of it
-/// before that and after.
+/// A directory that gets three pages, the second then written anew: what is told of it before that
+/// and after.
 pub fn told(alloc: Global) -> Result<[(u32, [u8; 4]); 2], Fail> {
     let mut world = empty_world(alloc)?;
     told_in(alloc, &mut world)

@@ -68,8 +68,8 @@ fn two_numbers(alloc: Global, line: &str) -> Result<(u32, u32), Fail> {
     Ok((small(numbers.as_slice(), 0), small(numbers.as_slice(), 1)))
 }
 
-/// Begins anew with a volume of so many pages without a chain, on which so many cells are used for
-/// something else.
+/// Begins anew with a volume without a chain. The line says how many pages it has, and how many of
+/// its cells are used for something else.
 fn begin(alloc: Global, scene: &mut Scene, line: &str) -> Result<(), Fail>
     ensures { IfOk result (λ _. HasChain scene.new.world scene.new.first) }
 {

@@ -1,4 +1,4 @@
-//! A volume of which no page is free: a directory gets no page, and no index.
+//! A volume without a free page: a directory gets no page, and no index.
 ghost use Rattle.std.specs.Prelude.{None, OnErr};
 ghost use Rattle.release_steps.specs.domain_base.declared.place.Kind.TheVariants.{Directory};
 ghost use Rattle.file_tables.specs.Worlds.{IsSet, only_new};
@@ -86,7 +86,7 @@ fn say_refused_in(alloc: Global, world: &mut World, out: &mut String) -> Result<
     say_left(world, tag, out)
 }
 
-/// Says what is refused on a volume of which each page is used.
+/// Says what is refused on a volume whose pages are all used.
 pub fn say_refused(alloc: Global, out: &mut String) -> Result<(), Fail> {
     let mut world = world_of(alloc, 3)?;
     say_refused_in(alloc, &mut world, out)

@@ -21,7 +21,7 @@ pub fn say_line(out: &mut String, line: &str) -> Result<(), Fail> {
     Ok(())
 }
 
-/// Answers lines, each of which names what is done.
+/// Answers lines; each names what is done.
 pub fn answer_all(alloc: Global, lines: &str, out: &mut String) -> Result<(), Fail> {
     for line in lines.lines() {
         answer(alloc, line, out)?;

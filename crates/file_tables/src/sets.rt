@@ -11,7 +11,7 @@ use stored_set::{
     add_page, count_pages_of, kind_of, links_of, make, one_set_is_shown, page_of, remove, set_links,
 };
 
-/// A world without a file, of so many pages, of which the first three are used.
+/// A world without a file, of `count` pages, the first three used.
 pub fn world_of(alloc: Global, count: u32) -> Result<World, Fail>
     requires low { 3 ≤ count }
     requires high { count ≤ 2 ^ 20 }
@@ -20,7 +20,7 @@ pub fn world_of(alloc: Global, count: u32) -> Result<World, Fail>
     new_world(alloc, count)
 }
 
-/// The same of 64 pages.
+/// A world without a file, of 64 pages, the first three used.
 pub fn empty_world(alloc: Global) -> Result<World, Fail>
     ensures { IfOk result (λ world. IsSet world (λ t. None)) }
 {

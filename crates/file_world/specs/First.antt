@@ -15,7 +15,7 @@ use Rattle.index_pages.specs.fileset_files.Together.{AreTogether}
 abbrev pub home_at : ℕ → Home
 home_at page = record { vol = 1; page = page }
 
--- so many pages, of which the first three are used
+-- `count` pages, the first three used
 abbrev pub first_map : ℕ → VolumePages
 first_map count = record { pages = count; used = insert (insert (insert empty 0) 1) 2 }
 

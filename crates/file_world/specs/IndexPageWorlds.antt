@@ -1,4 +1,4 @@
--- An index on a volume of which pages are free.
+-- An index on a volume that has free pages.
 use Rattle.std.specs.Prelude.{List, Option}
 use Rattle.index_pages.specs.domain_base.declared.place.Home.{Home}
 use Rattle.index_pages.specs.page_store.Pages.{Pages}

@@ -1,4 +1,4 @@
-//! Calls on the files of a world, after each of which all belongs together still.
+//! Calls on the files of a world, each of which keeps `AreTogether`.
 ghost use Rattle.std.specs.Prelude.{IfOk};
 ghost use Rattle.index_pages.specs.page_store.Homes.{pages_of};
 ghost use Rattle.index_pages.specs.fileset_files.Creation.{IsNewDirectory};

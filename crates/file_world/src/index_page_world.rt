@@ -24,7 +24,7 @@ fn volume() -> VolIx {
     VolIx::new(1).unwrap()
 }
 
-/// A volume of so many free pages, and an index that has none.
+/// A volume of `count` free pages, and an index that has none.
 pub fn new_world(alloc: Global, count: u32) -> Result<World, Fail>
     requires { count ≤ 2 ^ 20 }
     ensures { IfOk result (λ world. IsIndexOn (pages_of world.pages.entries.items) world.space
@@ -42,7 +42,7 @@ pub fn new_world(alloc: Global, count: u32) -> Result<World, Fail>
     })
 }
 
-/// Puts a page before that of a number, or after the last one; false where there is no such
+/// Puts a page before that of a number, or after the last one; false if there is no such
 /// place.
 pub fn insert(
     alloc: Global,
@@ -69,7 +69,7 @@ pub fn insert(
     Ok(true)
 }
 
-/// Writes the page of a number; false where there is none.
+/// Writes the page of a number; false if there is none.
 pub fn put(world: &mut World, number: u32, bytes: Page) -> bool
     requires { IsIndexOn (pages_of world.old.pages.entries.items) world.old.space world.old.first }
     ensures { IsIndexOn (pages_of world.new.pages.entries.items) world.new.space world.new.first }
@@ -84,7 +84,7 @@ pub fn put(world: &mut World, number: u32, bytes: Page) -> bool
     true
 }
 
-/// Takes the first page off; false where there is none.
+/// Takes the first page off; false if there is none.
 pub fn drop_first(world: &mut World, group: u64) -> bool
     requires { IsIndexOn (pages_of world.old.pages.entries.items) world.old.space world.old.first }
     ensures { HasIndexHomes (pages_of world.new.pages.entries.items) world.new.first }

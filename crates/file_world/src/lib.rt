@@ -1,6 +1,6 @@
 //! A world of one volume for tests of files: pages of metadata in memory, free space, free cells
-//! and the files of a fileset, with calls on them after which all belongs together still; the pages
-//! of an index on a volume; and lines of calls, read by words and numbers.
+//! and the files of a fileset, with calls that keep `AreTogether`; the pages of an index on a
+//! volume; and lines of calls, read by words and numbers.
 #![tactic(auto)]
 
 pub mod calls;

@@ -3,7 +3,7 @@
 use std::alloc::Global;
 use std::test::Fail;
 
-/// The first word of a line, which is empty where the line has none.
+/// The first word of a line, which is empty if the line has none.
 pub fn word_of(line: &str) -> &str {
     line.split_whitespace().next().unwrap_or("")
 }
@@ -25,17 +25,17 @@ pub fn numbers_of(alloc: Global, line: &str) -> Result<Vec<u64>, Fail> {
     Ok(numbers)
 }
 
-/// The number at a place; 0 where there are fewer.
+/// The number at a place; 0 if there are fewer.
 pub fn at(numbers: &[u64], place: usize) -> u64 {
     numbers.get(place).copied().unwrap_or(0)
 }
 
-/// The same, in 32 bits.
+/// The number at a place, in 32 bits.
 pub fn small(numbers: &[u64], place: usize) -> u32 {
     u32::try_from(at(numbers, place)).unwrap_or(u32::MAX)
 }
 
-/// The same, in a byte.
+/// The number at a place, in a byte.
 pub fn byte(numbers: &[u64], place: usize) -> u8 {
     u8::try_from(at(numbers, place)).unwrap_or(u8::MAX)
 }
@@ -58,7 +58,7 @@ pub fn say_numbers(out: &mut String, numbers: &[u64]) -> Result<(), Fail> {
     Ok(())
 }
 
-/// Says of each of some things whether it is so, after a colon.
+/// Says whether each of some things is the case, after a colon.
 pub fn say_whether(out: &mut String, all: &[bool]) -> Result<(), Fail> {
     out.push(':')?;
     for is_so in all {

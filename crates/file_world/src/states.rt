@@ -85,7 +85,7 @@ pub fn describe(alloc: Global, world: &mut World, tag: Tag) -> Result<Attributes
     Ok(value)
 }
 
-/// An index of so many entries that begins at that page of the volume, or none for page 0.
+/// An index of `entries` entries that begins at that page of the volume, or none for page 0.
 pub fn index_at(page: u32, entries: u32) -> Option<IndexPlace> {
     if page == 0 {
         return None;

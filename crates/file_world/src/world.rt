@@ -63,7 +63,7 @@ fn first_cells(alloc: Global, pages: &MemoryPages) -> Result<FreeCells, OutOfMem
     Ok(cells)
 }
 
-/// A bitmap of so many pages, of which the first three are used.
+/// A bitmap of `count` pages, the first three used.
 fn first_map(alloc: Global, count: u32) -> Result<Bitmap, OutOfMemory>
     requires { 3 ≤ count }
     ensures { IfOk result (λ map. map ≡ first_map_of count) }
@@ -75,7 +75,7 @@ fn first_map(alloc: Global, count: u32) -> Result<Bitmap, OutOfMemory>
     Ok(map)
 }
 
-/// The free space of the volume, of so many pages.
+/// The free space of the volume, of `count` pages.
 fn first_space(alloc: Global, count: u32) -> Result<FreeSpace, Fail>
     requires low { 3 ≤ count }
     requires high { count ≤ 2 ^ 20 }
@@ -89,7 +89,7 @@ fn first_space(alloc: Global, count: u32) -> Result<FreeSpace, Fail>
     }
 }
 
-/// A fileset with no file on a volume of so many pages, of which the first three are used.
+/// A fileset with no file on a volume of `count` pages, the first three used.
 pub fn new_world(alloc: Global, count: u32) -> Result<World, Fail>
     requires low { 3 ≤ count }
     requires high { count ≤ 2 ^ 20 }

@@ -391,7 +391,7 @@ module _ (fileset : ℕ) (places : List TagPlace) (tag : Tag) (at : CellAt) (rec
     once = λ s t p q h a b. are.once s t p q h (was_there s p h a) (was_there t q h b);
   }
 
--- a tag that can be taken has the sequence behind its slot's last
+-- a tag that can be taken has the sequence after its slot's last
 next_behind : (pages : Pages) (places : List TagPlace) (tag : Tag) → CanTakeTag pages places tag → tag.seq ≡ last_sequence pages places tag.slot + 1
 next_behind pages places tag can = by_entry (entry_at pages places tag.slot) can.1
   where
@@ -476,7 +476,7 @@ module _ (fileset : ℕ) (places : List TagPlace) (tag : Tag) (at : CellAt) (cha
         enters.elsewhere h (false_from_ne_true (same_home h (home_of at)) (λ same. out (subst (λ (h : Home). Contains (table_of cells_now h.vol) h.page) (sym (homes_same h (home_of at) same)) prepared.on)))
         ∙ enters.sets.elsewhere h (off_slot places tag.slot h none) ∙ prepared.elsewhere h out none
 
--- after a cell was handed out, where a tag could be taken
+-- after a cell was handed out, if a tag could be taken
 module _ (prefer : ℕ) (at : CellAt) (old between : Pages) (fileset : ℕ) (places : List TagPlace) (chains : Chains) (space space_now : Spaces) (cells cells_now : Cells) (low : 1 ≤ at.vol) (are : AreTogether fileset places space cells old chains)
     (takes : Takes prefer at space space_now cells cells_now old between) (allocated : AreAllocated space_now cells_now between) (zeros : cell_at between at ≡ Some (zero_bytes 292)) where
   pub after_cell : AreTogether fileset places space_now cells_now between chains

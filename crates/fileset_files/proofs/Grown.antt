@@ -97,7 +97,7 @@ module _ (page : ℕ) (place : PagePlace) (chain : List PlacedCell) (prefer : �
       (λ one. one_tables prefer space space_now cells cells_now old one.1 vol p on)
       taken
 
-  -- and a page that is held and on none stays so
+  -- and a page that is held and on none is still held and on none
   pub apart_grows : (h : Home) → IsHeldApart space cells h → IsHeldApart space_now cells_now h
   apart_grows h is = ⊎_elim
       (λ same. subst (λ (s : Spaces). IsHeldApart s cells_now h) (sym same.0) (subst (λ (c : Cells). IsHeldApart space c h) (sym same.1) is))

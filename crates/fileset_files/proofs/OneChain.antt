@@ -26,7 +26,7 @@ use Rattle.fileset_files.specs.Files.{AreApart, AreFiles, Chains, HasFirstKinds,
 use Rattle.fileset_files.proofs.OneFile.{tags_same}
 use Rattle.fileset_files.proofs.Tags.{cell_same, directory_same, pages_same}
 
--- ---- a file of which each cell stands
+-- ---- a file all of whose cells stand
 
 pub follow_by : (new old : Pages) (head : CellHead) (cs : List PlacedCell) → AllByRecursion (λ (c : PlacedCell). StandsAt new c.at c.cell) cs → Follow old head cs → Follow new head cs
 follow_by new old head [] stand follow = follow

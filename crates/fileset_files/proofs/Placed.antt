@@ -1,4 +1,4 @@
--- What a file is of which a page stands at another place, and a new one.
+-- What a file is after one of its pages moves to another place, or it gets a new one.
 use Rattle.std.proofs.Common.{◌≡◌, ◌∙◌, ℕ, Bool, true, false, cond, nat_le, not, List, [], ◌∷◌, Option, Some, None, refl, sym, ap, arith, ⊎_elim}
 use Rattle.std.proofs.lemmas.Bool.{cases_Bool}
 use Rattle.std.specs.Option.{option_and_then, option_map}

@@ -52,7 +52,7 @@ ChangesFirst (Some (first ∷ rest)) old new = LeavesOthers (is_at first.at) old
     × ((home : Home) → same_home home (home_of first.at) ≡ false → new home ≡ old home)
 ChangesFirst _ old new = new ≡ old
 
--- the files of which the tag's is changed so
+-- the files with this change to the tag's file
 abbrev pub with_chain : Tag → (List PlacedCell → List PlacedCell) → Chains → Chains
 with_chain tag change chains = λ t. if same_tag t tag then option_map change (chains t) else chains t
 

@@ -79,11 +79,11 @@ pub record Creates (fileset : ℕ) (places : List TagPlace) (tag : Tag) (version
   pub together : AreTogether fileset places space cells_now new
       (with_new tag (first ∷ []) chains)
 
--- the last sequence that a tag of a slot had, and 0 where none had one
+-- the last sequence that a tag of a slot had, and 0 if none had one
 abbrev pub last_sequence : Pages → List TagPlace → ℕ → ℕ
 last_sequence pages places slot = unwrap_or (sequence_of pages places slot) 0
 
--- the tag has the sequence behind the last one of its slot, and no other slot's rises
+-- the tag has the sequence after the last one of its slot, and no other slot's rises
 pub record TakesNext (tag : Tag) (places places_now : List TagPlace) (old new : Pages) : Type 0 where
   pub next : tag.seq ≡ last_sequence old places tag.slot + 1
   pub sequences : (slot : ℕ) → last_sequence new places_now slot
@@ -150,7 +150,7 @@ LeavesBeside cells places old new = (home : Home) → ¬ Contains (table_of cell
 abbrev pub root_tag : Tag
 root_tag = record { slot = 1; seq = 1 }
 
--- the tag directory of a new fileset: one page, no entry of which was ever used
+-- the tag directory of a new fileset: one page, whose entries were never used
 pub record IsNewDirectory (pages : Pages) (places : List TagPlace) : Type 0 where
   pub home : Home
   pub one : places ≡ record { index = 0; home = home } ∷ []

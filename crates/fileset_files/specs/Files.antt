@@ -110,7 +110,7 @@ pub record AreFiles (fileset : ℕ) (places : List TagPlace) (pages : Pages) (ch
   pub apart : (s t : Tag) → same_tag s t ≡ false
       → IfSome (chains s) (λ xs. IfSome (chains t) (AreApart xs))
 
--- the pages are so for some chains
+-- there are chains for which this holds of the pages
 abbrev pub HasFiles : ℕ → List TagPlace → Pages → Type 0
 HasFiles fileset places pages = (chains : Chains) × AreFiles fileset places pages chains
 

@@ -23,7 +23,7 @@ index_place_in _ = None
 abbrev pub index_place_of : List PlacedCell → Option IndexPlace
 index_place_of cells = option_and_then index_place_in (first_record 9 cells)
 
--- the record that says so
+-- the record that names this index
 abbrev pub index_record : IndexPlace → Record
 index_record index = written.DirIndex index.first.vol index.first.page index.entries
 

@@ -1,4 +1,4 @@
--- What a file of which a page gets another home changes.
+-- What a file changes when one of its pages gets another home.
 use Rattle.std.specs.Prelude.{◌≡◌, ℕ, List, IsSome}
 use Rattle.file_chains.specs.domain_base.declared.place.Home.{Home}
 use Rattle.file_chains.specs.domain_base.declared.place.Tag.{Tag}

@@ -27,7 +27,7 @@ pub record MayGrow (tag : Tag) (page : ℕ) (chains : Chains) : Type 0 where
   pub absent : place_at chains tag page ≡ Absent
 
 -- a free page is taken for the file with that chain, of the preferred volume if that has one, and
--- a cell where no record of the chain can have the page there
+-- a cell too if no record of the chain can have the page there
 pub record TakesHome (prefer page : ℕ) (home : Home) (chain : List PlacedCell)
     (space space_now : Spaces) (cells cells_now : Cells) (old : Pages) : Type 0 where
   pub free : CanTake space home.vol home.page
@@ -52,7 +52,7 @@ GetsNone page chain space space_now cells NoPage =
     × (space_now ≡ missed space)
 GetsNone page chain space space_now cells OutOfMemory = space_now ≡ space
 
--- the page at the home is given back, where no cell was found for it or memory was short
+-- the page at the home is given back, because no cell was found for it or memory was short
 pub record IsGivenBack (home : Home) (space space_now : Spaces) (cells : Cells) (fault : StoreFault)
     : Type 0 where
   pub between : Spaces

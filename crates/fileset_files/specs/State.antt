@@ -70,7 +70,7 @@ States = Tag → Option FileState
 abbrev pub states_of : Chains → States
 states_of chains = λ tag. option_and_then state_of (chains tag)
 
--- the same with this file at the tag, with the tag's file changed, and without it
+-- the states with this file at the tag
 abbrev pub with_state : Tag → FileState → States → States
 with_state tag state states = λ t. if same_tag t tag then Some state else states t
 

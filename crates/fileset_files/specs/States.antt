@@ -81,7 +81,7 @@ placed page place state = record state { places = with_place page place state.pl
 abbrev pub to_remove : FileState → FileState
 to_remove state = record state { pending = Some Remove }
 
--- the file with that size, which keeps so many pages, if there is a number, and of which pages are
+-- the file with that size; if a number is given, it keeps that number of pages, and pages of it are
 -- then to be let go
 abbrev pub cut : ℕ → Option ℕ → FileState → FileState
 cut size None state =

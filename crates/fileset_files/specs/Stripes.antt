@@ -19,7 +19,7 @@ stripe_in _ = None
 abbrev pub stripe_of : List PlacedCell → Option Stripe
 stripe_of cells = option_and_then stripe_in (first_record 11 cells)
 
--- the record that says so
+-- the record that says this stripe
 abbrev pub stripe_record : Stripe → Record
 stripe_record stripe = written.Stripe stripe.width stripe.mark stripe.vols
 

@@ -17,7 +17,7 @@ pub record IsHeldApart (space : Spaces) (cells : Cells) (home : Home) : Type 0 w
   pub held : IsHeld space home.vol home.page
   pub off_table : ¬ Contains (table_of cells home.vol) home.page
 
--- the same, and it is no page of the tag directory
+-- a page that is used, does not wait, is none of cells, and is no page of the tag directory
 pub record IsFilePage (space : Spaces) (cells : Cells) (places : List TagPlace) (home : Home)
     : Type 0 where
   pub apart : IsHeldApart space cells home
@@ -28,7 +28,8 @@ abbrev pub AreTagPages : Spaces → Cells → List TagPlace → Type 0
 AreTagPages space cells places =
     (home : Home) → has_home places home ≡ true → IsHeldApart space cells home
 
--- so is each home that a file has, and no page of the tag directory stands there
+-- each home that a file has is held and none of cells, and no page of the tag directory stands
+-- there
 abbrev pub AreFilePages : Spaces → Cells → List TagPlace → Chains → Type 0
 AreFilePages space cells places chains = (tag : Tag) (page : ℕ) (home : Home)
     → place_at chains tag page ≡ At home → IsFilePage space cells places home
@@ -53,7 +54,7 @@ pub record AreTogether (fileset : ℕ) (places : List TagPlace) (space : Spaces)
   pub file_pages : AreFilePages space cells places chains
   pub once : IsEachHomeOnce chains
 
--- some files are so
+-- there are files for which all this holds
 abbrev pub HasTogether : ℕ → List TagPlace → Spaces → Cells → Pages → Type 0
 HasTogether fileset places space cells pages =
     (chains : Chains) × AreTogether fileset places space cells pages chains

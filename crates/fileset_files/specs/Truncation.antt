@@ -21,11 +21,11 @@ use Rattle.fileset_files.specs.Changes.{with_chain, with_first}
 use Rattle.fileset_files.specs.Files.{AreFiles, Chains, keep_of}
 use Rattle.fileset_files.specs.Together.{AreTogether}
 
--- how many pages so many bytes lie in
+-- how many pages this number of bytes takes up
 abbrev pub pages_in : ℕ → ℕ
 pages_in size = size / 8192 + min 1 (size % 8192)
 
--- there is a page from one on and in front of another
+-- there is a page from one on and before another
 pub record HasPageWithin (from to : ℕ) (places : Places) : Type 0 where
   pub page : ℕ
   pub begins : from ≤ page
@@ -44,7 +44,8 @@ IsLowered size chain (Some from) = (from ≡ pages_in size)
 IsLowered size chain None =
     IsSomeAnd (keep_of chain) (λ keep. ¬ HasPageWithin (pages_in size) keep (places_of chain))
 
--- a record of attributes that says this size and, if there is a number, that it keeps so many pages
+-- a record of attributes that says this size and, if a number is given, that it keeps that number
+-- of pages
 abbrev pub resized : ℕ → Option ℕ → Record → Record
 resized size lowered (written.Attributes kind uid gid flags was keep links birth unsynced) =
     written.Attributes kind uid gid flags size (unwrap_or lowered keep) links birth unsynced
@@ -60,7 +61,7 @@ says_truncated size None cell = says_size size None cell
 says_truncated size (Some keep) cell =
     with_record 6 (Some (written.Pending Trim)) (says_size size (Some keep) cell)
 
--- the first cell of a chain, where it says that something is left to be done
+-- the first cell of a chain, if it says that something is left to be done
 abbrev pub pending_cell : List PlacedCell → Option CellAt
 pending_cell [] = None
 pending_cell (first ∷ rest) = option_map (λ _. first.at) (record_of 6 first.cell.records)

@@ -136,8 +136,8 @@ pub fn one_stripe_is_set()
 {}
 
 /// What calls tell of a tag's file is what the map of files says: its attributes, how many pages it
-/// keeps, where its index begins and where each page stands. The first three are told of a file
-/// that is not to be removed.
+/// keeps, where its index begins and where each page stands. The first three are told only of a
+/// file that is not to be removed.
 pub fn files_are_told()
     ensures attributes { (fileset : ℕ) (places : List TagPlace) (space : Spaces) (cells : Cells)
         (pages : Pages) (tag : Tag) (states : States) (told : Option Attributes)

@@ -1,4 +1,4 @@
--- A page that is put behind the last one of an index is one that is inserted there.
+-- A page that is put after the last one of an index is inserted there.
 use Rattle.std.proofs.Common.{◌≡◌, ◌∙◌, ◌+◌, ◌≤◌, ℕ, zero, suc, Option, Some, None, List, [], ◌∷◌, ◌++◌, length, take, drop, insert, refl, sym, ap, arith}
 use Rattle.std.specs.Option.{option_map_or}
 use Rattle.domain_memory.specs.domain_base.declared.place.Tag.{Tag}

@@ -64,7 +64,7 @@ module _ (fileset : ℕ) (places : List TagPlace) (space : Spaces) (cells : Cell
   pub of_each : (held : ∥ HasSet fileset places space cells pages ∥₁) (P : Bitfiles → Type 0) → P (shown fileset places space cells pages held) → (set : Bitfiles) → StandsAsSet fileset places space cells pages set → P set
   of_each held P p set was = subst P (shown_is fileset places space cells pages held set was) p
 
--- a set stands still where no page, no free space and no name of the files has changed
+-- a set still stands if no page, no free space and no name of the files has changed
 pub still : (files files_now : Files) (space space_now : Spaces) (cells : Cells) (old new : Pages) (set : Bitfiles) → StandsAsSet files.fileset files.tags space cells old set → files_now ≡ files → space_now ≡ space → new ≡ old
     → StandsAsSet files_now.fileset files_now.tags space_now cells new set
 still files files_now space space_now cells old new set was files_are space_is pages_are =

@@ -1,4 +1,4 @@
--- What lending the files of a fileset asks, where it is known that memory is that of a domain.
+-- What lending the files of a fileset asks, if it is known that memory is that of a domain.
 use Rattle.std.proofs.Common.{◌≡◌, ◌<◌, ◌≤◌, ℕ, zero, suc, true, List, [], ◌∷◌, Option, Some, None, IfSome, IsSomeAnd, length, slice_get, refl, sym, ap, subst, arith, ⊎_elim, true≢false}
 use Rattle.std.proofs.Math.Logic.{∥∥₁_elim, ∥∥₁_map₂}
 use Rattle.std.proofs.lemmas.Bool.{cases_lt}

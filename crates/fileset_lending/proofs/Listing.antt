@@ -1,4 +1,4 @@
--- Files that come on the list behind others.
+-- Files that come on the list after others.
 use Rattle.std.proofs.Common.{◌≡◌, ◌++◌, List, [], ◌∷◌, refl, sym, subst}
 use Rattle.domain_memory.specs.domain_base.declared.place.CellAt.{CellAt}
 use Rattle.domain_memory.specs.release_list.Listing.{Listing}

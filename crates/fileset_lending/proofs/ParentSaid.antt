@@ -38,7 +38,7 @@ use Rattle.domain_memory.specs.stored_set.Standing.{StandsShown}
 use Rattle.domain_memory.specs.stored_set.Whole.{AreWholeDirectories, IsWholeAt, IsWholeDirectory}
 use Rattle.domain_memory.specs.stored_set.Sets.{StandsAsSet}
 
--- what a first cell says beside in which directory it stands
+-- what a first cell says besides in which directory it stands
 pub record SaysElse (before after : List PlacedCell) : Type 0 where
   pub removed : is_removed after ≡ is_removed before
   pub attributes : attributes_of after ≡ attributes_of before

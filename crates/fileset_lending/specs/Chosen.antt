@@ -12,7 +12,7 @@ use Rattle.domain_memory.specs.declared.memory.DomainMemory.{DomainMemory}
 use Rattle.fileset_lending.specs.declared.chosen.Chosen.{Chosen}
 
 -- the set is that of the files in a slot of memory, over its pages, free space and free cells, and
--- lists what is taken away behind what memory has listed; all else is as memory has it
+-- lists what is taken away after what memory has listed; all else is as memory has it
 pub record Lends (memory : DomainMemory) (number : ℕ) (settings : CallSettings) (chosen : Chosen)
     : Type 0 where
   pub slot : slot_in memory.slots.items number ≡ Some (record {

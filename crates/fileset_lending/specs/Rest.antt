@@ -17,7 +17,7 @@ use Rattle.set_standing.specs.Parts.{KeepsAround, Parts}
 use Rattle.set_standing.proofs.PartsKept.{both_kept, none_kept}
 use Rattle.fileset_lending.specs.declared.parts.CallSettings.{CallSettings}
 
--- cells are listed behind those that were
+-- cells are listed after those that were
 abbrev pub Lists : List CellAt → List CellAt → Type 0
 Lists removed removed_now = (more : List CellAt) × (removed ++ more ≡ removed_now)
 
@@ -38,8 +38,8 @@ pub record KeepsKept (parts parts_now : Parts) : Type 0 where
   pub marks : (vol : ℕ) → is_closed parts_now.cells vol ≡ is_closed parts.cells vol
 
 -- the fileset's number, what calls are given and the pages that a change is taken back to are as
--- they were, and so are the cells that were listed, behind which more may be, and what is kept of
--- free space and free cells; and whatever domain stood around the fileset does still, once those
+-- they were, and so are the cells that were listed, perhaps with more after them, and what is kept
+-- of free space and free cells; and whatever domain stood around the fileset does still, once those
 -- cells are on its list, with directories that say what they said or what was said of them
 pub record LeavesRest (said : Said) (fileset fileset_now : ℕ) (settings settings_now : CallSettings)
     (before before_now : Pages) (removed removed_now : List CellAt) (parts parts_now : Parts)
@@ -51,7 +51,7 @@ pub record LeavesRest (said : Said) (fileset fileset_now : ℕ) (settings settin
   pub kept : KeepsKept parts parts_now
   pub around : KeepsAround said fileset settings.version settings.born lists.0 parts parts_now
 
--- where nothing is changed, all is so
+-- if nothing is changed, all of this holds
 pub rest_is : (fileset : ℕ) (settings : CallSettings) (before : Pages) (removed : List CellAt)
     (parts : Parts)
     → LeavesRest None fileset fileset settings settings before before removed removed parts parts
@@ -90,7 +90,7 @@ rest_joined said f g h s t u p q r a b c x y z first then = record {
       first.same_settings then.around));
 }
 
--- the tag names nothing any more, and the cell at which its chain begins is listed behind the
+-- the tag names nothing any more, and the cell at which its chain begins is listed after the
 -- others: that says that all of the file or directory is to be let go of, and names no index
 pub record TakesAway (fileset : ℕ) (places : List TagPlace) (tag : Tag) (chains : Chains)
     (removed removed_now : List CellAt) (new : Pages) : Type 0 where

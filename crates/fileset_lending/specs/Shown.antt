@@ -1,4 +1,4 @@
--- The set that a fileset's files are shown as, where it is known that there is one.
+-- The set that a fileset's files are shown as, if it is known that there is one.
 use Rattle.std.specs.Prelude.{◌≡◌, ℕ, List}
 use Rattle.std.proofs.Common.{subst}
 use Rattle.domain_memory.specs.page_store.Bitfiles.{AreBitfiles, Bitfiles}

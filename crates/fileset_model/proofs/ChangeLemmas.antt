@@ -1,4 +1,4 @@
--- Sorted lists and the maps that they make, where entries are taken away or a file is cut.
+-- Sorted lists and the maps that they make, if entries are taken away or a file is cut.
 use Rattle.std.proofs.Common.{◌≡◌, ℕ, ◌-◌, ◌*◌, ◌/◌, ◌%◌, ◌==◌, ◌&&◌, nat_lt, Bool, true, false, cond, if◌then◌else◌, not, List, IsTrue, Option, Some, None, length, take, take_all, drop, length-drop, arith, refl, sym, ap, ◌∙◌}
 use Rattle.std.proofs.lemmas.List.{drop-replicate}
 use Rattle.std.specs.declared.cmp.Ordering.{Ordering}
@@ -100,7 +100,7 @@ module _ (paths : List (Path × ℕ)) (nodes : List (ℕ × Node)) (limits : Lis
 abbrev pub cut_page : ℕ → List ℕ → List ℕ
 cut_page size page = overwritten page (size % 8192) (zero_bytes (8192 - size % 8192))
 
--- the entries with that page cut, where it is there
+-- the entries with that page cut, if it is there
 abbrev pub cut_entries : ℕ → List (ℕ × List ℕ) → List (ℕ × List ℕ)
 cut_entries size es = option_map_or (λ page. put nat_cmp (size / 8192) (cut_page size page) es) (find nat_cmp (size / 8192) es) es
 

@@ -44,7 +44,7 @@ has_clone all name = list_any (λ slot. is_clone_of name slot.role) (map.values 
 
 -- ---- the refusals of each command, in their order
 
--- the first refusal of the checks in the fileset with this name, and no-fileset where there is none
+-- the first refusal of the checks in the fileset with this name, and no-fileset if there is none
 abbrev pub in_fileset : FilesetMap → Name → (FilesetSlot → List (Option Refusal)) → Option Refusal
 in_fileset all name checks =
     option_map_or (λ slot. first_refusal (checks slot)) (map.get all name) (Some NoFileset)
@@ -251,7 +251,7 @@ abbrev pub is_named_elsewhere : Fileset → Path → ℕ → Bool
 is_named_elsewhere tree path number =
     list_any (λ e. e.1 == number && not (same_path e.0 path)) (map.entries tree.paths)
 
--- the tree without a path, and without what stands there where that was its last path
+-- the tree without a path, and without what stands there if that was its last path
 abbrev pub without : Path → Fileset → Fileset
 without path tree =
     option_map_or
@@ -280,7 +280,7 @@ moved from to tree = record tree {
   paths = map.from_entries (map (λ e. (moved_path from to e.0, e.1)) (map.entries tree.paths));
 }
 
--- the tree after a rename, which changes nothing where both paths lead to one number
+-- the tree after a rename, which changes nothing if both paths lead to one number
 abbrev pub renamed : Path → Path → Fileset → Fileset
 renamed from to tree = if names_one tree from to then tree else moved from to (without to tree)
 
@@ -323,8 +323,8 @@ with_clone all name new_name =
     }))
     (map.get all name) all
 
--- the filesets after a command that is not refused; of a command on volumes they tell nothing, so
--- nothing is an answer to it
+-- the filesets after a command that is not refused; they tell nothing about a command on volumes,
+-- so nothing is an answer to it
 abbrev pub Changes : FilesetMap → Command → FilesetMap → Type 0
 Changes all (Mkfset fileset) new =
     (root : ℕ)

@@ -11,7 +11,7 @@ use Rattle.fileset_values.specs.domain_base.declared.limits.TheConstants.{PAGE_B
 abbrev pub Pages : Type 0
 Pages = FinMap nat_cmp (List ℕ)
 
--- what is read at an offset: a byte of the page there, or 0 where there is no page
+-- what is read at an offset: a byte of the page there, or 0 if there is no page
 abbrev pub byte_at : Pages → ℕ → ℕ
 byte_at pages x =
     option_map_or (λ page. slice_index page (x % PAGE_BYTES)) (get pages (x / PAGE_BYTES)) 0
@@ -21,19 +21,19 @@ abbrev pub bytes_between : Pages → ℕ → ℕ → ℕ → List ℕ
 bytes_between pages size offset count =
     map (byte_at pages) (range_with_len offset (min count (size - offset)))
 
--- the numbers of the pages that so many bytes from the offset on lie in
+-- the numbers of the pages in which `len` bytes from the offset on lie
 abbrev pub pages_of : ℕ → ℕ → List ℕ
 pages_of offset len =
     let first = offset / PAGE_BYTES in
     let last = (offset + len - 1) / PAGE_BYTES in
     if len == 0 then [] else range_with_len first (suc last - first)
 
--- how many of the pages that so many bytes from the offset on lie in are absent
+-- how many of the pages in which `len` bytes from the offset on lie are absent
 abbrev pub absent_pages : Pages → ℕ → ℕ → ℕ
 absent_pages pages offset len = count_by (λ q. not (contains_key pages q)) (pages_of offset len)
 
 -- page q after a write of the bytes at the offset: those of them that lie in it are laid over it,
--- or over zeros where it was absent
+-- or over zeros if it was absent
 abbrev pub page_after : Pages → ℕ → List ℕ → ℕ → List ℕ
 page_after pages offset bytes q =
     let at = offset - q * PAGE_BYTES in
@@ -51,8 +51,8 @@ written pages offset bytes =
     with_pages
     (map (λ q. (q, page_after pages offset bytes q)) (pages_of offset (length bytes))) pages
 
--- what is left of the pages of a file that is cut: none that begins behind its end, and nothing but
--- zeros behind its end in the last one
+-- what is left of the pages of a file that is cut: none that begins after its end, and nothing but
+-- zeros after its end in the last one
 abbrev pub truncated : Pages → ℕ → Pages
 truncated pages size =
     let kept = retain_keys pages (λ q. nat_lt (q * PAGE_BYTES) size) in

@@ -28,7 +28,7 @@ first_refusal [] = None
 first_refusal (None ∷ checks) = first_refusal checks
 first_refusal (Some refusal ∷ checks) = Some refusal
 
--- the refusal, where the test answers true
+-- the refusal, if the test answers true
 abbrev pub refuse_if : Bool → Refusal → Option Refusal
 refuse_if test refusal = if test then Some refusal else None
 
@@ -45,7 +45,7 @@ abbrev pub is_out_of_sync : Role → ℕ → Bool
 is_out_of_sync Original number = false
 is_out_of_sync (CloneOf original out) number = contains_key out number
 
--- the same of what a path leads to
+-- whether what a path leads to lost its frozen content
 abbrev pub is_out_of_sync_at : FilesetSlot → Path → Bool
 is_out_of_sync_at slot path =
     option_map_or (is_out_of_sync slot.role) (get slot.tree.paths path) false
@@ -66,13 +66,13 @@ directories_to path = map (λ count. take count path) (range_with_len 0 (length 
 abbrev pub walk_refusal : FilesetSlot → Path → Option Refusal
 walk_refusal slot path = first_refusal (map (directory_refusal slot) (directories_to path))
 
--- the same, and no-path where the last name is missing
+-- what the way to a path's last name refuses, and no-path if that name is missing
 abbrev pub target_refusal : FilesetSlot → Path → Option Refusal
 target_refusal slot path =
     first_refusal
     (walk_refusal slot path ∷ refuse_if (not (contains_key slot.tree.paths path)) NoPath ∷ [])
 
--- the refusal where a path leads to a directory, and the one where it leads to a file
+-- the refusal if a path leads to a directory, and the one if it leads to a file
 abbrev pub directory_here : FilesetSlot → Path → Option Refusal
 directory_here slot path =
     refuse_if (option_map_or is_directory (node_at slot.tree path) false) IsDirectory
@@ -86,7 +86,7 @@ file_here slot path =
 abbrev pub begins_with : Path → Path → Bool
 begins_with path front = starts_with same_name path front
 
--- the name below the directory at `parent`, where the path is one more name long and begins with it
+-- the name below the directory at `parent`, if the path begins with `parent` and is one name longer
 abbrev pub name_below : Path → Path → Option Name
 name_below parent path = last_of (if begins_with path parent then drop (length parent) path else [])
   where

@@ -46,7 +46,7 @@ used_files tree who = length (owned tree who)
 abbrev pub used_blocks : Fileset → Owner → ℕ
 used_blocks tree who = sum_by (λ e. blocks_of e.1) (owned tree who)
 
--- an owner's limits, of which 0 is none
+-- an owner's limits; 0 is no limit
 abbrev pub limits_of : Fileset → Owner → Limits
 limits_of tree who = unwrap_or (map.get tree.limits who) (record { files = 0; blocks = 0 })
 
@@ -54,12 +54,12 @@ limits_of tree who = unwrap_or (map.get tree.limits who) (record { files = 0; bl
 abbrev pub is_unlimited : Limits → Bool
 is_unlimited limits = limits.files == 0 && limits.blocks == 0
 
--- the limits of owners with these of one of them, who has no entry where they bind nothing
+-- the limits of owners with these of one of them, who has no entry if they bind nothing
 abbrev pub with_limits : map.FinMap owner_cmp Limits → Owner → Limits → map.FinMap owner_cmp Limits
 with_limits all who limits =
     if is_unlimited limits then map.remove all who else map.insert all who limits
 
--- whether so many more would pass a limit
+-- whether `asked` more would pass a limit
 abbrev pub passes : ℕ → ℕ → ℕ → Bool
 passes limit used asked = not (limit == 0) && not (asked == 0) && nat_lt limit (used + asked)
 
@@ -75,7 +75,7 @@ blocks_refusal tree who asked =
     let used = used_blocks tree who in
     refuse_if (passes limit used asked) (QuotaBlocks limit used asked)
 
--- the check of so many more files and blocks, for the user, the group and the fileset in turn
+-- the check of `files` and `blocks` more, for the user, the group and the fileset in turn
 abbrev pub quota_refusal : Fileset → ℕ → ℕ → ℕ → ℕ → Option Refusal
 quota_refusal tree uid gid files blocks =
     first_refusal (of (User uid) ∷ of (Group gid) ∷ of WholeFileset ∷ [])

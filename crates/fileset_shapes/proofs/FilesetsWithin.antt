@@ -1,4 +1,4 @@
--- Pages that agree on the pages of members have the same filesets, where no rule is broken.
+-- Pages that agree on the pages of members have the same filesets, if no rule is broken.
 use Rattle.std.proofs.Common.{◌≡◌, ◌∙◌, ◌≤◌, ◌^◌, ℕ, List, [], Option, Some, None, IfSome, IsSome, IsSomeAnd, refl, sym, ap, subst}
 use Rattle.std.specs.Prelude.{slice_get, unwrap_or}
 use Rattle.std.specs.Option.{option_and_then}

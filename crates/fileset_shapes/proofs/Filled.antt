@@ -82,7 +82,7 @@ apart m n h =
       | false ↦ rw not_same
     ]
 
--- the pages in front of a number are what stands at their homes, and the file has no other
+-- the pages before a number are what stands at their homes, and the file has no other
 pub record AreFilledTo (pages : Stored) (homes : List (Option Home)) (number : ℕ) (map : Pages) : Type 0 where
   pub front : (page : ℕ) → page < number → map_of.get map page ≡ stored_at pages homes page
   pub none : (page : ℕ) → number ≤ page → map_of.get map page ≡ None

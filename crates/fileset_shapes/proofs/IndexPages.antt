@@ -100,7 +100,7 @@ map_twice pages [] = refl
 map_twice pages (home ∷ rest) = ap (λ list. shown_index (bytes_at pages home) ∷ list) (map_twice pages rest)
 
 module _ (pages : Pages) (frame : Frame) (first : Home) (whole : IsReadIndex pages frame first) where
-  -- the homes of all pages, of which a list has what a set shows behind those that were passed
+  -- the homes of all pages, and a list that has what a set shows after those that were passed
   record ShownBehind (passed : List Home) (list : List (List ℕ)) : Type 0 where
     homes : List Home
     all : IsWholeWay pages frame (index_way first) homes

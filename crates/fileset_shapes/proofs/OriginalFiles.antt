@@ -138,7 +138,7 @@ none_shown (Some cells) none = by_removed (is_removed cells) refl none (keep_the
 listed : (homes : List (Option Home)) (page : ℕ) (home : Home) → slice_get homes page ≡ Some (Some home) → home_in homes page ≡ Some home
 listed homes page home at = ap (option_and_then (λ (h : Option Home). h)) at
 
--- a page stands at each home that was read, where one does at each home of the file
+-- a page stands at each home that was read, if one does at each home of the file
 pub stored_by : (pages : Pages) (seen : SeenFile) (found : SeenPages) → IsSeenAs seen found → ((page : ℕ) (home : Home) → seen.homes page ≡ Some home → IsSome (pages home)) → AreStored pages found.homes.items
 stored_by pages seen found is stands page home at = stands page home (sym (is.homes page) ∙ listed found.homes.items page home at)
 

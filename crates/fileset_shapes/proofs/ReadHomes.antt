@@ -54,7 +54,7 @@ pub home_placed : (o : Option Home) → home_at (placed_at o) ≡ o
 home_placed None = refl
 home_placed (Some home) = refl
 
--- pages behind the last are in no list
+-- pages after the last are in no list
 pub homes_end : (read : ℕ → Option Home) (homes : List (Option Home)) (end : ℕ) → ListsUpTo (λ page. placed_at (read page)) homes end → ((page : ℕ) → end ≤ page → read page ≡ None) → (page : ℕ) → home_in homes page ≡ read page
 homes_end read homes end lists none page =
     ⊎_elim (λ low. ap (option_and_then (λ home. home)) (lists.each page low) ∙ home_placed (read page))

@@ -179,7 +179,7 @@ module _ (pages : Pages) (layout : Layout) (whole : IsWhole pages layout) where
     pub original_there : (tag : Tag) (seen : SeenFile) → shape.files tag ≡ Some seen → IsThereAs number shape tag seen
     original_there tag seen sees = there_of tag seen (cells_of tag seen sees)
 
-    -- the index of a file, of which each page is read, as a set shows it
+    -- the index of a file, all of whose pages are read, as a set shows it
     pub record IndexOf (tag : Tag) (seen : SeenFile) (list : List (List ℕ)) : Type 0 where
       pub first : Home
       pub total : ℕ

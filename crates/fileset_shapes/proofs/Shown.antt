@@ -11,7 +11,7 @@ use Rattle.fileset_shapes.specs.Found.{pages_at}
 no_bool : false ≡ true → ⊥
 no_bool is = cc
 
--- in front of each page that has a home all have one
+-- before each page that has a home all have one
 abbrev pub HasNoGap : List (Option Home) → Type 0
 HasNoGap homes = (page earlier : ℕ) → earlier < page → IsSome (home_in homes page) → IsSome (home_in homes earlier)
 

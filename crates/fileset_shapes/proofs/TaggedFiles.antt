@@ -28,7 +28,7 @@ found_at (one ∷ more) tag file is = by_test (found_at more tag file) (same_tag
     by_test later true same is = let e = some_same one file is in record { place = 0; there = is; tag_is = ap (λ (f : TaggedFile). f.tag) (sym e) ∙ tags_same one.tag tag same }
     by_test later false other is = let rest = later is in record { place = suc rest.place; there = rest.there; tag_is = rest.tag_is }
 
--- behind a file that is found another changes nothing
+-- another file after one that is found changes nothing
 front_stays : (files : List TaggedFile) (more file : TaggedFile) (tag : Tag) → file_at files tag ≡ Some file → file_at (files ++ more ∷ []) tag ≡ Some file
 front_stays [] more file tag is = absurd (let e : None ≡ Some file = is in absurd (cc))
 front_stays (one ∷ rest) more file tag is = by_test (front_stays rest more file tag) (same_tag one.tag tag) is
@@ -37,7 +37,7 @@ front_stays (one ∷ rest) more file tag is = by_test (front_stays rest more fil
     by_test later true is = is
     by_test later false is = later is
 
--- where none is found the file behind all is
+-- if none is found before it, the file after all others is
 behind_all : (files : List TaggedFile) (more : TaggedFile) (tag : Tag) → file_at files tag ≡ None → file_at (files ++ more ∷ []) tag ≡ cond (same_tag more.tag tag) (Some more) None
 behind_all [] more tag none = refl
 behind_all (one ∷ rest) more tag none = by_test (behind_all rest more tag) (same_tag one.tag tag) none
@@ -46,7 +46,7 @@ behind_all (one ∷ rest) more tag none = by_test (behind_all rest more tag) (sa
     by_test later true some = absurd (let e : None ≡ Some one = sym some in absurd (cc))
     by_test later false none = later none
 
--- under its own tag, where none stood, the file is found
+-- the file is found under its own tag, if none stood there
 own_found : (files : List TaggedFile) (more : TaggedFile) → file_at files more.tag ≡ None → file_at (files ++ more ∷ []) more.tag ≡ Some more
 own_found files more none = behind_all files more more.tag none ∙ ap (λ b. cond b (Some more) None) (same_tag_itself more.tag)
 

@@ -42,7 +42,7 @@ pub record AreOfClone (pages : Pages) (clone original : FilesetFiles) (number : 
 
 -- ** What is read
 
--- the file of a clone's own cells, or none where it is to be removed
+-- the file of a clone's own cells, or none if it is to be removed
 abbrev pub ReadsOwn : Pages → List PlacedCell → Option SeenPages → Type 0
 ReadsOwn pages cells found = (seen : Option SeenFile)
     × IsOwnUnless (is_removed cells) pages cells seen × IsSeenThere seen found

@@ -97,7 +97,7 @@ pub record SeesFileset (pages : Pages) (table : Table) (number : ℕ) (item : Sl
   pub is : IsShapeOf pages table number item (Some shape)
   pub sees : SeesShape pages entry shape found
 
--- what was read of what is in a slot: nothing where no fileset is, or one that is being removed
+-- what was read of what is in a slot: nothing if no fileset is, or one that is being removed
 abbrev pub SeesItem : Pages → Table → ℕ → SlotItem → Option FilesetSeen → Type 0
 SeesItem pages table number slot.Free found = found ≡ None
 SeesItem pages table number (slot.Removed first_tag quota) found = found ≡ None

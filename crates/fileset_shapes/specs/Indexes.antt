@@ -1,4 +1,4 @@
--- Indexes of which each page is read.
+-- Indexes all of whose pages are read.
 use Rattle.std.specs.Prelude.{◌≤◌, ℕ, List}
 use Rattle.filesets_reading.specs.domain_base.declared.place.Home.{Home}
 use Rattle.filesets_reading.specs.page_store.Pages.{Pages}

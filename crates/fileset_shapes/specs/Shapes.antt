@@ -40,7 +40,7 @@ pub record SeesSlots (pages : Pages) (table : Table) (found : List (Option Files
     pub each : (number : ℕ) (seen : Option FilesetSeen) → slice_get found number ≡ Some seen
         → SeesSlot pages table number seen
 
--- shapes of all filesets of a table, each of which what was read of its slot says
+-- shapes of all filesets of a table, each as what was read of its slot says
 pub record AreShapesSeen (pages : Pages) (table : Table) (found : List (Option FilesetSeen))
     (shapes : Shapes) : Type 0 where
   pub are : AreShapesOf pages table shapes

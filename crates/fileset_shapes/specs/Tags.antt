@@ -24,7 +24,7 @@ pub record IsOnFirst (places : List TagPlace) (count slot : ℕ) : Type 0 where
   pub there : slice_get places k ≡ Some place
   pub has : slot / 1022 ≡ place.index
 
--- or the page behind them has it, as one of its first entries
+-- or the page after them has it, as one of its first entries
 abbrev pub IsOnFirstEntries : List TagPlace → ℕ → TagPlace → ℕ → ℕ → Type 0
 IsOnFirstEntries places count place entries slot =
     IsOnFirst places count slot ⊎ ((slot / 1022 ≡ place.index) × (slot % 1022 < entries))

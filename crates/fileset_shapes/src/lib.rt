@@ -1,6 +1,6 @@
-//! The plain reading of a domain's filesets up to their bytes: of each a list of its files with
-//! the homes of their pages. Slow, and by the definitions alone; with laws of the pages on which
-//! it depends.
+//! The plain reading of a domain's filesets up to their bytes: for each fileset a list of its files
+//! with the homes of their pages. It is slow, and follows the definitions line by line; with laws
+//! of the pages on which it depends.
 #![tactic(auto)]
 
 mod clones;

@@ -80,7 +80,7 @@ short_name name form =
     let bounds = and_parts (nat_le 1 (length name)) (nat_le (length name) 31) parts.0 in
     leb-true (length name) 31 bounds.1
 
--- what the reading of a name answers, where its length is at most 31 and zeros stand behind it
+-- what the reading of a name answers, if its length is at most 31 and zeros stand after it
 pub name_answered : (bytes : List ℕ) (n : ℕ) (r : Result (List ℕ) TableFault) → length bytes ≡ 128 → n ≡ number_at 1 1 bytes → 2 + n ≤ 33 → all_zero (take (33 - (2 + n)) (drop (2 + n) bytes)) ≡ true
     → Reads (λ name. (is_fileset_name name ≡ true) × (name ≡ take (2 + n - 2) (drop 2 bytes))) r → Reads (IsNamed bytes) r
 name_answered bytes n r len is few zeros reads =
@@ -90,7 +90,7 @@ name_answered bytes n r len is few zeros reads =
     (λ name read. name_there bytes len name few' zeros' read.0 (read.1 ∙ ap (λ k. take (2 + k - 2) (drop 2 bytes)) is))
     (λ name named. (named.form, sym (ap (λ k. take (2 + k - 2) (drop 2 bytes)) is ∙ name_read bytes len name named (short_name name named.form)))) r reads
 
--- no name stands there where the length is above 31, or another byte than zero behind the name
+-- no name stands there if the length is above 31, or a byte other than zero follows the name
 pub too_long : (bytes : List ℕ) (n : ℕ) → length bytes ≡ 128 → n ≡ number_at 1 1 bytes → 33 < 2 + n → (name : List ℕ) → ¬ IsNamed bytes name
 too_long bytes n len is more name named = let few = size_few bytes len name named (short_name name named.form) in omega (arith, is, more, few)
 

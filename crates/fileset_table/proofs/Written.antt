@@ -20,7 +20,7 @@ use Rattle.fileset_table.specs.declared.slot.FilesetEntry.{FilesetEntry}
 use Rattle.fileset_table.specs.Slot.{HasFirstTag, HasQuota, IsEntry, IsHome, IsNamed}
 use Rattle.fileset_table.specs.Writing.{HasNumbers, HasParts, number_list, number_widths}
 
--- ---- the numbers behind the name
+-- ---- the numbers after the name
 
 home_same : (v v' p p' : ℕ) (home : Option Home) → v' ≡ v → p' ≡ p → IsHome v p home → IsHome v' p' home
 home_same v v' p p' home of_v of_p is = subst (λ x. IsHome x p' home) (sym of_v) (subst (λ x. IsHome v x home) (sym of_p) is)

@@ -15,7 +15,7 @@ abbrev pub IsHome : ℕ → ℕ → Option Home → Type 0
 IsHome vol page None = vol ≡ 0
 IsHome vol page (Some home) = ((1 ≤ vol) × (vol ≤ 8)) × (home ≡ record { vol = vol; page = page })
 
--- the name: of the form of fileset names, with its length before it and zeros behind it
+-- the name: of the form of fileset names, with its length before it and zeros after it
 pub record IsNamed (bytes : List ℕ) (name : List ℕ) : Type 0 where
   pub form : is_fileset_name name ≡ true
   pub size : number_at 1 1 bytes ≡ length name

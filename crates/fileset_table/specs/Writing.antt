@@ -1,4 +1,4 @@
--- What the parts of a slot are once they are written, and a page of which one slot was.
+-- What the parts of a slot are once they are written, and what a page is once one slot of it is.
 use Rattle.std.specs.Prelude.{◌≡◌, ◌+◌, ◌-◌, ◌≤◌, ℕ, List, [], ◌∷◌, ◌++◌, length, take, drop}
 use Rattle.metadata_cells.specs.domain_base.Page.{zero_bytes}
 use Rattle.metadata_cells.specs.cell_records.Fields.{number_at}
@@ -8,7 +8,7 @@ use Rattle.fileset_table.specs.declared.writing.SlotNumbers.{SlotNumbers}
 use Rattle.fileset_table.specs.Slot.{IsHome, IsSlot}
 use Rattle.fileset_table.specs.Page.{slot_bytes}
 
--- the widths of the numbers behind the name
+-- the widths of the numbers after the name
 abbrev pub number_widths : List ℕ
 number_widths = 4 ∷ 4 ∷ 8 ∷ 4 ∷ 4 ∷ 8 ∷ 8 ∷ 2 ∷ 1 ∷ 1 ∷ 4 ∷ []
 
@@ -18,7 +18,7 @@ number_list original number vol page files blocks quota_vol quota_cell quota_pag
     original ∷ 0 ∷ number ∷ vol ∷ page ∷ files ∷ blocks ∷ 0 ∷ quota_vol ∷ quota_cell ∷ quota_page
     ∷ []
 
--- the numbers behind the name
+-- the numbers after the name
 pub record HasNumbers (bytes : List ℕ) (numbers : SlotNumbers) : Type 0 where
   pub original : number_at 4 0 bytes ≡ numbers.original
   pub number : number_at 8 8 bytes ≡ numbers.number
@@ -37,8 +37,7 @@ pub record HasParts (state : ℕ) (name : List ℕ) (numbers : SlotNumbers) (byt
     pub spelled : take 31 (drop 2 bytes) ≡ name ++ zero_bytes (31 - length name)
     pub behind : HasNumbers (drop 40 bytes) numbers
 
--- a page of which one slot was written: all other slots stay, and what stands before and behind
--- them
+-- one slot of a page was written: all other slots stay, and what stands before and after them
 pub record SetsSlot (number : ℕ) (item : SlotItem) (old new : List ℕ) : Type 0 where
   pub there : IsSlot (slot_bytes new number) item
   pub others : (k : ℕ) → ¬ k ≡ number → slot_bytes new k ≡ slot_bytes old k

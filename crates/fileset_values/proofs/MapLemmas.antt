@@ -1,4 +1,4 @@
--- What a finite map has at a key after one entry was put in or taken out, where only equal keys tie.
+-- What a finite map has at a key after one entry was put in or taken out, if only equal keys tie.
 use Rattle.std.proofs.Common.{◌≡◌, ◌≢◌, ◌⊎◌, true, false, cond, Option, Some, None, refl, sym, ap, ◌∙◌, inl, inr}
 use Rattle.std.specs.declared.cmp.Ordering.{Ordering}
 use Rattle.std.specs.declared.cmp.Ordering.TheVariants.{Less, Equal, Greater}

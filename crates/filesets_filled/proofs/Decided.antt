@@ -63,7 +63,7 @@ module _ (page : List ℕ) (rows : List Row) where
   parted : (rest : List ℕ) → page_of rows rest ≡ front ++ rest
   parted rest = refl
 
-  -- what stands behind the rows is the rest of the page
+  -- what stands after the rows is the rest of the page
   behind_rows : IsRowPage page rows → page ≡ page_of rows (drop (length front) page)
   behind_rows is =
       let whole : page ≡ front ++ is.rest = is.parts ∙ parted is.rest in

@@ -49,7 +49,7 @@ both_rise [] ys rise more cross = more
 both_rise (x ∷ xs) ys rise more cross =
     (both_all (λ later. is_below later x ≡ false) xs ys rise.0 (all_of (λ later. is_below later x ≡ false) ys (λ k y at. cross 0 k x y refl at)), both_rise xs ys rise.1 more (λ i j a b at at'. cross (suc i) j a b at at'))
 
--- an entry is not below one in front of it: on an earlier page, or at an earlier place of its page
+-- an entry is not below one before it: on an earlier page, or at an earlier place of its page
 abbrev pub AreRising : List (List ℕ) → Type 0
 AreRising pages = (k k' : ℕ) (bytes bytes' : List ℕ) (j j' : ℕ) (a b : IndexEntry) → slice_get pages k ≡ Some bytes → slice_get pages k' ≡ Some bytes'
     → slice_get (entries_in bytes) j ≡ Some a → slice_get (entries_in bytes') j' ≡ Some b → (k < k') ⊎ ((k ≡ k') × (j < j')) → is_below b a ≡ false

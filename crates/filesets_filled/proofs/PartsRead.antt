@@ -112,7 +112,7 @@ file_is (f ∷ files) tag file is = by_test (same_tag f.tag tag) refl is (file_i
     by_test true same here later = (0, here, ap (λ (g : TaggedFile). g.tag) (sym (some_inj here)) ∙ tags_same f.tag tag same)
     by_test false other there later = let l = later there in (suc l.0, l.1, l.2)
 
--- the file with the tag of one that stands in the list, where no tag stands twice
+-- the file with the tag of one that stands in the list, if no tag stands twice
 pub file_once : (files : List TaggedFile) → HaveOwnTags files → (k : ℕ) (file : TaggedFile) → slice_get files k ≡ Some file → file_at files file.tag ≡ Some file
 file_once [] own k file at = none_is_some file at
 file_once (f ∷ files) own zero file at =
@@ -146,7 +146,7 @@ node_of_file pages (file ∷ files) (one ∷ nodes) long each tag =
     by_test true first rest = first
     by_test false first rest = rest
 
--- the first node with the tag of one that stands in the list, where no tag stands twice
+-- the first node with the tag of one that stands in the list, if no tag stands twice
 pub node_once : (nodes : List TaggedNode) → ((i j : ℕ) (a b : TaggedNode) → slice_get nodes i ≡ Some a → slice_get nodes j ≡ Some b → a.tag ≡ b.tag → i ≡ j)
     → (k : ℕ) (one : TaggedNode) → slice_get nodes k ≡ Some one → node_in nodes one.tag ≡ Some one
 node_once [] own k one at = none_is_some one at

@@ -49,7 +49,7 @@ named_row name rows is = by_found (found name rows) refl (sym (named_found name 
     by_found None none has = absurd cc
     by_found (Some what) some has = let row = found_row name rows what.0 what.1 some in (row.0, row.1, row.2, row.3)
 
--- rows of which a later one has another name than each in front of it
+-- rows, a later one of which has another name than each before it
 pub once_by : (rows : List Row) → ((i j : ℕ) (a b : Row) → i < j → slice_get rows i ≡ Some a → slice_get rows j ≡ Some b → ¬ a.name ≡ b.name) → NamesOnce rows
 once_by [] apart = tt
 once_by (row ∷ rows) apart = (
@@ -57,7 +57,7 @@ once_by (row ∷ rows) apart = (
   once_by rows (λ i j a b less at at'. apart (suc i) (suc j) a b (omega (arith, less)) at at'),
 )
 
--- a row is not behind another of its name: on no later page, and at no later place of its page
+-- a row is not after another of its name: on no later page, and at no later place of its page
 abbrev AreApart : List (List ℕ) → Type 0
 AreApart pages = (k k' : ℕ) (bytes bytes' : List ℕ) (j j' : ℕ) (a b : Row) → slice_get pages k ≡ Some bytes → slice_get pages k' ≡ Some bytes'
     → slice_get (rows_of bytes) j ≡ Some a → slice_get (rows_of bytes') j' ≡ Some b → (k < k') ⊎ ((k ≡ k') × (j < j')) → ¬ a.name ≡ b.name

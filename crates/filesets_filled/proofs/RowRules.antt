@@ -114,7 +114,7 @@ module _ (pages : Pages) (frame : Frame) (table : Table) (number : ℕ) (files :
   lost : (tag : Tag) → shown tag ≡ None → ¬ IsHere pages table number tag
   lost tag none here = let some : is_some (shown tag) ≡ true = here_shown tag here in true≢false (sym some ∙ ap is_some none)
 
-  -- no two rows lead to what is lost, of which one is of a directory; and not too many of files
+  -- no two rows lead to what is lost, if one of them is of a directory; and not too many of files
   no_lost : (at : RowPlace) (row : Row) (home : Home) → IsRow pages frame table number at row home → shown row.tag ≡ None → ¬ IsSecond pages frame table number at row
   no_lost at row home is none second = good home (inr (inr (inr (inl (record {
     number = number;

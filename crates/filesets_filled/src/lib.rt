@@ -1,5 +1,5 @@
 //! The plain reading of a domain's filesets: from pages in which no rule is broken to all filesets
-//! with their bytes. Slow, and by the definitions alone.
+//! with their bytes. It is slow, and follows the definitions line by line.
 #![tactic(auto)]
 
 mod directory_laws;

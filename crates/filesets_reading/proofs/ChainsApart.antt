@@ -40,7 +40,7 @@ before_by_cell a b vol page less =
     let outer : (nat_lt a.page b.page || (nat_eq a.page b.page && nat_lt a.cell b.cell)) ≡ true = or_right (nat_lt a.page b.page) _ inner in
     or_right (nat_lt a.vol b.vol) _ (λ i. eq-eqb a.vol b.vol vol i && outer i)
 
--- of two cells one is in front of the other
+-- of two cells one is before the other
 pub one_before : (a b : CellAt) → ¬ a ≡ b → (is_before a b ≡ true) ⊎ (is_before b a ≡ true)
 one_before a b other =
     ⊎_elim (λ vol. ⊎_elim (λ page. ⊎_elim (λ cell. absurd (other (λ i. record { vol = vol i; page = page i; cell = cell i })))
@@ -59,7 +59,7 @@ no_cell_there : (at : CellAt) → None ≡ Some at → ⊥
 no_cell_there at is = cc
 
 module _ (pages : Pages) (layout : Layout) (laid : IsLayout pages layout) (none : HasNoTablesFault pages (frame_of layout)) where
-  -- two cells of the chain that begins at a cell, one behind the other
+  -- two cells of the chain that begins at a cell, one after the other
   record Step (start : CellAt) (cs : List PlacedCell) (k : ℕ) (at : CellAt) : Type 0 where
     front : PlacedCell
     back : PlacedCell

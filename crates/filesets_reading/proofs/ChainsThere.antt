@@ -53,7 +53,7 @@ allowed_in (x ∷ xs) r all (suc k, within, is) = allowed_in xs r all.1 (k, omeg
 no_bool : false ≡ true → ⊥
 no_bool is = cc
 
--- a cell behind one of a file is a chain cell
+-- a cell after one of a file is a chain cell
 abbrev pub of_file : CellKind → Bool
 of_file kinds.Primary = true
 of_file kinds.Chain = true

@@ -1,5 +1,5 @@
--- Where no rule of tables is broken, the first cell of a file has one record that says where pages stand, and
--- so has each cell behind it.
+-- If no rule of tables is broken, the first cell of a file has one record that says where pages
+-- stand, and so has each cell after it.
 use Rattle.std.proofs.Common.{◌≡◌, ◌∙◌, ◌⊎◌, inl, inr, ℕ, suc, ◌*◌, ◌^◌, ◌≤◌, Bool, true, false, cond, not, nat_eq, nat_le, ◌||◌, List, [], ◌∷◌, Some, None, is_some, Contains, refl, sym, ap, subst, arith, ⊎_elim}
 use Rattle.std.proofs.lemmas.Bool.{and_parts, cases_Bool, eq-eqb, eqb-true, or_cases}
 use Rattle.std.specs.List.{AllByRecursion, list_all}

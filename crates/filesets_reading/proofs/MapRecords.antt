@@ -22,7 +22,7 @@ use Rattle.domain_layout.specs.Reached.{Frame, MayBe}
 
 -- ---- runs that rise
 
--- each begins behind the one in front of it, and ends with the last page that a file may have
+-- each begins after the one before it, and ends with the last page that a file may have
 abbrev pub RunsFrom : ℕ → List Run → Type 0
 RunsFrom from [] = Unit {0}
 RunsFrom from (run ∷ runs) = (from ≤ run.page) × (1 ≤ run.count) × (end_of run ≤ 65536) × RunsFrom (end_of run) runs
@@ -133,7 +133,7 @@ module _ (frame : Frame) (small : (vol : ℕ) → IsMember frame.anchor vol → 
             volume = subst OnVolume (sym at) (member.first, member.last);
           }
 
-  -- a page in front of all runs is in none
+  -- a page before all runs is in none
   absent_before : (from : ℕ) (runs : List Run) (p : ℕ) → RunsFrom from runs → p < from → place_of runs p ≡ Absent
   absent_before from [] p rise low = refl
   absent_before from (r ∷ rs) p rise low =

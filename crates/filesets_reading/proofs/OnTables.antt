@@ -30,7 +30,7 @@ index_at [] k x is = absurd (let e : None ≡ Some x = is in absurd (cc))
 index_at (y ∷ ys) zero x is = some_same y x is
 index_at (y ∷ ys) (suc k) x is = index_at ys k x is
 
--- a home that is come to behind so many pages is that page of the table
+-- a home that is come to after this number of pages is that page of the table
 pub record IsThere (table : List ℕ) (vol : ℕ) (passed : List Home) (home : Home) : Type 0 where
   pub same : home.vol ≡ vol
   pub there : slice_get table (length passed) ≡ Some home.page

@@ -42,14 +42,14 @@ list_on places homes page home lists is = record {
       (subst (λ n. slice_get (homes ++ home ∷ []) n ≡ Some (home_at (places page))) lists.count (get_seam homes home ∙ ap Some is))) (cases_lt p page);
 }
 
--- pages behind the last are in no list and in no run
+-- pages after the last are in no list and in no run
 pub list_ends : (places : Places) (homes : List (Option Home)) (from end : ℕ) → ListsUpTo places homes end → ((p : ℕ) → end ≤ p → home_at (places_before from places p) ≡ None) → end ≤ from → ListsHomes (places_before from places) homes
 list_ends places homes from end lists none within page =
     ⊎_elim (λ low.
     ap (option_and_then (λ home. home)) (lists.each page low) ∙ ap (λ b. home_at (cond b (places page) Absent)) (sym (lt-ltb page from (omega (arith, low, within)))))
     (λ high. ap (option_and_then (λ home. home)) (slice_get_past homes page (omega (arith, high, lists.count))) ∙ sym (none page high)) (cases_lt page end)
 
--- behind the end of all runs, and behind the pages that are kept, nothing is
+-- after the end of all runs, and after the pages that are kept, nothing is
 pub none_behind : (places : Places) (from end p : ℕ) → (end ≤ p → places p ≡ Absent) → (p < from → end ≤ p) → home_at (places_before from places p) ≡ None
 none_behind places from end p absent later =
     ⊎_elim (λ low. ap (λ b. home_at (cond b (places p) Absent)) (lt-ltb p from low) ∙ ap home_at (absent (later low)))
@@ -57,11 +57,11 @@ none_behind places from end p absent later =
 
 -- ---- the end of runs
 
--- a run that ends in front of a page does not have it
+-- a run that ends before a page does not have it
 skips : (r : Run) (runs : List Run) (page : ℕ) → end_of r ≤ page → place_of (r ∷ runs) page ≡ place_of runs page
 skips r runs page ends = ap (λ b. cond b (placed (behind (page - r.page) r.first)) (place_of runs page)) (covers_not_behind r page ends)
 
--- the last run ends behind all others
+-- the last run ends after all others
 pub all_before : (r : Run) (runs : List Run) (last : Run) → AreRuns (r ∷ runs) → slice_get (r ∷ runs) (length runs) ≡ Some last → (page : ℕ) → end_of last ≤ page → (end_of r ≤ page) × (place_of (r ∷ runs) page ≡ Absent)
 all_before r [] last are is page after =
     let same : end_of r ≡ end_of last = ap end_of (some_same r last is) in
@@ -72,7 +72,7 @@ all_before r (next ∷ runs) last are is page after =
     let ends : end_of r ≤ page = omega (arith, more.0, are.1.behind, are.2.0.some) in
     (ends, skips r (next ∷ runs) page ends ∙ more.1)
 
--- behind the end of the last run no page is there, and it ends where a file may
+-- after the end of the last run no page is there, and it ends where a file may
 pub behind_last : (runs : List Run) (last : Run) (k : ℕ) → AreRuns runs → slice_get runs k ≡ Some last → k + 1 ≡ length runs → (page : ℕ) → end_of last ≤ page → place_of runs page ≡ Absent
 behind_last [] last k are is count page ends = refl
 behind_last (r ∷ runs) last k are is count page ends =
@@ -121,7 +121,7 @@ none_there (Some cells) none = by_removed (is_removed cells) refl none
     by_removed true gone none = ap (λ b. cond b None (option_and_then (kept_by cells) (attributes_of cells))) gone
     by_removed false live none = ap (λ b. cond b None (option_and_then (kept_by cells) (attributes_of cells))) live ∙ ap (option_and_then (kept_by cells)) none
 
--- a file that has attributes keeps so many pages
+-- a file that has attributes keeps this number of pages
 pub keep_there : (chain : Option (List PlacedCell)) (is : Attributes) → option_and_then (of_live attributes_of) chain ≡ Some is → option_and_then (of_live keep_of) chain ≡ None → ⊥
 keep_there None is attributes none = none_some is attributes
 keep_there (Some cells) is attributes none = by_removed (is_removed cells) attributes none

@@ -56,7 +56,7 @@ module _ (pages : Pages) (layout : Layout) (laid : IsLayout pages layout) (none 
 
   -- a chain begins there, of a file or of quotas
   module _ (start : CellAt) (begun : ¬ ¬ ((link : Link) × IsChainHead pages (frame_of layout) start link)) where
-    -- a chain that begins there, and a cell behind these
+    -- a chain that begins there, and a cell after these
     record Comes (passed : List CellAt) (at : CellAt) (cell : Cell) : Type 0 where
       first : Link
       head : IsChainHead pages (frame_of layout) start first

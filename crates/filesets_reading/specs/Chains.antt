@@ -1,4 +1,4 @@
--- The chains of a fileset's files, which are whole where no rule of tables and extents is broken.
+-- The chains of a fileset's files, which are whole if no rule of tables and extents is broken.
 use Rattle.std.specs.Prelude.{◌≡◌, ◌/◌, ◌^◌, ◌≤◌, ℕ, List, Some, slice_get}
 use Rattle.domain_layout.specs.domain_base.declared.place.CellAt.{CellAt}
 use Rattle.domain_layout.specs.domain_base.declared.place.Home.{Home}
@@ -22,12 +22,12 @@ abbrev pub HaveLinks : Pages → List TagPlace → Type 0
 HaveLinks pages places =
     (tag : Tag) (at : CellAt) → cell_of pages places tag ≡ Some at → HasLinks pages at
 
--- the same of the tags of a slot, and of all slots of a page
+-- a chain of cells begins at each cell to which a tag of this slot leads
 abbrev pub HasLinksAt : Pages → List TagPlace → ℕ → Type 0
 HasLinksAt pages places slot = (tag : Tag) (at : CellAt) → tag.slot ≡ slot
     → cell_of pages places tag ≡ Some at → HasLinks pages at
 
--- so begins a chain at each cell to which a tag of a page's slots leads
+-- a chain of cells begins at each cell to which a tag of a page's slots leads
 abbrev pub HaveLinksOn : Pages → List TagPlace → TagPlace → Type 0
 HaveLinksOn pages places place = (tag : Tag) (at : CellAt) → tag.slot / 1022 ≡ place.index
     → cell_of pages places tag ≡ Some at → HasLinks pages at

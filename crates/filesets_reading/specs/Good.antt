@@ -40,7 +40,7 @@ abbrev pub IsDecided : Pages → CellAt → Type 0
 IsDecided pages at = ((cell : Cell) × StandsAt pages at cell)
     ⊎ ((cell : Cell) → ¬ StandsAt pages at cell)
 
--- the same of each cell of a page
+-- at each cell of a page a cell in use stands, or none does
 abbrev pub AreDecided : Pages → Home → Type 0
 AreDecided pages home =
     (cell : ℕ) → cell < 28

@@ -7,7 +7,7 @@ use Rattle.domain_layout.specs.extent_maps.Runs.{Places, home_at}
 use Rattle.domain_layout.specs.Seen.{SeenFile}
 use Rattle.filesets_reading.specs.declared.seen.SeenPages.{SeenPages}
 
--- the home of a page in a list, none behind the last
+-- the home of a page in a list, none after the last
 abbrev pub home_in : List (Option Home) → ℕ → Option Home
 home_in homes page = option_and_then (λ home. home) (slice_get homes page)
 
@@ -24,7 +24,7 @@ pub record IsSeenAs (seen : SeenFile) (found : SeenPages) : Type 0 where
   pub is : found.is ≡ seen.is
   pub homes : (page : ℕ) → home_in found.homes.items page ≡ seen.homes page
 
--- nothing was found where there is no file, and else that file
+-- nothing was found if there is no file, and else that file
 abbrev pub IsSeenThere : Option SeenFile → Option SeenPages → Type 0
 IsSeenThere None found = found ≡ None
 IsSeenThere (Some seen) found = IsSomeAnd found (IsSeenAs seen)

@@ -216,7 +216,7 @@ pub less_cells : (old new : List FreeCell) (f : FreeCell) → old ≡ new ++ f �
     → (is_among old f ≡ true) × ((g : FreeCell) → is_among new g ≡ (not (same_cell f g) && is_among old g))
 less_cells old new f is apart = popped_cells old new (Some f) is apart
 
--- ---- two lists one behind the other
+-- ---- two lists one after the other
 
 pub among_both : (xs ys : List FreeCell) (f : FreeCell) → is_among (xs ++ ys) f ≡ (is_among xs f || is_among ys f)
 among_both xs ys f = list_any-append (same_cell f) xs ys

@@ -68,7 +68,7 @@ module _ (cells : Cells) (old new : Pages) where
       some_is : {X : Type 0} {x y : X} → Some x ≡ Some y → x ≡ y
       some_is e = cc
 
-  -- a change of cells of which none is free
+  -- a change of cells, none of them free
   pub belong_still : (changed : CellAt → Bool) → LeavesOthers changed old new → KeepsWellFormed old new → KeepsHeaders old new
       → ((at : CellAt) → is_free cells at ≡ true → changed at ≡ false) → Belong cells old → Belong cells new
   belong_still changed others good headers apart = belong_on
@@ -134,7 +134,7 @@ belong_freed old new before after at belong used placed others good headers clea
         (λ here. absurd (both_ways (is_free old at) (used_not_free old before belong at used) (subst (λ (c : CellAt). is_free old c ≡ true) (sym (at_is at q here)) free)))
         (λ none. none) (cases_Bool (is_at at q))
 
--- ---- a page is added behind the others
+-- ---- a page is added after the others
 
 pub some_and : {P Q : List ℕ → Type 0} (o : Option (List ℕ)) → ((page : List ℕ) → P page → Q page) → IsSomeAnd o P → IsSomeAnd o Q
 some_and None more is = absurd is

@@ -22,7 +22,7 @@ module _ (change : VolumeTable → VolumeTable) (old : Cells) where
       ext_get_or no_table new (map change old) (part.len ∙ sym (length-map old change))
       (λ k within. part.changed k (omega (arith, within, past)) ∙ sym (get_or-map change old k no_table no_table (omega (arith, within, part.len))))
 
--- what the volumes are behind the loop
+-- what the volumes are after the loop
 pub loop_mapped : (change : VolumeTable → VolumeTable) (items old new now self : Cells) (i : ℕ) → now ≡ new → items ≡ self → old ≡ items → IsPartMapped change old new i → length new ≤ i → now ≡ map change self
 loop_mapped change items old new now self i is view read part past = is ∙ all_mapped change old new i part past ∙ ap (map change) (read ∙ view)
 

@@ -17,7 +17,7 @@ and_none : (b : Bool) → (b && false) ≡ false
 and_none true = refl
 and_none false = refl
 
--- one of some numbers passes a test, if one in front does or the one behind them
+-- one of some numbers passes a test, if one in front does or the one after them
 pub any_more : {X : Type 0} (test : X → Bool) (xs : List X) (i : ℕ) (d : X) → i < length xs
     → list_any test (take (i + 1) xs) ≡ (list_any test (take i xs) || test (get_or xs i d))
 any_more test xs i d within =

@@ -152,7 +152,7 @@ page_given v after number page front old new was now joined table mark kept = re
 
 -- ---- all is kept, and taken back
 
--- all kept cells, and none behind them
+-- all kept cells, and none after them
 pub all_free : (kept fresh : List FreeCell) → fresh ≡ [] → free_now kept (length kept) fresh ≡ kept
 all_free kept fresh none = ap (λ xs. take (length kept) kept ++ xs) none ∙ append-nil (take (length kept) kept) ∙ take_all (length kept) kept (omega arith)
 

@@ -7,8 +7,8 @@ use Rattle.metadata_cells.specs.page_store.Pages.{Pages}
 use Rattle.metadata_cells.specs.CellPage.{IsCellPage, cell_at, index_of, next_of}
 use Rattle.free_cells.specs.Cells.{Cells, table_of, is_free}
 
--- a well-formed page at a place of the table: the place is its index, and its next page the one
--- behind it there
+-- a well-formed page at a place of the table: the place is its index, and its next page is the one
+-- after it there
 pub record IsPageOf (table : List ℕ) (place : ℕ) (page : List ℕ) : Type 0 where
   pub good : IsCellPage page
   pub indexed : index_of page ≡ place

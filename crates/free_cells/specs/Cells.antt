@@ -53,7 +53,7 @@ all_kept = map with_kept
 abbrev pub taken_back : Cells → Cells
 taken_back = map as_kept
 
--- the tables with this page behind the others of its volume
+-- the tables with this page after the others of its volume
 abbrev pub with_page_last : Home → Cells → ℕ → List ℕ
 with_page_last home cells vol =
     if vol == home.vol then table_of cells vol ++ home.page ∷ [] else table_of cells vol
@@ -72,14 +72,14 @@ abbrev pub FreesCell : CellAt → Cells → Cells → Type 0
 FreesCell at old new =
     Holds (table_of old) (is_closed old) (λ q. is_at at q || is_free old q) (kept_of old) new
 
--- the page stands behind the others of its volume's table, and its cells of the kind of a free one
+-- the page stands after the others of its volume's table, and its cells of the kind of a free one
 -- are free
 abbrev pub JoinsPage : Home → List ℕ → Cells → Cells → Type 0
 JoinsPage home page old new =
     Holds (with_page_last home old) (is_closed old)
     (λ at. is_free old at || (is_on home at && is_free_in page at.cell)) (kept_of old) new
 
--- the same of a page of which every cell is free
+-- a page with every cell free stands after the others of its volume's table
 abbrev pub JoinsEmptyPage : Home → Cells → Cells → Type 0
 JoinsEmptyPage home old new =
     Holds (with_page_last home old) (is_closed old) (λ at. is_free old at || is_on home at)

@@ -25,12 +25,12 @@ IsPageIn o page = IsSomeAnd o (λ v. page < v.pages)
 abbrev pub IsHeldIn : Option VolumeSpace → ℕ → Type 0
 IsHeldIn o page = IsSomeAnd o (λ v. (contains v.used page ≡ true) × (is_waiting v page ≡ false))
 
--- the bit of each of the volume's pages is 1 exactly where the page is used and does not wait
+-- the bit of each of the volume's pages is 1 if and only if the page is used and does not wait
 abbrev pub SaysHeld : Pages → ℕ → Option VolumeSpace → Type 0
 SaysHeld pages vol o =
     (page : ℕ) → IsPageIn o page → (is_marked pages vol page ≡ true) ↔ IsHeldIn o page
 
--- and so of all volumes
+-- the bits of the pages of all volumes say so
 abbrev pub SayHeld : Pages → Spaces → Type 0
 SayHeld pages space =
     (vol : ℕ) → 1 ≤ vol → vol ≤ 8 → SaysHeld pages vol (volume_of space vol)

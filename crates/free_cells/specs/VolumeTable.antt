@@ -10,8 +10,8 @@ pub record KeptTable : Type 0 where
   pub table : List ℕ
   pub free : List FreeCell
 
--- the same as they are now, and as they were when they were kept last; and whether the volume is
--- closed
+-- the pages and free cells as they are now, and as they were when they were last kept; and whether
+-- the volume is closed
 pub record VolumeTable : Type 0 where
   pub table : List ℕ
   pub free : List FreeCell
@@ -81,7 +81,7 @@ pub record VolumeIs (table : List ℕ) (is_closed : Bool) (free : FreeCell → B
   pub cells : (f : FreeCell) → is_among v.free f ≡ free f
   pub keeps : v.kept ≡ kept
 
--- the kept cells that are free still, and behind them those that came later
+-- the kept cells that are still free, and after them those that came later
 abbrev pub free_now : List FreeCell → ℕ → List FreeCell → List FreeCell
 free_now kept live fresh = take live kept ++ fresh
 

@@ -8,7 +8,7 @@ use Rattle.std.specs.FinSet.{empty, len, contains-empty, len-empty}
 use Rattle.free_space.specs.Bits.{is_set, used_below, bitmap_bytes, IsKept}
 use Rattle.free_space.proofs.Used.{contains-used_below, same_pages}
 
--- a bit is 1 exactly where it lies past the last page
+-- a bit is 1 if and only if it lies past the last page
 pub record IsBlank (bytes : List ℕ) (pages : ℕ) : Type 0 where
   pub bits : (q : ℕ) → q < 8 * length bytes → is_set bytes q ≡ nat_le pages q
 

@@ -200,7 +200,7 @@ freed_is {pages} {used} {taken} {freed} are = same_pages (from_list freed) (diff
 
 -- ---- a page that is taken
 
--- a list with page p, where that is not of another list
+-- a list with page p, if that is not of another list
 abbrev pub listed : List ℕ → List ℕ → ℕ → List ℕ
 listed other pages p = if is_one other p then pages else pages ++ p ∷ []
 

@@ -83,6 +83,6 @@ module _ {pages : ℕ} {used : FinSet nat_cmp} {ws : List Waiting} {taken freed 
       enough_freed = is.enough_freed;
     }
 
--- what has come to wait stands behind what waited
+-- what has come to wait stands after what waited
 pub waits_behind : {X : Type 0} (kept : ℕ) (ws : List X) → ws ≡ take kept ws ++ drop kept ws
 waits_behind kept ws = sym (take-append-drop kept ws)

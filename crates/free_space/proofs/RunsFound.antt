@@ -28,7 +28,7 @@ push_order : (runs : List FreeRun) (run : FreeRun) → AreInOrder runs → AllBy
 push_order [] run order before = (tt, tt)
 push_order (one ∷ runs) run order before = (push_all (StandsBefore one) runs run order.0 before.0, push_order runs run order.1 before.1)
 
--- the pages before a page, where there are none and where there are some
+-- the pages before a page, if there are none and if there are some
 pub run_none : (vol end count : ℕ) (runs : List FreeRun) → count ≡ 0 → runs ≡ runs ++ run_before vol end count
 run_none vol end count runs none = append_nil runs ∙ ap (λ (l : List FreeRun). runs ++ l) (by_test (count == 0) (eq-eqb count 0 none))
   where
@@ -94,7 +94,7 @@ module _ (vol : ℕ) (m : VolumePages) where
       };
     }
 
-    -- the pages before it are a run, where it is used or behind the last one
+    -- the pages before it are a run, if it is used or after the last one
     module _ (most : page ≤ m.pages) (end : page < m.pages → contains m.used page ≡ true) where
       ended_here : (first n : ℕ) → IsWholeRun m first n → first + n ≡ page → n ≡ count
       ended_here first n whole at =
@@ -177,7 +177,7 @@ module _ (vol : ℕ) (m : VolumePages) where
       };
     }
 
-  -- the runs so far came behind others
+  -- the runs so far came after others
   pub record AreFoundBehind (page count : ℕ) (old new : List FreeRun) : Type 0 where
     pub runs : List FreeRun
     pub behind : new ≡ old ++ runs

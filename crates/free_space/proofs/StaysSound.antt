@@ -156,7 +156,7 @@ one_page {v} {p} is = record {
   free = λ q after before. let same : q ≡ p = omega arith in subst (λ x. IsFreePage v x) (sym same) is;
 }
 
--- the page behind so many of a free run that were taken is free still
+-- the page after the i pages of a free run that were taken is still free
 pub next_of_run : (v : VolumeSpace) (p count i : ℕ) → AreFreePages v p count → i < count → IsFreePage (with_run p i v) (p + i)
 next_of_run v p count i are within =
     let free = are.free (p + i) (omega arith) (omega arith) in

@@ -64,7 +64,7 @@ place_within bytes pages free p kept within = omega (arith, kept.size)
 pub bit_within : (bytes : List ℕ) (pages free p : ℕ) → IsKept bytes pages free → p < pages → p < 8 * length bytes
 bit_within bytes pages free p kept within = omega (arith, kept.size)
 
--- a page of the volume is used exactly where its bit is 1
+-- a page of the volume is used if and only if its bit is 1
 pub contains-used : (bytes : List ℕ) (pages p : ℕ) → p < pages → contains (used_below bytes pages) p ≡ is_set bytes p
 contains-used bytes pages p within = contains-used_below bytes pages p ∙ ap (λ b. b && is_set bytes p) (lt-ltb p pages within)
 

@@ -7,7 +7,7 @@ use Rattle.free_space.specs.VolumePages.{IsFreeRun, VolumePages}
 use Rattle.free_space.specs.VolumeSpace.{VolumeSpace, volume_pages}
 use Rattle.free_space.specs.declared.runs.FreeRun.{FreeRun}
 
--- so many pages of a volume from a page on
+-- `count` pages of a volume from a page on
 abbrev pub run_at : ℕ → ℕ → ℕ → FreeRun
 run_at vol page count = record { first = record { vol = vol; page = page }; count = count }
 
@@ -15,7 +15,7 @@ run_at vol page count = record { first = record { vol = vol; page = page }; coun
 abbrev pub run_before : ℕ → ℕ → ℕ → List FreeRun
 run_before vol end count = if count == 0 then [] else run_at vol (end - count) count ∷ []
 
--- free pages of a volume, one after the other, with no free page right in front of them or behind
+-- free pages of a volume, one after the other, with no free page right before or after them
 pub record IsWholeRun (m : VolumePages) (first count : ℕ) : Type 0 where
   pub some : 1 ≤ count
   pub free : IsFreeRun m first count
@@ -37,7 +37,7 @@ pub record AreRuns (Is : FreeRun → Type 0) (runs : List FreeRun) : Type 0 wher
   pub each : (run : FreeRun) → Contains runs run ↔ Is run
   pub order : AreInOrder runs
 
--- such a list came behind other runs
+-- such a list was added after other runs
 pub record AddsRuns (Is : FreeRun → Type 0) (old new : List FreeRun) : Type 0 where
   pub runs : List FreeRun
   pub behind : new ≡ old ++ runs

@@ -26,7 +26,7 @@ IsSoundVolume v = IsSound v.pages v.used v.waiting
 abbrev pub WasSoundVolume : VolumeSpace → Type 0
 WasSoundVolume v = IsSound v.pages v.kept_used v.kept_waiting
 
--- the same of each volume that is there
+-- each volume that is there is sound
 abbrev pub AreSoundVolumes : List (Option VolumeSpace) → Type 0
 AreSoundVolumes volumes = AllByRecursion (λ o. IfSome o IsSoundVolume) volumes
 
@@ -43,7 +43,7 @@ is_one pages p = list_any (λ q. q == p) pages
 abbrev pub without : ℕ → List ℕ → List ℕ
 without p pages = filter (λ q. not (q == p)) pages
 
--- what was used, where these were taken since and those became free
+-- what was used before these were taken and those became free
 abbrev pub used_before : FinSet nat_cmp → List ℕ → List ℕ → FinSet nat_cmp
 used_before used taken freed = union (difference used (from_list taken)) (from_list freed)
 
@@ -56,7 +56,7 @@ pub record AreChanges (pages : ℕ) (used : FinSet nat_cmp) (taken freed : List 
   pub freed_once : IsDistinct nat_eq freed
 
 -- what a volume keeps besides: the room for each of its pages to wait, to be taken and to become
--- free, and what has changed since so many waited, at which time it was sound too
+-- free, and what has changed since `kept` pages waited, when it was sound too
 pub record IsKept (pages : ℕ) (used : FinSet nat_cmp) (waiting : List Waiting) (taken freed : List ℕ)
     (kept room taken_room freed_room : ℕ) : Type 0 where
   pub sound : IsSound pages used waiting

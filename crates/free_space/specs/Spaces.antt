@@ -54,7 +54,7 @@ AreFreedOn None pages = pages ≡ []
 AreFreedOn (Some v) pages =
     (from_list pages ≡ difference v.kept_used v.used) × IsDistinct nat_eq pages
 
--- these have come to wait on the volume since it was kept, behind those that waited then
+-- these have come to wait on the volume since it was kept, after those that waited then
 abbrev pub AreGivenBackOn : Option VolumeSpace → List Waiting → Type 0
 AreGivenBackOn None waiting = waiting ≡ []
 AreGivenBackOn (Some v) waiting = v.waiting ≡ v.kept_waiting ++ waiting
@@ -67,7 +67,7 @@ IsFree s vol p = IsSomeAnd (volume_of s vol) (λ v. IsFreePage v p)
 abbrev pub CanTake : Spaces → ℕ → ℕ → Type 0
 CanTake s vol p = IsSomeAnd (volume_of s vol) (λ v. (v.is_open ≡ true) × IsFreePage v p)
 
--- the same of so many pages in a row from page p on
+-- `count` pages in a row from page p on are free, and the volume is open
 abbrev pub CanTakeRun : Spaces → ℕ → ℕ → ℕ → Type 0
 CanTakeRun s vol p count = IsSomeAnd (volume_of s vol)
     (λ v. (v.is_open ≡ true) × AreFreePages v p count)
@@ -86,7 +86,7 @@ abbrev pub free_pages : Option VolumeSpace → ℕ
 free_pages None = 0
 free_pages (Some v) = if v.is_open then v.pages - len v.used else 0
 
--- how many pages of a volume wait, none where it is not there
+-- how many pages of a volume wait, none if it is not there
 abbrev pub waiting_pages : Option VolumeSpace → ℕ
 waiting_pages None = 0
 waiting_pages (Some v) = length v.waiting
@@ -96,7 +96,7 @@ abbrev pub held_pages : Option VolumeSpace → ℕ
 held_pages None = 0
 held_pages (Some v) = len v.used - length v.waiting
 
--- the length of the volume's longest run of free pages, 0 where it is not there
+-- the length of the volume's longest run of free pages, 0 if it is not there
 abbrev pub IsLongestOn : Option VolumeSpace → ℕ → Type 0
 IsLongestOn None count = count ≡ 0
 IsLongestOn (Some v) count = IsLongestRun (volume_pages v) count

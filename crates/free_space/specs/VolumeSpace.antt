@@ -103,7 +103,7 @@ insert_run used p (suc count) = insert (insert_run used p count) (p + count)
 abbrev pub with_page : ℕ → VolumeSpace → VolumeSpace
 with_page p v = record v { used = insert v.used p }
 
--- so many pages in a row more are used
+-- `count` more pages in a row are used, from page p on
 abbrev pub with_run : ℕ → ℕ → VolumeSpace → VolumeSpace
 with_run p count v = record v { used = insert_run v.used p count }
 

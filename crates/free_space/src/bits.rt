@@ -35,8 +35,8 @@ fn is_wrong_bit(page: &Page, owned: &SpanSet, pages: u32, first: u64, bit: usize
     is_set(page.bytes(), bit) != should_be_set(owned, pages, first + bit as u64)
 }
 
-/// Whether some bit of a page of the bitmap of a volume with `pages` pages is 1 where the page has
-/// no owner, or 0 where it has one or lies outside the volume. The first bit is that of page
+/// Whether some bit of a page of the bitmap of a volume with `pages` pages is 1 though the page has
+/// no owner, or 0 though it has one or lies outside the volume. The first bit is that of page
 /// `first`.
 pub fn is_wrong_page(page: &Page, owned: &SpanSet, pages: u32, first: u64) -> bool
     requires { first < 2 ^ 62 }

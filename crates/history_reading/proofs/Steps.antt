@@ -1,4 +1,4 @@
--- What is left of a list behind one of its elements, and numbers that differ.
+-- What is left of a list after one of its elements, and numbers that differ.
 use Rattle.std.proofs.Common.{◌≡◌, ◌≢◌, ℕ, ◌+◌, ◌-◌, false, eqb, List, length, take, drop, map, sym, ap, ◌∙◌, arith}
 use Rattle.std.proofs.Math.Seq.{drop-drop}
 use Rattle.std.proofs.lemmas.Bool.Decides.{nat_tests}

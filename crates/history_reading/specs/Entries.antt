@@ -27,7 +27,7 @@ abbrev pub IsActor : Actor → Type 0
 IsActor (Client number) = (1 ≤ number) × (number ≤ 8)
 IsActor Mover = Unit {0}
 
--- what a command answers where it is not refused
+-- what a command answers if it is not refused
 abbrev pub answer_kind : Command → AnswerKind
 answer_kind (command.Write place offset bytes) = kind.Count
 answer_kind (command.Links place) = kind.Count

@@ -1,5 +1,5 @@
--- What lines say, read without regard to how exactly they are spelled: a line is then compared with
--- that of the entry that it says.
+-- What lines say, however they are spelled: a line is then compared with that of the entry that it
+-- says.
 use Rattle.std.specs.Prelude.{ℕ, ◌-◌, ◌^◌, Bool, ◌==◌, if◌then◌else◌, Option, Some, None, option_map, find, List, [], ◌∷◌, length, take, codes}
 use Rattle.std.specs.List.{after_first, before_first, list_any, slice_split}
 use Rattle.std.specs.Str.{bytes_eq}
@@ -24,13 +24,13 @@ use Rattle.script_text.specs.word_forms.Forms.{◌>>=◌, bytes_of, each, filese
 
 -- ** Rows of listings
 
--- a name, before a `/` where it is a directory's
+-- a name, before a `/` if it is a directory's
 unfoldable pub name_item_of : List ℕ → Option NameItem
 name_item_of word = do
   name ← name_of (before_first (λ b. b == 47) word)
   Some (record { name = name; directory = list_any (λ b. b == 47) word })
 
--- the original of a clone, behind a `<`
+-- the original of a clone, after a `<`
 unfoldable pub original_of : List ℕ → Option (Option (List ℕ))
 original_of word =
     if list_any (λ b. b == 60) word
@@ -42,8 +42,8 @@ fileset_item_of word = do
   original ← original_of word
   Some (record { fileset = fileset; original = original })
 
--- a volume's number and its pages, the used and the free ones, and a flag, in which `L` stands
--- where it has the log, and `C` where it is closed
+-- a volume's number and its pages, the used and the free ones, and a flag, which has an `L` if it
+-- has the log, and a `C` if it is closed
 unfoldable pub volume_of : Words → Option VolumeItem
 volume_of (v ∷ p ∷ u ∷ f ∷ flag ∷ []) = do
   vol ← number_below (2 ^ 32) v
@@ -63,8 +63,7 @@ volume_of _ = None
 abbrev pub volume_item_of : List ℕ → Option VolumeItem
 volume_item_of word = volume_of (slice_split (λ b. b == 58) word)
 
--- a page and how many there are, behind a `+`, and behind an `@` the volume and, behind a `:`, its
--- page
+-- a page, how many there are after a `+`, the volume after an `@`, and its page after a `:`
 unfoldable pub extent_item_of : List ℕ → Option ExtentItem
 extent_item_of word =
     let behind_page = after_first (λ b. b == 43) word in
@@ -112,7 +111,7 @@ quota_of (name ∷ n ∷ n_limit ∷ other ∷ b ∷ b_limit ∷ []) = do
   Some (reply.Quota files files_limit blocks blocks_limit)
 quota_of _ = None
 
--- the answer of this kind that the words behind `ok` say
+-- the answer of this kind that the words after `ok` say
 abbrev pub answer_of : AnswerKind → Words → Option Reply
 answer_of kind.Done words = no_word reply.Done words
 answer_of kind.Count words = option_map reply.Count (one_word (number_below (2 ^ 64)) words)
@@ -142,7 +141,7 @@ refusals =
 unfoldable pub refusal_at : ℕ → Option Refusal
 refusal_at number = find (λ r. refusal_number r == number) refusals
 
--- the number below the limit that a field has behind its `=`
+-- the number below the limit that a field has after its `=`
 unfoldable pub field_of : ℕ → List ℕ → Option ℕ
 field_of limit word = number_below limit (after_first (λ b. b == 61) word)
 
@@ -207,7 +206,7 @@ reply_of kind (first ∷ words) =
     if bytes_eq first (codes "ok") then answer_of kind words
     else option_map reply.Refused (refusal_of first words)
 
--- a client by its number behind a byte, or the mover by an `m`
+-- a client by its number after a byte, or the mover by an `m`
 unfoldable pub actor_of : List ℕ → Option Actor
 actor_of [] = None
 actor_of (mark ∷ digits) =
@@ -218,7 +217,7 @@ said_command first behind = do
   verb ← verb_of first
   command_of verb behind
 
--- the entry that the words before `->` and those behind it say
+-- the entry that the words before `->` and those after it say
 unfoldable pub said_entry : Words → Words → Option Entry
 said_entry (who ∷ first ∷ behind) words = do
   actor ← actor_of who

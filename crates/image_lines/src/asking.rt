@@ -1,5 +1,5 @@
-//! Tables of rows, each of which asks something of an image of the table, and the answers beside
-//! their rows.
+//! Tables of rows, each asking something of an image of the table, and the answers beside their
+//! rows.
 use crate::image::Image;
 use crate::words::Words;
 use std::alloc::Global;

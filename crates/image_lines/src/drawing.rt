@@ -149,8 +149,8 @@ fn draw_index(words: &mut Words, page: &mut Page) {
     put_number(page, 4, count);
 }
 
-/// A page of a bitmap: how many pages it has bits for, of which these runs are used. All bits past
-/// them are set.
+/// A page of a bitmap: how many pages it has bits for, and which runs of them are used. All bits
+/// past them are set.
 pub(crate) fn draw_bitmap(pages: u32, words: &mut Words, page: &mut Page) {
     for at in (pages / 8) as usize..PAGE_BYTES {
         put(page, at, &[0xff]);

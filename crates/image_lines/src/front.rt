@@ -2,7 +2,7 @@
 use crate::pen::{put, put_number};
 use page_faults::{Anchor, Page, Version, VolIx};
 
-/// Writes the label of a volume of so many pages, of which one is the bitmap.
+/// Writes the label of a volume of `pages` pages, one of them the bitmap.
 pub(crate) fn draw_label(version: Version, vol: VolIx, pages: u32, page: &mut Page) {
     let end = put(page, 0, b"ADVFSLAB");
     let end = put_number(page, end, version.number());

@@ -1,6 +1,6 @@
 //! Pages of domains as lines of text, for the tables of tests: each line tells one thing that
-//! stands on a page, and all other bytes of that page are zeros. The rows of a table ask something
-//! of such images, also of racks on which they stand.
+//! stands on a page, and all other bytes of that page are zeros. Each row of a table asks
+//! something about such an image, or about a rack that holds it.
 #![tactic(auto)]
 
 mod asking;

@@ -118,7 +118,7 @@ fn numbers_of(alloc: Global, words: &mut Words) -> Result<Vec<u32>, OutOfMemory>
     Ok(numbers)
 }
 
-/// A rack of zeros with volumes of so many pages.
+/// A rack of zeros with volumes of these numbers of pages.
 pub fn empty_rack(alloc: Global, words: &mut Words) -> Result<MemoryRack, OutOfMemory> {
     let sizes = numbers_of(alloc, words)?;
     MemoryRack::new(alloc, &sizes, &[], false)

@@ -56,12 +56,12 @@ abbrev pub HasUnread : Pages → Frame → PageWalk → Type 0
 HasUnread pages frame walk =
     IfSome (unread_of walk) (λ home. MayBe frame home → IsSome (pages home))
 
--- the page of the fileset table, where it is one of a member
+-- the page of the fileset table, if it is one of a member
 abbrev pub HasTablePage : Pages → Frame → Type 0
 HasTablePage pages frame = (home : Home) → frame.anchor.table ≡ Some home → IsWithin frame home
     → IsSome (pages home)
 
--- the pages of the bitmap of a volume, where they are a member's; and of each volume below one
+-- the pages of the bitmap of a volume, if they are a member's; and of each volume below one
 abbrev pub HasBitmap : Pages → Frame → ℕ → Type 0
 HasBitmap pages frame vol = (page : ℕ) → 2 ≤ page → page < first_cells frame vol
     → IsWithin frame (record { vol = vol; page = page })
@@ -71,7 +71,7 @@ HasBitmap pages frame vol = (page : ℕ) → 2 ≤ page → page < first_cells f
 abbrev pub HasBitmapsBelow : ℕ → Pages → Frame → Type 0
 HasBitmapsBelow n pages frame = (vol : ℕ) → vol < n → HasBitmap pages frame vol
 
--- the pages of cells of a volume, where it is a member; and of each below one
+-- the pages of cells of a volume, if it is a member; and of each below one
 abbrev pub HasCellsOf : Pages → Frame → ℕ → Type 0
 HasCellsOf pages frame vol = IsMember frame.anchor vol → HasWay pages frame (cells_way frame vol)
 

@@ -10,9 +10,8 @@ use Rattle.image_loading.specs.Loading.{HasBitmaps, HasCells, HasTagPages}
 use Rattle.slot_files.specs.cell_faults.declared.reading.TableRead.{TableRead}
 use Rattle.slot_files.specs.cell_faults.declared.reading.TableRead.TheVariants.{There}
 
--- the page of the fileset table, where it is one of a member; and where it breaks no rule, each
--- page of cells and of tag directories at which rules look, and of bitmaps as far as they are a
--- member's
+-- the page of the fileset table, if it is one of a member; and if it breaks no rule, each page of
+-- cells and of tag directories at which rules look, and of bitmaps as far as they are a member's
 pub record HasTables (pages : Pages) (frame : Frame) : Type 0 where
   pub table : (home : Home) → frame.anchor.table ≡ Some home → IsWithin frame home
       → IsSome (pages home)

@@ -42,7 +42,7 @@ pub(crate) fn tell_fetched(alloc: Global, image: &mut Image, told: &mut Told) {
     }
 }
 
-/// Tells what is brought from a rack of zeros with volumes of so many pages.
+/// Tells what is brought from a rack of zeros with volumes of these numbers of pages.
 pub(crate) fn tell_zeros(alloc: Global, sizes: &mut Words, told: &mut Told) {
     match empty_rack(alloc, sizes) {
         Ok(mut rack) => tell_on(alloc, &mut rack, told),

@@ -1,4 +1,4 @@
--- An index of which a page is another one, that has a page more, or one less.
+-- An index that has another page in place of one, a page more, or one less.
 use Rattle.std.proofs.Common.{◌≡◌, ◌∙◌, ℕ, zero, suc, ◌+◌, ◌<◌, ◌≤◌, Bool, true, false, cond, Option, Some, None, IsSome, IsSomeAnd, IfSome, is_some, List, [], ◌∷◌, ◌++◌, drop, get_or, length, slice_get, take, refl, sym, ap, subst, arith, unwrap_or}
 use Rattle.std.specs.List.{insert}
 use Rattle.std.specs.Prelude.{Contains}
@@ -47,12 +47,12 @@ good_in_front pages first homes (suc k) are = by_home (slice_get homes k) refl
     by_home None is = tt
     by_home (Some home) is = good_numbered pages first homes k home are is
 
--- the home in front of a place is one of the index
+-- the home before a place is one of the index
 pub in_front_there : (homes : List Home) (number : ℕ) (home : Home) → home_in_front number homes ≡ Some home → Contains homes home
 in_front_there homes zero home is = absurd (none-some home is)
 in_front_there homes (suc k) home is = is_there homes k home is
 
--- what stands at a home, where that is linked to a next one
+-- what stands at a home, if that is linked to a next one
 module _ (new : Pages) (home : Home) (next : Option Home) (page : List ℕ) where
   linked_good : IsSomeAnd (new home) (LinksPage next page) → HasIndexPageAt new home
   linked_good linked = by_page (new home) linked
@@ -77,7 +77,7 @@ module _ (new : Pages) (home : Home) (next : Option Home) (page : List ℕ) wher
 
 -- ** A page in place of another
 
--- an entry behind the first is one of the others
+-- an entry after the first is one of the others
 entry_behind : (k : ℕ) (page first : List ℕ) (more : List (List ℕ)) → with_entry (suc k) page (first ∷ more) ≡ first ∷ with_entry k page more
 entry_behind k page first more =
     let next : suc k + 1 ≡ suc (k + 1) = omega arith in
@@ -145,7 +145,7 @@ module _ (old new : Pages) (onto : Home) (page : List ℕ) where
   Inserted first number homes = AreIndexHomes new (Some (first_with onto number first)) (insert homes number onto)
       × (shown_at new (insert homes number onto) ≡ insert (shown_at old homes) number (shown_index page))
 
-  -- that another home begins the list does not matter where the page stands behind one
+  -- that another home begins the list does not matter if the page stands after one
   behind_any : (first other : Option Home) (before : Home) → LinksIn first (Some before) onto page old new → LinksIn other (Some before) onto page old new
   behind_any first other before links = record { is = links.is; links = links.links; others = links.others }
 
@@ -182,7 +182,7 @@ module _ (old new : Pages) (onto : Home) (page : List ℕ) where
             ∷ linked_shown new onto (next_at old h) page links.is i ∷ shown_same old new more same i,
       )
 
-  -- the page in front of the new one is further on
+  -- the page before the new one is further on
   later : (first : Option Home) (h : Home) (more : List Home) (j : ℕ) → AreIndexHomes old first (h ∷ more) → ¬ Contains (h ∷ more) onto
       → (before : Home) → slice_get more j ≡ Some before → LinksIn first (Some before) onto page old new
       → Inserted (next_at old h) (suc j) more → Inserted first (suc (suc j)) (h ∷ more)

@@ -1,4 +1,4 @@
--- An index of which all pages go, the first one first.
+-- An index that loses all its pages, the first one first.
 use Rattle.std.proofs.Common.{◌≡◌, ◌∙◌, ℕ, zero, suc, ◌+◌, ◌≤◌, Bool, true, false, cond, nat_eq, Option, Some, None, IfSome, List, [], ◌∷◌, length, refl, sym, ap, subst, arith}
 use Rattle.std.specs.Prelude.{Contains}
 use Rattle.std.specs.Option.{option_and_then}
@@ -54,7 +54,7 @@ pub held_beside : (group : ℕ) (space : Spaces) (home other : Home) → 1 ≤ h
 held_beside group space home other low low_other apart held =
     held_given Metadata group (home ∷ []) space other (λ x inside. subst (λ (h : Home). 1 ≤ h.vol) (only home x inside) low) low_other (λ inside. apart (only home other inside)) held
 
--- ---- so many pages have gone
+-- ---- this number of pages has gone
 
 pub record IsLeft (group : ℕ) (space space_now : Spaces) (old new : Pages) (count : ℕ) (home : Option Home) (homes : List Home) : Type 0 where
   pub rest : List Home
@@ -82,7 +82,7 @@ none_gone first group space old homes are held = record {
   long = omega arith;
 }
 
--- what is not the first one of a list is behind it
+-- what is not the first one of a list is after it
 in_tail : (here : Home) (more : List Home) (h : Home) → same_home h here ≡ false → Contains (here ∷ more) h → Contains more h
 in_tail here more h off (zero, within, is) = absurd (true_false (sym (same_itself h) ∙ sym (ap (same_home h) is) ∙ off))
   where

@@ -23,7 +23,7 @@ module _ (pages : Pages) where
       let same : h ≡ k = sym left.0 ∙ right.0 in
       λ i. same i ∷ one_list (next_at pages h) a b left.2 (subst (λ (x : Home). AreIndexHomes pages (next_at pages x) b) (sym same) right.2) i
 
-  -- what is behind a place of the list is the list from there on
+  -- what is after a place of the list is the list from there on
   pub from_place : (first : Option Home) (homes : List Home) (k : ℕ) → AreIndexHomes pages first homes
       → (at : Option Home) → slice_get homes k ≡ at → AreIndexHomes pages at (drop k homes)
   from_place None [] zero are at is = subst (λ (o : Option Home). AreIndexHomes pages o []) is tt

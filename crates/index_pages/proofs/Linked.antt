@@ -35,7 +35,7 @@ module _ (page bytes : List ℕ) (len : length bytes ≡ 8) (whole : length page
       ∙ take-append-le 8 (take 8 page) (bytes ++ drop (8 + length bytes) page) (omega (arith, front))
       ∙ take_all 8 (take 8 page) (omega (arith, front))
 
-  -- and so are those behind
+  -- and so are those after
   drop_end : drop 16 end ≡ drop 16 page
   drop_end =
       let long : length (take 8 page ++ bytes) ≡ 16 = omega (arith, length-append (take 8 page) bytes, front, len) in

@@ -1,4 +1,4 @@
--- An index that is walked: after so many pages the one that is come to begins what is left of it.
+-- An index that is walked: after some pages the one that is come to begins what is left of it.
 use Rattle.std.proofs.Common.{◌≡◌, ◌∙◌, ℕ, zero, suc, ◌+◌, ◌≤◌, Option, Some, None, List, [], ◌∷◌, length, drop, min, slice_get, refl, sym, ap, subst, arith, length-drop}
 use Rattle.std.proofs.lemmas.List.{drop-drop}
 use Rattle.std.proofs.lemmas.Option.{slice_get_past}
@@ -6,7 +6,7 @@ use Rattle.file_release.specs.domain_base.declared.place.Home.{Home}
 use Rattle.file_release.specs.page_store.Pages.{Pages}
 use Rattle.index_pages.specs.Homes.{AreIndexHomes, HasIndexHomes, HasIndexPageAt, next_at}
 
--- the home that is come to behind so many pages of each list that there is
+-- the home that is come to after this number of pages of each list that there is
 abbrev pub IsCome : Pages → Option Home → ℕ → Option Home → Type 0
 IsCome pages first count home = (homes : List Home) → AreIndexHomes pages first homes → AreIndexHomes pages home (drop count homes)
 
@@ -59,7 +59,7 @@ module _ (pages : Pages) where
     pub long : (homes : List Home) → AreIndexHomes pages first homes → count + 1 ≤ length homes
     long homes are = omega (arith, some_left here (drop count homes) (come homes are), length-drop count homes)
 
--- so many pages were passed
+-- this number of pages was passed
 abbrev pub HasPassed : Pages → Option Home → ℕ → Type 0
 HasPassed pages first count = (homes : List Home) → AreIndexHomes pages first homes → count ≤ length homes
 

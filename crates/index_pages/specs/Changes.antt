@@ -63,7 +63,7 @@ FindsNoPage space space_now NoPage =
     ((vol p : ℕ) → ¬ CanTake space vol p) × (space_now ≡ missed space)
 FindsNoPage space space_now OutOfMemory = space_now ≡ space
 
--- the home of the page in front of a place, none at the beginning
+-- the home of the page before a place, none at the beginning
 abbrev pub home_in_front : ℕ → List Home → Option Home
 home_in_front zero homes = None
 home_in_front (suc k) homes = slice_get homes k

@@ -25,12 +25,11 @@ pub record LeadsOn (before : Option Home) (next : Home) (old new : Pages) : Type
       (λ was. IsSomeAnd (new home) (LinksPage (Some next) was)))
   pub others : (home : Home) → ¬ before ≡ Some home → new home ≡ old home
 
--- the home of the page behind one, or of the first page
+-- the home of the page after one, or of the first page
 abbrev pub next_behind : Pages → Option Home → Option Home → Option Home
 next_behind pages first before = option_map_or (next_at pages) before first
 
--- a page stands behind another one, or in front of all, and names the one that stood there as the
--- next
+-- a page stands after another one, or before all, and names the one that stood there as the next
 pub record LinksIn (first before : Option Home) (onto : Home) (page : List ℕ) (old new : Pages)
     : Type 0 where
   pub is : IsSomeAnd (new onto) (LinksPage (next_behind old first before) page)

@@ -16,7 +16,7 @@ placed home entries = map (λ entry. record { home = home; entry = entry }) entr
 abbrev pub page_at : Pages → Home → List ℕ
 page_at pages home = unwrap_or (pages home) []
 
--- those of the page there, and of pages, one behind the other
+-- those of the page there, and of pages, one after the other
 abbrev pub entries_at : Pages → Home → List EntryAt
 entries_at pages home = placed home (entries_in (page_at pages home))
 
@@ -24,12 +24,12 @@ entries_at pages home = placed home (entries_in (page_at pages home))
 abbrev pub entries_on : Pages → List Home → List EntryAt
 entries_on pages homes = flat_map (entries_at pages) homes
 
--- it is below the highest one in front of it, if there is one
+-- it is below the highest one before it, if there is one
 abbrev pub is_below_top : Option IndexEntry → IndexEntry → Bool
 is_below_top None entry = false
 is_below_top (Some top) entry = is_below entry top
 
--- an entry in front of a number is below one in front of it, and stands on a page
+-- an entry before a number is below one before it, and stands on a page
 abbrev pub IsLateBefore : List EntryAt → ℕ → Home → Type 0
 IsLateBefore entries number home = (k : ℕ) × (j : ℕ) × (at : EntryAt) × (before : EntryAt)
     × (k < number) × (j < k) × (slice_get entries k ≡ Some at) × (slice_get entries j ≡ Some before)

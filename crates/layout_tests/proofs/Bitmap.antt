@@ -1,4 +1,4 @@
--- The bitmap of a volume of 512 pages, of which the first 128 are used, and some of the next eight.
+-- The bitmap of a volume of 512 pages. The first 128 are used, and some of the next eight.
 use Rattle.std.proofs.Common.{◌≡◌, ◌∙◌, ◌⊎◌, ◌↔◌, inl, inr, ℕ, zero, suc, ◌+◌, ◌-◌, ◌/◌, ◌%◌, ◌<◌, ◌≤◌, true, false, nat_eq, nat_lt, List, ◌∷◌, ◌++◌, length, slice_index, refl, sym, ap, arith, ⊎_elim}
 use Rattle.std.proofs.lemmas.Bool.{both_ways, cases_lt, cases_order, lt-ltb, ltb-true}
 use Rattle.std.proofs.lemmas.List.{get_or-append_right, length-replicate}

@@ -10,7 +10,7 @@ use Rattle.domain_making.specs.disk_label.Body.{no_member}
 use Rattle.domain_making.specs.disk_label.declared.anchor.Anchor.{Anchor}
 use Rattle.domain_making.specs.domain_layout.Reached.{Frame}
 
--- as many bytes of which each bit is 1
+-- `n` bytes, each bit of them 1
 unfoldable pub full_bytes : ℕ → List ℕ
 full_bytes n = replicate n 0xff
 

@@ -76,7 +76,7 @@ pub fn made<R: Rack>(alloc: Global, rack: &mut R, version: Version) -> Answer {
     }
 }
 
-/// Makes a domain on a volume of zeros of so many pages.
+/// Makes a domain on a volume of `pages` pages of zeros.
 fn made_on(alloc: Global, pages: u32, version: Version) -> Result<Answer, OutOfMemory> {
     let mut rack = MemoryRack::new(alloc, &[pages], &[], false)?;
     Ok(made(alloc, &mut rack, version))

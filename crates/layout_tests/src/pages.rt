@@ -154,7 +154,7 @@ fn count_right<R: Rack>(alloc: Global, rack: &mut R, run: &Run) -> Result<u32, F
     Ok(right)
 }
 
-/// The first block of the first run that is not as it should be; none where all are.
+/// The first block of the first run that is not as it should be; none if all are.
 fn first_wrong<R: Rack>(alloc: Global, rack: &mut R, runs: &[Run]) -> Result<Option<u32>, Fail> {
     for run in runs {
         if count_right(alloc, rack, run)? != run.count {

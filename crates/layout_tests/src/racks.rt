@@ -6,7 +6,7 @@ use domain_making::{OutOfMemory, Rack, VolIx};
 use memory_disk::MemoryRack;
 use std::alloc::Global;
 
-/// Whether so many bytes from a block on are whole blocks of a volume.
+/// Whether `size` bytes from a block on are whole blocks of a volume.
 fn is_there<R: Rack>(rack: &R, vol: VolIx, block: u32, size: usize) -> bool
     ensures { result ≡ true → AreBlocks (R.disk rack.now) vol block size }
 {
@@ -19,7 +19,7 @@ fn is_there<R: Rack>(rack: &R, vol: VolIx, block: u32, size: usize) -> bool
         && end <= 8_192 * rack.pages(vol) as u64
 }
 
-/// A block of volume 1; no byte where it can't be read.
+/// A block of volume 1; no byte if it can't be read.
 pub fn get<R: Rack>(alloc: Global, rack: &mut R, block: u32) -> Result<Vec<u8>, OutOfMemory> {
     let mut bytes = vec![in alloc; 0; 512]?;
     let Some(vol) = VolIx::new(1) else {
@@ -43,7 +43,7 @@ fn put<R: Rack>(rack: &mut R, bytes: &[u8]) -> bool {
         && rack.sync(vol).is_ok()
 }
 
-/// A rack of one volume of 512 pages, of which the first 134 are full of a byte.
+/// A rack of one volume of 512 pages, the first 134 full of a byte.
 pub fn filled(alloc: Global, byte: u8) -> Result<MemoryRack, OutOfMemory> {
     let mut rack = MemoryRack::new(alloc, &[512], &[], false)?;
     let bytes = vec![in alloc; byte; 134 * 8_192]?;

@@ -22,7 +22,7 @@ get-kept pages size q = map.get-retain_keys pages (λ q. nat_lt (q * 8192) size)
 abbrev cut_page : ℕ → List ℕ → List ℕ
 cut_page size page = overwritten page (size % 8192) (zero_bytes (8192 - size % 8192))
 
--- what a cut leaves at a page, where the cut lies in it and where it lies elsewhere
+-- what a cut leaves at a page, if the cut lies in it and if it lies elsewhere
 cut-here : (pages : Pages) (size : ℕ) → map.get (truncated pages size) (size / 8192) ≡ option_map_or (λ page. Some (cut_page size page)) (map.get (kept pages size) (size / 8192)) None
 cut-here pages size = elim (map.get (kept pages size) (size / 8192)) as (λ o. map.get (kept pages size) (size / 8192) ≡ o
     → map.get (option_map_or (λ page. map.insert (kept pages size) (size / 8192) (cut_page size page)) o (kept pages size)) (size / 8192) ≡ option_map_or (λ page. Some (cut_page size page)) o None) [

@@ -24,7 +24,7 @@ module _ (a b : FilesetSlot) (same : (path : Path) → IsShown a path → IsShow
       let short : c < count = omega (arith, less, length-take count path, inside) in
       (short, omega (arith, short, inside))
 
-  -- what no directory in front of some count refuses is shown up to that count
+  -- what no directory before some count refuses is shown up to that count
   front : (slot : FilesetSlot) (path : Path) (n count : ℕ) → count < suc n → count < length path
       → ((c : ℕ) → c < n → c < length path → is_out_of_sync_at slot (take c path) ≡ false) → IsShown slot (take count path)
   front slot path n count below inside earlier c less =

@@ -1,4 +1,5 @@
--- Places in lists: an element in the middle, what stands before and behind it, and the last one that passes a test.
+-- Places in lists: an element in the middle, what stands before and after it, and the last one that
+-- passes a test.
 use Rattle.std.proofs.Common.{◌≡◌, suc, ◌+◌, ◌-◌, ◌<◌, ◌≤◌, Bool, true, false, cond, not, ◌||◌, List, [], ◌∷◌, ◌++◌, length, refl, sym, ap, subst, ◌∙◌, arith, append_assoc, length-append, length-take}
 use Rattle.std.proofs.lemmas.List.{length-reverse, reverse-append}
 use Rattle.std.specs.List.{before_last, list_any, prefix_len, suffix_len}
@@ -24,7 +25,7 @@ same_tail x y xs ys e = ap tail_of e
 
 -- ---- a list in two ways
 
--- a front that is long enough has the element, and the rest goes on behind it
+-- a front that is long enough has the element, and the rest goes on after it
 pub has_middle : {X : Type 0} (front later before : List X) (x : X) (after : List X) → front ++ later ≡ before ++ x ∷ after → length before < length front
     → (between : List X) × (front ≡ before ++ x ∷ between) × (after ≡ between ++ later)
 has_middle [] later before x after same long = absurd (omega arith)

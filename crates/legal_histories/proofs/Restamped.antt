@@ -45,7 +45,7 @@ changed_same all e stamp = of_parts all e.actor e.command e.reply e.stamp stamp
 
 -- ---- steps
 
--- what happens between entries, where as many were answered before that changed the same
+-- what happens between entries, if as many were answered before that changed the same
 silent_same : (point : Point) (past : List Answered) → changed_in past ≡ changed_in point.past → length past ≡ length point.past → (new : State) → Silent point new → Silent (record point { past = past }) new
 silent_same point past changed many new (marks gains tight rest) =
     marks
@@ -73,7 +73,7 @@ step_same point e new stamp (out_of_memory is same) = out_of_memory is same
 
 -- ---- the chain
 
--- a point to which the history comes with the other stamp, where all else is as it was
+-- a point to which the history comes with the other stamp, with all else as it was
 record Restamps (start : State) (stamp : ℕ) (history : List Entry) (e : Entry) (point : Point) : Type 0 where
   past : List Answered
   chain : Chain (start_point start) (record point { past = past })

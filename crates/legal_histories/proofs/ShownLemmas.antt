@@ -93,7 +93,7 @@ module _ (slot other : FilesetSlot) (alike : LooksLikeSlot slot other) where
       ap (λ m. option_map_or (λ node. first_refusal (refuse_if (not (is_directory node)) NotDirectory ∷ refuse_if m OutOfSync ∷ [])) (node_at other.tree path) (Some NoPath)) (same_mark path shown)
       ∙ same_kind (λ d. first_refusal (refuse_if (not d) NotDirectory ∷ refuse_if (is_out_of_sync_at slot path) OutOfSync ∷ [])) (Some NoPath) path shown
 
-  -- the same walk from one front on, where none before is out of sync
+  -- the same walk from one front on, if none before is out of sync
   same_walk_on : (path : Path) (n k : ℕ) → k + n ≡ length path → ((count : ℕ) → count < k → is_out_of_sync_at slot (take count path) ≡ false)
       → walk_on other path k n ≡ walk_on slot path k n
   same_walk_on path zero k whole before = refl
@@ -115,7 +115,7 @@ module _ (slot other : FilesetSlot) (alike : LooksLikeSlot slot other) where
   same_walk : (path : Path) → walk_refusal other path ≡ walk_refusal slot path
   same_walk path = same_walk_on path (length path) 0 (omega arith) (λ count below. absurd (omega arith))
 
-  -- the same checks behind a target that is there and shown
+  -- the same checks after a target that is there and shown
   pub same_behind_target : (path : Path) (checks : FilesetSlot → List (Option Refusal))
       → (IsShown slot path → first_refusal (checks other) ≡ first_refusal (checks slot))
       → first_refusal (target_refusal other path ∷ checks other) ≡ first_refusal (target_refusal slot path ∷ checks slot)

@@ -79,7 +79,7 @@ module _ {K X : Type 0} {R : K → K → Ordering} (o : IsTotalOrder R) (a : map
       by_test true = refl
       by_test false = alike
 
-  -- so it is of all that have so many values
+  -- the same holds of all that have n values
   abbrev AreSame : ℕ → Type 0
   AreSame n = (x y : map.FinMap R X) → map.len x ≡ n → ((q : K) → option_map f (map.get x q) ≡ option_map f (map.get y q)) → sum_by f (map.values x) ≡ sum_by f (map.values y)
 

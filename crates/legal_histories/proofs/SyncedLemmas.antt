@@ -134,7 +134,7 @@ fsync_leaves place a is = record {
     fsync_is_not : Fsync place ≡ Rmfset place.fileset → ⊥
     fsync_is_not same = cc
 
--- ---- filesets that differ in the bytes of pages that may differ, where none may
+-- ---- filesets that differ in the bytes of pages that may differ, if none may
 
 same_pages : (MayDiffer : ℕ → Type 0) → ((q : ℕ) → MayDiffer q → ⊥) → (pages other : Pages) → ((q : ℕ) → SamePage (MayDiffer q) (map.get pages q) (map.get other q)) → other ≡ pages
 same_pages MayDiffer none pages other same = map.same_map nat_cmp_total map.nat_cmp-IsAntisymmetric other pages (λ q. at q (map.get pages q) (map.get other q) (same q))

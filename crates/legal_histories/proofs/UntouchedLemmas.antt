@@ -264,7 +264,7 @@ module _ (place : Place) (number : ℕ) (node : Node) where
 
     -- ---- each command
 
-    -- the fileset of a command that is not refused is the file's, where its name is
+    -- the fileset of a command that is not refused is the file's, if its name is
     slot_is : (name : Name) (slot : FilesetSlot) → map.get old name ≡ Some slot → name ≡ place.fileset → slot ≡ has.slot
     slot_is name slot is same = some_inj (sym is ∙ ap (map.get old) same ∙ has.is)
 

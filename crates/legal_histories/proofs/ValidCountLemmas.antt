@@ -31,7 +31,7 @@ module _ {K X : Type 0} {R : K → K → Ordering} (o : IsTotalOrder R) (a : map
         | Greater ↦ λ less. absurd (true≢false (sym less))
       ] (first_so _ _ h)
 
-  -- what is found behind an entry is found from it on
+  -- what is found after an entry is found from it on
   pub found_later : (e : K × X) (es : List (K × X)) (q : K) (v : X) → IsTrue (is_sorted R (e ∷ es)) → find R q es ≡ Some v → find R q (e ∷ es) ≡ Some v
   found_later e es q v h found =
       elim (eq_by_cmp R q e.0) as (λ b. eq_by_cmp R q e.0 ≡ b → cond b (Some e.1) (find R q es) ≡ Some v) [

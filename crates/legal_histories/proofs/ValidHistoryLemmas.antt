@@ -50,7 +50,7 @@ looks_through a b c first second = record {
   links = λ path number shows. second.links path number (shows_there a b first path number shows) ∙ first.links path number shows;
 }
 
--- a clone with another's marks looks like what that looks like, where those agree on what is shown
+-- a clone with another's marks looks like what that looks like, if those agree on what is shown
 module _ (whole : Fileset) (slot other : FilesetSlot) (shows : LooksLikeSlot (record slot { tree = whole }) slot) (alike : LooksLikeSlot slot other) where
   abbrev behind : FilesetSlot
   behind = record slot { tree = whole }

@@ -55,7 +55,7 @@ is_done_by t e = is_done e.reply && nat_le e.stamp t
 abbrev pub is_synced_by : ℕ → Entry → Bool
 is_synced_by t e = is_synced_command e.command && is_done_by t e
 
--- the place, counted from 1, of the last entry that is synced by call t, and 0 where none is
+-- the place, counted from 1, of the last entry that is synced by call t, and 0 if none is
 abbrev pub kept : List Entry → ℕ → ℕ
 kept history t =
     if list_any (is_synced_by t) history
@@ -86,7 +86,7 @@ unlogged_pages all place choose =
         if logged then [] else map_list (λ q. (place.fileset, number, q)) (choose size pages)
     of number (Directory uid gid) = []
 
--- the page in which a file is cut: also where it grows, since bytes may stand behind its end
+-- the page in which a file is cut, also if it grows, since bytes may stand after its end
 abbrev pub cut_pages : ℕ → Pages → List ℕ
 cut_pages size pages =
     let q = size / PAGE_BYTES in
@@ -177,8 +177,8 @@ SameBut MayDiffer all other =
 
 -- ---- what is found
 
--- the command of the mover's first entry among these, and where it has none the job that runs in
--- the end
+-- the command of the mover's first entry among these, and if it has none, the job that runs in the
+-- end
 abbrev pub next_job : List Entry → Option Command → Option Command
 next_job [] job = job
 next_job (e ∷ rest) job = of e.actor (next_job rest job)
@@ -202,7 +202,7 @@ pub record Settles (point : Point) (state : State) : Type 0 where
   pub ends : last.state ≡ state
 
 -- the state in which a stop finds a domain that goes on from a front by some entries, with the job
--- that runs in the end: the one there, or, where the next entry is the first that panicked, the one
+-- that runs in the end: the one there, or, if the next entry is the first that panicked, the one
 -- before it with its command done
 pub data Found (front : Point) (later : List Answered) (job : Option Command) (state : State)
     : Type 0 where

@@ -62,7 +62,7 @@ changed_by all (Rename place to) =
     ++ removed_at all place.fileset to
 changed_by all command = []
 
--- the same of an entry, which changes nothing where its command was refused
+-- what an entry changes, which is nothing if its command was refused
 abbrev pub changed_by_entry : FilesetMap → Entry → List Numbered
 changed_by_entry all e = unless_refused e.reply
   where

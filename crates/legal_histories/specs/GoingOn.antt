@@ -33,17 +33,18 @@ pub record LeadsOn (point : Point) (e : Entry) (new : State) : Type 0 where
   pub step : Step point e end
   pub looks : LooksLikeState end new
 
--- so it may at each point to which the history may have come, where the state looks like this one
+-- it may go on so at each point to which the history may have come and whose state looks like this
+-- one
 abbrev pub MayGoOn : State → List Entry → Option Command → State → Entry → State → Type 0
 MayGoOn start history job now e new = (point : Point) → ComesTo start history job point
     → LooksLikeState point.state now → LeadsOn point e new
 
--- the same where the state is this one
+-- it may go on so at each point to which the history may have come and whose state is this one
 abbrev pub MayGoOnFrom : State → List Entry → Option Command → State → Entry → State → Type 0
 MayGoOnFrom start history job now e new = (point : Point) → ComesTo start history job point
     → point.state ≡ now → LeadsOn point e new
 
--- filesets of which none is a clone
+-- filesets, none of them a clone
 abbrev pub HaveNoClone : FilesetMap → Type 0
 HaveNoClone all = (name : Name) (slot : FilesetSlot) → map.get all name ≡ Some slot
     → slot.role ≡ Original

@@ -8,8 +8,8 @@ use Rattle.fileset_model.specs.declared.fileset.FilesetSlot.{FilesetSlot}
 use Rattle.fileset_model.specs.declared.fileset.Role.{Role}
 use Rattle.fileset_model.specs.declared.fileset.Role.TheVariants.{Original, CloneOf}
 
--- a fileset that is now this one has the same files, and where it is a clone its marks and more,
--- each of which `Allowed` takes: for its original's name, the clone and the number
+-- a fileset that is now this one has the same files, and if it is a clone, its marks and more.
+-- `Allowed` takes the original's name, the clone and the number of each new mark.
 abbrev pub RoleGains : (Name → FilesetSlot → ℕ → Type 0) → FilesetSlot → Role → Role → Type 0
 RoleGains Allowed slot Original role = role ≡ Original
 RoleGains Allowed slot (CloneOf original out) Original = ⊥

@@ -20,7 +20,8 @@ pub data PlainRun (first : FilesetMap) : List Entry → FilesetMap → Type 0 wh
       → (e : Entry) (new : FilesetMap) → AnswersIfMemory all e.command e.reply new
       → PlainRun first (history ++ e ∷ []) new
 
--- the same, where for want of pages clones may lose some of their numbers between the answers
+-- each command of a history is answered in turn as it means, or out-of-memory; between the answers,
+-- clones may lose some of their numbers for want of pages
 pub data MarkedRun (first : FilesetMap) : List Entry → FilesetMap → Type 0 where
   none : MarkedRun first [] first
   entry : {history : List Entry} {all : FilesetMap} → MarkedRun first history all

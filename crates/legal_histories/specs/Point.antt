@@ -74,6 +74,6 @@ point_after point e new = record {
 abbrev pub peak : Point → ℕ
 peak point = 16 * point.state.old_pages + 24 * length point.past + point.most
 
--- the open members of a state have fewer pages than may be needed at a point, and so many more
+-- the open members of a state have fewer pages than may be needed at a point plus `more`
 abbrev pub Tight : Point → State → ℕ → Type 0
 Tight point s more = open_pages s < peak point + more

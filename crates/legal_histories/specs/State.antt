@@ -32,7 +32,7 @@ numbered_cmp-total =
 abbrev pub NumberedSet : Type 0
 NumberedSet = set.FinSet numbered_cmp
 
--- a volume that the domain uses: so many of its pages, and whether new pages may be put on it
+-- a volume that the domain uses: how many of its pages, and whether new pages may be put on it
 pub record Member : Type 0 where
   pub pages : ℕ
   pub is_open : Bool
@@ -72,22 +72,22 @@ new_domain version sizes = record {
   old_pages = 1;
 }
 
--- the striped numbers of which the filesets still have something
+-- the striped numbers that the filesets still have a node for
 abbrev pub still_striped : FilesetMap → NumberedSet → NumberedSet
 still_striped all striped =
     set.retain striped
     (λ n. option_map_or (λ slot. map.contains_key slot.tree.nodes n.1) (map.get all n.0) false)
 
--- a state with other filesets, of which a file that is gone is no longer striped
+-- a state with other filesets; a file that is gone is no longer striped
 abbrev pub with_filesets : FilesetMap → State → State
 with_filesets all s = record s { filesets = all; striped = still_striped all s.striped }
 
--- what a command on filesets answers and changes, where all else stays
+-- what a command on filesets answers and changes; all else stays
 abbrev pub Apply : State → Command → Reply → State → Type 0
 Apply s command reply new =
     Answers s.filesets command reply new.filesets × (new ≡ with_filesets new.filesets s)
 
--- states whose filesets look alike, and all else of which is the same
+-- states whose filesets look alike, with all else the same
 pub record LooksLikeState (s other : State) : Type 0 where
   pub filesets : LooksLike s.filesets other.filesets
   pub rest : other ≡ record s { filesets = other.filesets }

@@ -58,7 +58,7 @@ pub record NoRun (point : Point) (vol : ℕ) (targets : List Member) (reply : Re
   pub short : longest < log_pages
   pub few : All (λ member. member.pages < (log_pages + 1) * (peak point + 1)) targets
 
--- ---- what is answered where the state refuses nothing
+-- ---- what is answered if the state refuses nothing
 
 abbrev pub IsCount : Reply → Type 0
 IsCount reply = (count : ℕ) × (reply ≡ Count count)

@@ -35,7 +35,7 @@ open_members members = filter (λ member. member.is_open) (map.values members)
 abbrev pub pages_together : List Member → ℕ
 pages_together members = sum_by (λ member. member.pages) members
 
--- the pages of a volume, and 0 where the rack or the domain has no such one
+-- the pages of a volume, and 0 if the rack or the domain has no such one
 abbrev pub rack_pages : State → ℕ → ℕ
 rack_pages s vol = option_map_or (λ pages. pages) (map.get s.rack vol) 0
 
@@ -170,7 +170,7 @@ with_member vol s =
     let pages = min (rack_pages s vol) (most_pages s.version) in
     record s { members = map.insert s.members vol (record { pages = pages; is_open = true }) }
 
--- a member goes, and the log, where it was there, is on an open one that stays
+-- a member goes, and the log, if it was there, is now on an open one that stays
 pub record Removes (vol : ℕ) (s new : State) : Type 0 where
   pub members : new.members ≡ map.remove s.members vol
   pub log_stays : s.log_volume ≢ vol → new.log_volume ≡ s.log_volume

@@ -121,8 +121,8 @@ fn count_pages(image: &Image, vol: VolIx) -> u64 {
     count
 }
 
-/// A rack with the pages of an image on volume 1, of which the read with this number after so many
-/// writes fails; none does for 0.
+/// A rack with the pages of an image on volume 1, whose read with this number after so many writes
+/// fails; none does for 0.
 fn rack_with(
     alloc: Global,
     image: &Image,

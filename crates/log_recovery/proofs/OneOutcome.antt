@@ -47,7 +47,7 @@ module _ (anchor : Anchor) (image : Image) where
         fits = omega (arith, fits);
       })
 
-  -- behind the first group
+  -- after the first group
   next_place : (used n : ℕ) → anchor.start + used + 1 + n ≡ anchor.start + (used + (1 + n))
   next_place used n = omega arith
 

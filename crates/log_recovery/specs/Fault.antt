@@ -1,4 +1,4 @@
--- Which call has failed, and what is said where there is no domain.
+-- Which call has failed, and what is said if there is no domain.
 use Rattle.std.specs.Prelude.{◌≡◌, ℕ}
 use Rattle.log_ring.specs.volume_disk.Disk.{Disk, raised_at}
 use Rattle.log_ring.specs.disk_label.FirstPages.{anchors_page}
@@ -19,7 +19,7 @@ IfNotADomain (Fault vol) P = Unit {0}
 IfNotADomain (NotADomain vol at) P = P vol at
 IfNotADomain OutOfMemory P = Unit {0}
 
--- the fault of an anchor as recovery has it: where no anchor counts, there is no domain
+-- the fault of an anchor as recovery has it: if no anchor counts, there is no domain
 abbrev pub IsFaultOf : AnchorFault → RecoverFault → Type 0
 IsFaultOf NoAnchor fault = fault ≡ NotADomain 1 anchors_page
 IsFaultOf (ReadFault vol) fault = fault ≡ Fault vol

@@ -1,4 +1,4 @@
--- Groups of the log that are read one after the other, and the first of them that is none.
+-- Groups of the log that are read one after the other, up to the first place that has none.
 use Rattle.std.specs.Prelude.{◌≡◌, ◌+◌, ◌≤◌, ◌++◌, ℕ, List, [], ◌∷◌, Bool, true, false, All, length}
 use Rattle.log_ring.specs.domain_base.Limits.{log_pages}
 use Rattle.log_ring.specs.domain_base.declared.place.Home.{Home}
@@ -17,7 +17,7 @@ use Rattle.log_ring.specs.Ring.{IsGateOpen, ring_page}
 use Rattle.log_recovery.specs.declared.scan.Scan.{Scan}
 
 -- these groups stand one after the other from this place on, with numbers that go up by one from
--- this one, whatever stands behind them
+-- this one, whatever stands after them
 abbrev pub AreInTurn : Anchor → ℕ → ℕ → List Group → Image → Type 0
 AreInTurn anchor place number [] image = Unit {0}
 AreInTurn anchor place number (group ∷ more) image =
@@ -25,15 +25,15 @@ AreInTurn anchor place number (group ∷ more) image =
     × HasGroup image anchor place group
     × AreInTurn anchor (place + 1 + length group.images) (number + 1) more image
 
--- the next group may stand behind so many places from the start on: it has this number, it is what
--- stands there, and the header behind it is not a place that is in use
+-- the next group may stand `used` places after the start: it has this number, it is what stands
+-- there, and the header after it is not a place that is in use
 pub record IsNextGroup (image : Image) (anchor : Anchor) (used number : ℕ) (group : Group)
     : Type 0 where
   pub numbered : group.number ≡ number
   pub stands : HasGroup image anchor (anchor.start + used) group
   pub fits : used + (1 + length group.images) + 1 ≤ log_pages
 
--- a gate is open there, and behind it stands no group that may be the next
+-- a gate is open there, and no group that may be the next follows it
 pub record IsNoGroup (image : Image) (anchor : Anchor) (used number : ℕ) : Type 0 where
   pub is_open : IsGateOpen image anchor (anchor.start + used)
   pub none : (group : Group) → ¬ IsNextGroup image anchor used number group
@@ -94,7 +94,7 @@ pub record HasScannedAll (image : Image) (anchor : Anchor) (scan : Scan) : Type 
   pub scanned : HasScanned image anchor groups scan
   pub closed : ¬ IsGateOpen image anchor (anchor.start + scan.used)
 
--- behind some groups from the start on stands one that is none, on this page
+-- after some groups from the start on, this page has an open gate, but no group that may be next
 pub record IsFirstNoGroup (image : Image) (anchor : Anchor) (vol at : ℕ) : Type 0 where
   pub groups : List Group
   pub stand : AreInTurn anchor anchor.start anchor.group groups image

@@ -12,7 +12,7 @@ use Rattle.log_recovery.specs.Readable.{IsGoodNow}
 use Rattle.log_recovery.specs.Settled.{MaySettle, settled_anchor}
 use Rattle.log_recovery.specs.declared.redone.Redone.{Redone}
 
--- an image that has a good anchor and a log behind it has no place at which there is no domain
+-- an image that has a good anchor and a log after it has no place at which there is no domain
 abbrev pub HasNoFault : List ℕ → Image → Anchor → List Group → ℕ → ℕ → Type 0
 HasNoFault sizes image anchor groups vol at =
     HasGoodAnchor sizes image anchor → HasLog sizes anchor groups image
@@ -30,8 +30,8 @@ HasOneLog sizes image anchor groups others redone =
     HasLog sizes anchor groups image → HasRecovered sizes image others redone
     → (anchor ≡ redone.anchor) × (groups ≡ others)
 
--- what is recovered of the contents may be settled, where nothing is pending and the slot of the
--- next anchor is ready
+-- what is recovered of the contents may be settled, if nothing is pending and the slot of the next
+-- anchor is ready
 abbrev pub MaySettleSynced : Disk → List Group → Redone → Type 0
 MaySettleSynced disk groups redone =
     IsSettled disk.now → HasRecovered disk.sizes disk.now.contents groups redone
@@ -48,8 +48,8 @@ pub record IsAsRecovered (start : Disk) (groups : List Group) (redone : Redone) 
       SameOutside (IsBody redone.anchor.log_vol slot) start.now.contents image
   pub same : IsRedoneAs groups start.now.contents groups image
 
--- so has each image that is left since recovery began, where nothing was pending, until the slot
--- was made ready or that was cut short
+-- if nothing was pending when recovery began, each image that is left since then is such an image,
+-- until the slot was made ready or that was cut short
 abbrev pub StaysRecovered : Disk → Disk → Disk → List Group → Redone → Type 0
 StaysRecovered start found ready groups redone =
     let vol = redone.anchor.log_vol in
@@ -65,8 +65,8 @@ pub record IsReadyToSettle (disk : Disk) (groups : List Group) (redone : Redone)
   pub good : IsGoodNow disk redone.anchor
   pub settled : IsSettled disk.now
 
--- so it is once it was recovered of contents, where nothing was pending, and the slot of the next
--- anchor was made ready
+-- a log is ready to be settled once it was recovered from contents with nothing pending, and the
+-- slot of the next anchor was made ready
 abbrev pub ReadiesToSettle : Disk → Disk → Disk → List Group → Redone → Type 0
 ReadiesToSettle start found ready groups redone =
     let vol = redone.anchor.log_vol in

@@ -11,7 +11,7 @@ use Rattle.log_ring.specs.disk_label.declared.anchor.Anchor.{Anchor}
 use Rattle.log_ring.specs.disk_label.declared.label.Label.{Label}
 use Rattle.log_ring.specs.Homes.{IsMember, member_of}
 
--- the version that the label of a volume names, where it is a label
+-- the version that the label of a volume names, if it is a label
 abbrev pub label_version : Image → ℕ → Version
 label_version image vol = if word_at (label_block image vol) 2 == 3 then Three else Four
 
@@ -33,7 +33,7 @@ abbrev pub AreLabelledBelow : ℕ → List ℕ → Image → Anchor → Type 0
 AreLabelledBelow n sizes image anchor =
     (vol : ℕ) → vol < n → IsMember anchor vol → IsLabelled sizes image anchor vol
 
--- and so do all
+-- all members have their labels
 abbrev pub AreLabelled : List ℕ → Image → Anchor → Type 0
 AreLabelled sizes image anchor =
     (vol : ℕ) → IsMember anchor vol → IsLabelled sizes image anchor vol
@@ -51,18 +51,18 @@ pub record IsThere (sizes : List ℕ) (anchor : Anchor) (vol : ℕ) : Type 0 whe
   pub volume : vol ≤ length sizes
   pub pages : (member_of anchor vol).pages ≤ volume_pages sizes vol
 
--- so have the members below this volume
+-- the members below this volume have the pages that the anchor says
 abbrev pub AreThereBelow : ℕ → List ℕ → Anchor → Type 0
 AreThereBelow n sizes anchor =
     (vol : ℕ) → vol < n → IsMember anchor vol → IsThere sizes anchor vol
 
--- and so have all
+-- all members have them
 abbrev pub AreThere : List ℕ → Anchor → Type 0
 AreThere sizes anchor = (vol : ℕ) → IsMember anchor vol → IsThere sizes anchor vol
 
 -- What is kept of the labels that were read.
 
--- of a label that says so many pages, its version where an anchor of this version allows it
+-- the version of a label, if it says `pages` pages and an anchor of this version allows it
 abbrev pub HasLabel : ℕ → ℕ → Label → Option Version → Type 0
 HasLabel version pages label None =
     ¬ ((label.pages ≡ pages) × (version ≡ 3 → label.version ≡ Three))

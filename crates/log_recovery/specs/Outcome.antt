@@ -41,7 +41,8 @@ pub record IsAnchorFault (sizes : List ℕ) (image : Image) (vol at : ℕ) : Typ
   pub page : at ≡ anchors_page
   pub wrong : IsAnchor sizes image None ⊎ IsOutOfRange sizes image
 
--- the anchor is good, and behind some groups of its log stands one that is none, at its page
+-- the anchor is good, and after some groups of its log, this page has an open gate, but no group
+-- that may be next
 pub record IsGroupFault (sizes : List ℕ) (image : Image) (vol at : ℕ) : Type 0 where
   pub anchor : Anchor
   pub good : HasGoodAnchor sizes image anchor
@@ -65,7 +66,7 @@ pub record HasRecovered (sizes : List ℕ) (image : Image) (groups : List Group)
   pub next_group : redone.next_group ≡ redone.anchor.group + length groups
   pub next_place : redone.next_place ≡ (redone.anchor.start + span groups) % log_pages
 
--- an anchor of which the rack has the log and the members, whatever stands there
+-- an anchor whose log and members the rack has, whatever stands there
 pub record IsUsable (sizes : List ℕ) (anchor : Anchor) : Type 0 where
   pub whole : IsWhole anchor
   pub numbers : HasNumbers anchor

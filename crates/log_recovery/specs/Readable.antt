@@ -1,4 +1,4 @@
--- Images of which recovery takes the log, and that calls leave no others.
+-- Images whose log recovery takes, and laws that calls leave no others.
 use Rattle.std.specs.Prelude.{◌≡◌, ℕ, ◌+◌, ◌*◌, ◌^◌, ◌<◌, ◌≤◌, List, Some}
 use Rattle.log_ring.specs.domain_base.Limits.{block_bytes, log_pages, page_bytes}
 use Rattle.log_ring.specs.volume_disk.Disk.{Disk, MayLeave, Tells}
@@ -17,7 +17,7 @@ use Rattle.log_recovery.specs.Range.{IsInRange}
 use Rattle.log_recovery.specs.Settled.{MaySettle}
 use Rattle.log_recovery.specs.declared.redone.Redone.{Redone}
 
--- recovery takes the log of an image: its anchor is good, and the groups behind that are in order
+-- recovery takes the log of an image: its anchor is good, and the groups after that are in order
 pub record IsReadable (sizes : List ℕ) (image : Image) : Type 0 where
   pub anchor : Anchor
   pub groups : List Group
@@ -29,7 +29,7 @@ pub record WouldBeGood (sizes : List ℕ) (image : Image) (anchor : Anchor) : Ty
   pub labelled : AreLabelled sizes image anchor
   pub in_range : IsInRange (label_version image) anchor
 
--- so it would on each image that a stop might leave now
+-- an anchor would be good on each image that a stop might leave now
 abbrev pub WouldBeGoodNow : Disk → Anchor → Type 0
 WouldBeGoodNow disk anchor =
     (image : Image) → MayLeave disk.now image → WouldBeGood disk.sizes image anchor
@@ -39,7 +39,7 @@ abbrev pub IsGoodNow : Disk → Anchor → Type 0
 IsGoodNow disk anchor =
     (image : Image) → MayLeave disk.now image → HasGoodAnchor disk.sizes image anchor
 
--- the same anchor, with another number, slot, start and first group
+-- an anchor with another number, slot, start and first group
 abbrev pub restarted : Anchor → ℕ → ℕ → ℕ → ℕ → Anchor
 restarted anchor number slot start group = record anchor {
   number = number;
@@ -53,7 +53,7 @@ abbrev pub IsRestartOf : Anchor → Anchor → Type 0
 IsRestartOf first anchor =
     anchor ≡ restarted first anchor.number anchor.slot anchor.start anchor.group
 
--- it would be good too, where these are in their ranges
+-- it would be good too, if these are in their ranges
 abbrev pub RestartsGood : Disk → Anchor → ℕ → ℕ → ℕ → ℕ → Type 0
 RestartsGood disk anchor number slot start group =
     IsGoodNow disk anchor → 1 ≤ number → number < 2 ^ 63 → slot ≤ 1 → start < log_pages
@@ -70,7 +70,7 @@ KeepsGoodBeside old new anchor =
     → LeavesOnly old new (λ image. IsAnchor old.sizes image (Some anchor))
     → LeavesOnly old new (λ image. HasGoodAnchor old.sizes image anchor)
 
--- the pages behind those of labels and anchors
+-- the pages after those of labels and anchors
 abbrev pub IsBehindAnchors : Places
 IsBehindAnchors v k = page_bytes * (anchors_page + 1) ≤ k
 
@@ -80,8 +80,8 @@ KeepsGoodAnchor old new anchor =
     Tells old → IsGoodNow old anchor → Touches old new IsBehindAnchors
     → LeavesOnly old new (λ image. HasGoodAnchor old.sizes image anchor)
 
--- where images were brought home and an anchor was written, or that was cut short, recovery takes
--- each image since, if both anchors would be good before
+-- if images were brought home and an anchor was written, or that was cut short, recovery takes each
+-- image since, if both anchors would be good before
 abbrev pub LeavesReadable : Disk → Disk → List PageImage → Anchor → List Group → Anchor → Type 0
 LeavesReadable old new images anchor groups next =
     Tells old → HaveHomes old.sizes images → OnlyWrites old new (IsAtHomesOrSlot images next)
@@ -89,7 +89,7 @@ LeavesReadable old new images anchor groups next =
     → WouldBeGoodNow old anchor → WouldBeGoodNow old next
     → LeavesOnly old new (IsReadable old.sizes)
 
--- so it is while a log that was recovered is settled, and once it is
+-- recovery takes each image while a log that was recovered is settled, and once it is
 abbrev pub SettlesReadably : Disk → Disk → Redone → Type 0
 SettlesReadably old new redone =
     Tells old → (groups : List Group) → MaySettle old groups redone → IsGoodNow old redone.anchor

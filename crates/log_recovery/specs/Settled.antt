@@ -8,7 +8,7 @@ use Rattle.log_ring.specs.Groups.{Group, LogStands, images_of, span}
 use Rattle.log_ring.specs.Settling.{MayMove}
 use Rattle.log_recovery.specs.declared.redone.Redone.{Redone}
 
--- the anchor that is written: the log starts behind the groups that were redone
+-- the anchor that is written: the log starts after the groups that were redone
 abbrev pub settled_anchor : Redone → Anchor
 settled_anchor redone = record redone.anchor {
   number = redone.anchor.number + 1;

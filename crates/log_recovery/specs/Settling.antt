@@ -48,12 +48,12 @@ StandsAtHome old new =
     → (image : Image) → MayLeave new.now image
     → (home : Home) → home.page ≢ anchors_page → pages_in image home ≡ pages home
 
--- each image that a stop might leave has this anchor, which is good, and no group behind it
+-- each image that a stop might leave has this anchor, which is good, and no group after it
 pub record HasNoGroup (disk : Disk) (anchor : Anchor) : Type 0 where
   pub stands : LogStands disk anchor []
   pub good : IsGoodNow disk anchor
 
--- no group stands behind the anchor on any image that a stop may leave
+-- no group stands after the anchor on any image that a stop may leave
 abbrev pub IsBehindAll : Disk → Anchor → Type 0
 IsBehindAll disk anchor = Tells disk → HasNoGroup disk anchor
 

@@ -1,6 +1,6 @@
-//! Recovery of a log: which groups stand on a rack, whether its labels, its anchor and these
-//! groups are those of a domain, how the images of the groups are brought home, and the log
-//! settled after it.
+//! Recovery of a log: which groups stand on a rack, whether its labels, its anchor and these groups
+//! are those of a domain, how the images of the groups are brought home, and how the log is settled
+//! after that.
 #![tactic(auto)]
 
 mod fault;

@@ -34,7 +34,7 @@ one_header page one other a b = λ i. record {
   homes = homes_are page 528 one.homes other.homes a.homes b.homes (sym a.count ∙ b.count) i;
 }
 
--- Which one it has depends on what stands behind the gate.
+-- Which one it has depends on what stands after the gate.
 
 behind : (at : ℕ) (page : List ℕ) → 512 ≤ at → drop at page ≡ drop (at - 512) (drop 512 page)
 behind at page le = let is : at ≡ 512 + (at - 512) = omega arith in ap (λ (n : ℕ). drop n page) is ∙ sym (drop-drop (at - 512) 512 page)
@@ -77,7 +77,7 @@ home_among bytes at (home ∷ homes) (suc i) there lt =
     let more = home_among bytes (at + 8) homes i there.1 (omega (arith, lt)) in
     (more.0, subst (λ (k : ℕ). IsHomeAt bytes k more.0) (omega arith) more.1)
 
--- What is written over bytes, and more behind it.
+-- What is written over bytes, and more after it.
 
 pub overwritten-next : (page : List ℕ) (at : ℕ) (xs ys : List ℕ) (next : ℕ) → next ≡ at + length xs → at + length xs ≤ length page → overwritten (overwritten page at xs) next ys ≡ overwritten page at (xs ++ ys)
 overwritten-next page at xs ys next is fits =
@@ -139,7 +139,7 @@ homes_more first page new homes i home bytes whole lt few was is spelled put =
     ∙ ap (λ (l : List ℕ). front ++ l) (flat_map-cons home_bytes (get_or homes i home) [] ∙ append-nil (home_bytes (get_or homes i home)) ∙ ap home_bytes (sym is)) in
     put ∙ (λ j. overwritten (was j) (528 + 8 * i) (spelled j)) ∙ overwritten-next first 528 front (home_bytes home) (528 + 8 * i) (omega (arith, size)) (omega (arith, size, whole)) ∙ ap (overwritten first 528) (sym more)
 
--- a number that stands behind some bytes
+-- a number that stands after some bytes
 number_there : (w n at : ℕ) (front rest : List ℕ) → length front ≡ at → n < 256 ^ w → number_at w at (front ++ (little_bytes w n ++ rest)) ≡ n
 unfolding number_at
 number_there w n at front rest len small = ap (little_number w) (drop_at front (little_bytes w n ++ rest) at len) ∙ little_number-reads_back w n rest small
@@ -238,7 +238,7 @@ begins old cleared new zeros head number count whole clears none puts spelled =
     ap (λ (n : ℕ). drop n cleared) at ∙ sym (drop-drop 16 512 cleared) ∙ ap (drop 16) (ap (drop 512) body ∙ drop_at (take 512 old) (zero_bytes 7680) 512 front) ∙ drop-zero_bytes 16 7680 in
     puts ∙ ap (overwritten cleared 512) spelled ∙ (λ i. (kept i ++ head') ++ left i) ∙ sym (begun_is old number count)
 
--- and homes are put behind them
+-- and homes are put after them
 pub header_put : (old new : List ℕ) (header : Header) → length old ≡ 8192 → length header.homes ≤ group_images
     → new ≡ overwritten (begun old header.number (length header.homes)) 528 (flat_map home_bytes header.homes) → new ≡ take 512 old ++ header_bytes header
 unfolding header_bytes

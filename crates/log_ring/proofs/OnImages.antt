@@ -65,7 +65,7 @@ module _ (anchor : Anchor) (old new : Image) where
             (subst (λ (n : ℕ). AreGroups anchor (place + (one + span groups)) n tail new) (omega arith) behind)),
       )
 
--- behind the last group the gate is closed
+-- after the last group the gate is closed
 pub next_closed : (anchor : Anchor) (image : Image) (groups : List Group) (place number : ℕ) → AreGroups anchor place number groups image → ¬ IsGateOpen image anchor (place + span groups)
 next_closed anchor image [] place number are = subst (λ (p : ℕ). ¬ IsGateOpen image anchor p) (omega arith) are
 next_closed anchor image (group ∷ groups) place number are =

@@ -31,7 +31,7 @@ has-place home [] place at = absurd (omega (arith, at.within))
 has-place home (image ∷ images) zero at = or_left (same_home home image.home) (has home images) (same_from_is home image.home (sym (at.is image)))
 has-place home (image ∷ images) (suc place) at = or_right (same_home home image.home) (has home images) (has-place home images place (behind home image images place at))
 
--- where they are distinct, no image in front of the place has the home
+-- if they are distinct, no image before the place has the home
 other-front : (home : Home) (image : PageImage) (images : List PageImage) (place : ℕ) → AreDistinctHomes (image ∷ images) → IsPlaceOf images home place → same_home home image.home ≡ false
 other-front home image images place distinct at =
     false_from_ne_true (same_home home image.home)

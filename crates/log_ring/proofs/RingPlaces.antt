@@ -51,6 +51,6 @@ pub place-same : (anchor : Anchor) (place : ℕ) (old new : Image) → SameIn (I
 place-same anchor place old new same =
     bytes_from-same (new anchor.log_vol) (old anchor.log_vol) (ring_byte anchor place) 8192 (λ k le lt. same anchor.log_vol k (refl, le, lt))
 
--- the ring lies behind the pages of anchors
+-- the ring lies after the pages of anchors
 pub log_beside_anchors : (anchor : Anchor) → 1 < anchor.log_page → (v k : ℕ) → IsOnLog anchor v k → ¬ IsOnAnchors v k
 log_beside_anchors anchor behind v k is on = let low = is.1 in let high = on.1 in omega arith

@@ -21,7 +21,7 @@ same_from_is a b is = subst (λ (h : Home). same_home a h ≡ true) is (same_its
 pub other_swapped : (a b : Home) → same_home a b ≡ false → same_home b a ≡ false
 other_swapped a b other = false_from_ne_true (same_home b a) (λ same. both_ways (same_home a b) other (same_from_is a b (sym (homes_same b a same))))
 
--- a home is there where one of the homes behind it is the same
+-- a home is there if one of the homes after it is the same
 pub any-at : (home : Home) (homes : List Home) (i : ℕ) (d : Home) → i < length homes → same_home home (get_or homes i d) ≡ true → list_any (same_home home) homes ≡ true
 any-at home [] i d lt same = absurd (omega arith)
 any-at home (h ∷ homes) zero d lt same = rw same refl

@@ -44,14 +44,14 @@ AreImagesAt image anchor place [] = Unit {0}
 AreImagesAt image anchor place (logged ∷ more) =
     (place_at image anchor place ≡ logged.page) × AreImagesAt image anchor (place + 1) more
 
--- what stands behind the gate at a place is this group: its header, and its images behind that
+-- what follows the gate at a place is this group: its header, and its images after that
 pub record IsBehindGate (image : Image) (anchor : Anchor) (place : ℕ) (group : Group)
     : Type 0 where
   pub header : IsHeader (place_at image anchor place) (header_of group)
   pub loggable : AreLoggable anchor group.images
   pub images : AreImagesAt image anchor (place + 1) group.images
 
--- it stands there behind an open gate
+-- it stands there after an open gate
 pub record HasGroup (image : Image) (anchor : Anchor) (place : ℕ) (group : Group) : Type 0 where
   pub is_open : IsGateOpen image anchor place
   pub behind : IsBehindGate image anchor place group

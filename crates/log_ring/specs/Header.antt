@@ -1,5 +1,5 @@
--- The page that begins a group of the log. It is a gate of 512 bytes, and behind it are the number
--- of the group, how many images it has, four zeros, and their homes.
+-- The page that begins a group of the log. It is a gate of 512 bytes. After it come the number of
+-- the group, how many images it has, four zeros, and their homes.
 use Rattle.std.specs.List.{flat_map}
 use Rattle.std.specs.Prelude.{◌≡◌, ◌+◌, ◌-◌, ◌*◌, ◌^◌, ◌<◌, ◌≤◌, ℕ, List, [], ◌∷◌, ◌++◌, length, slice_index_or, take}
 use Rattle.byteorder.specs.Endian.{little_bytes}
@@ -40,8 +40,8 @@ pub record IsHeader (page : List ℕ) (header : Header) : Type 0 where
   pub homes : AreHomesAt page 528 header.homes
   pub sayable : IsSayable header
 
--- what is read of a page: nothing behind a closed gate, and behind an open one its header, or that
--- it has none
+-- what is read of a page: nothing after a closed gate, and after an open one its header, or that it
+-- has none
 abbrev pub IsRead : List ℕ → HeaderRead → Type 0
 IsRead page Closed = ¬ IsOpen page
 IsRead page (Group header) = IsOpen page × IsHeader page header
@@ -53,7 +53,7 @@ header_for number images = record { number = number; homes = homes_of images }
 
 -- What the calls that read and write it say.
 
--- so many homes are read from byte 528 on
+-- `count` homes are read from byte 528 on
 abbrev pub AreHomesOf : List ℕ → ℕ → List Home → Type 0
 AreHomesOf page count homes = (length homes ≡ count) × AreHomesAt page 528 homes
 
@@ -70,7 +70,7 @@ pub record IsPlace (home : Home) : Type 0 where
   pub last : home.vol ≤ max_volumes
   pub page : home.page < 2 ^ 32
 
--- so are the first n of these
+-- the first n of these are such homes
 abbrev pub ArePlaces : List Home → ℕ → Type 0
 ArePlaces homes n = (i : ℕ) (default : Home) → i < n → IsPlace (slice_index_or homes i default)
 
@@ -78,13 +78,13 @@ ArePlaces homes n = (i : ℕ) (default : Home) → i < n → IsPlace (slice_inde
 abbrev pub home_bytes : Home → List ℕ
 home_bytes home = little_bytes 4 home.vol ++ little_bytes 4 home.page
 
--- all that stands behind the gate of a page with this header, as it is written
+-- all that follows the gate of a page with this header, as it is written
 unfoldable pub header_bytes : Header → List ℕ
 header_bytes header =
     little_bytes 8 header.number ++ little_bytes 4 (length header.homes) ++ zero_bytes 4
     ++ flat_map home_bytes header.homes ++ zero_bytes (7664 - 8 * length header.homes)
 
--- a page with a number and a count behind its gate, and zeros behind them
+-- a page with a number and a count after its gate, and zeros after them
 unfoldable pub begun : List ℕ → ℕ → ℕ → List ℕ
 begun page number count =
     take block_bytes page

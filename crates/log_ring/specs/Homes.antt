@@ -27,7 +27,7 @@ IsLogPage anchor home =
     × (anchor.log_page ≤ home.page)
     × (home.page < anchor.log_page + log_pages)
 
--- a page of a member, open or closed, behind its label and anchors and outside of the log
+-- a page of a member, open or closed, after its label and anchors and outside of the log
 pub record IsLoggable (anchor : Anchor) (home : Home) : Type 0 where
   pub first_volume : 1 ≤ home.vol
   pub last_volume : home.vol ≤ max_volumes
@@ -40,7 +40,7 @@ pub record IsLoggable (anchor : Anchor) (home : Home) : Type 0 where
 abbrev pub AreLoggable : Anchor → List PageImage → Type 0
 AreLoggable anchor images = All (λ (image : PageImage). IsLoggable anchor image.home) images
 
--- a page of a rack, behind label and anchors
+-- a page of a rack, after label and anchors
 pub record IsHomeOf (sizes : List ℕ) (home : Home) : Type 0 where
   pub first_volume : 1 ≤ home.vol
   pub last_volume : home.vol ≤ length sizes

@@ -21,18 +21,18 @@ homes_of images = map (λ (image : PageImage). image.home) images
 abbrev pub AreDistinctHomes : List PageImage → Type 0
 AreDistinctHomes images = AreDistinct (homes_of images)
 
--- the page that the last image of a home has, and none where no image has that home
+-- the page that the last image of a home has, and none if no image has that home
 abbrev pub image_at : Home → List PageImage → Option (List ℕ)
 image_at home [] = None
 image_at home (image ∷ images) =
     option_or (image_at home images) (if same_home home image.home then Some image.page else None)
 
--- pages with images laid over them: at each home the page of its last image, and where no image has
+-- pages with images laid over them: at each home the page of its last image, and if no image has
 -- that home the page that was there
 abbrev pub overlaid : List PageImage → Pages → Pages
 overlaid images pages = λ home. option_or (image_at home images) (pages home)
 
--- the same images, with this page in place of the one of its home, or behind all
+-- the same images, with this page in place of the one of its home, or after all
 abbrev pub with_image : Home → List ℕ → List PageImage → List PageImage
 with_image home page [] = record { home = home; page = page } ∷ []
 with_image home page (image ∷ images) =

@@ -11,7 +11,7 @@ use Rattle.log_ring.specs.declared.image.PageImage.{PageImage}
 
 -- Images.
 
--- images laid over pages, and more behind them, are all of them laid over the pages
+-- to lay images over pages, and then more of them, is to lay all of them over the pages
 abbrev pub OverlayInTurn : List PageImage → List PageImage → Pages → Type 0
 OverlayInTurn first second pages =
     overlaid (first ++ second) pages ≡ overlaid second (overlaid first pages)
@@ -24,7 +24,7 @@ JoinsAt change pending home =
     → image_at home (joined change pending)
     ≡ option_or (image_at home change) (image_at home pending)
 
--- and it is no longer than both, and has each home once where what was pending had
+-- and it is no longer than both, and has each home once if what was pending had
 pub record JoinsWell (change pending : List PageImage) : Type 0 where
   pub distinct : AreDistinctHomes pending → AreDistinctHomes (joined change pending)
   pub longer : length pending ≤ length (joined change pending)
@@ -36,7 +36,7 @@ pub record JoinsWell (change pending : List PageImage) : Type 0 where
 abbrev pub HasOneHeader : List ℕ → Header → Header → Type 0
 HasOneHeader page one other = IsHeader page one → IsHeader page other → one ≡ other
 
--- pages that agree behind the gate have the same header
+-- pages that agree after the gate have the same header
 abbrev pub DependsBehindGate : List ℕ → List ℕ → Header → Type 0
 DependsBehindGate one other header =
     drop block_bytes one ≡ drop block_bytes other → IsHeader one header → IsHeader other header

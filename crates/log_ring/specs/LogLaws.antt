@@ -30,7 +30,7 @@ KeepsLog old new anchor groups =
     Tells old → LogStands old anchor groups → Touches old new (IsElsewhere anchor)
     → LogStays old new anchor groups
 
--- so do runs of such calls, however many
+-- any number of such runs leaves the log of each image too
 abbrev pub KeepsLogAlong : Disk → List Disk → Anchor → List Group → Type 0
 KeepsLogAlong old disks anchor groups =
     Tells old → LogStands old anchor groups → TouchesEach (IsElsewhere anchor) old disks
@@ -79,7 +79,7 @@ abbrev pub RedoesOneMore : List Group → Group → Image → Type 0
 RedoesOneMore groups group image =
     redone (groups ++ group ∷ []) image ≡ overlaid group.images (redone groups image)
 
--- a page is the same once redone where a group has it, or where the images agree on it
+-- a page is the same once redone if a group has it, or if the images agree on it
 abbrev pub RedoesAlike : List Group → Image → Image → Type 0
 RedoesAlike groups old new =
     (home : Home) → IsLogged groups home ⊎ (pages_in new home ≡ pages_in old home)

@@ -32,7 +32,7 @@ place_at image anchor place = page_at image anchor.log_vol (ring_page anchor pla
 abbrev pub IsGateOpen : Image → Anchor → ℕ → Type 0
 IsGateOpen image anchor place = IsOpenAt image anchor.log_vol (ring_byte anchor place)
 
--- the ring lies on a volume of a rack, behind its label and anchors
+-- the ring lies on a volume of a rack, after its label and anchors
 pub record IsRing (sizes : List ℕ) (anchor : Anchor) : Type 0 where
   pub first_volume : 1 ≤ anchor.log_vol
   pub last_volume : anchor.log_vol ≤ length sizes

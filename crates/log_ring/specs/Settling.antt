@@ -1,4 +1,4 @@
--- The images of a log brought home, and its start moved behind them.
+-- The images of a log brought home, and its start moved past them.
 use Rattle.std.specs.Prelude.{◌≡◌, ◌≢◌, ◌⊎◌, ◌+◌, ◌*◌, ◌<◌, ℕ, false, List, [], Option, Some, IsSome}
 use Rattle.disk_label.specs.domain_base.Limits.{max_volumes, page_bytes}
 use Rattle.disk_label.specs.domain_base.declared.place.Home.{Home}
@@ -54,7 +54,7 @@ IsRedoneAs past before groups image =
     (home : Home) → home.page ≢ anchors_page
     → redone groups image home ≡ redone past before home
 
--- an image has the log as it was, or none of it behind the next anchor, and its pages once redone
+-- an image has the log as it was, or none of it after the next anchor, and its pages once redone
 -- are those of an image that might have been left at the start
 pub record MeansTheSame (old : Disk) (anchor : Anchor) (groups : List Group) (next : Anchor)
     (image : Image) : Type 0 where
@@ -73,7 +73,7 @@ pub record BringsHome (old new : Disk) (images : List PageImage) (next : Anchor)
 -- it is done
 pub record HasBroughtHome (old new : Disk) (images : List PageImage) (next : Anchor)
     : Type 0 where
-  -- each image has the next anchor, no group behind it, and the pages that it stood for
+  -- each image has the next anchor, no group after it, and the pages that it stood for
   pub stands : Tells old → (anchor : Anchor) (groups : List Group)
       → MayMove old anchor groups images next → LogStands new next []
   pub same : Tells old → (anchor : Anchor) (groups : List Group)

@@ -52,7 +52,7 @@ phases_kept (move ∷ moves) phase from none =
     ap (λ b. cond b (record move { phase = phase }) move ∷ with_phase phase from moves) by.from
     ∙ ap (λ rest. move ∷ rest) (phases_kept moves phase from by.rest)
 
--- the move from that home is the first one, or one behind it
+-- the move from that home is the first one, or one after it
 first_rephased : (move : Move) (moves : List Move) (phase : Phase) (from : Home) → is_from from move ≡ true → IsInNone moves move.from
     → with_phase phase from (move ∷ moves) ≡ record move { phase = phase } ∷ moves
 first_rephased move moves phase from is none =
@@ -100,7 +100,7 @@ writes_first move moves home is = ap (λ b. (home, option_map (other_home home) 
 writes_later : (move : Move) (moves : List Move) (home : Home) → has_home home move ≡ false → writes_of (move ∷ moves) home ≡ writes_of moves home
 writes_later move moves home other = ap (λ b. (home, option_map (other_home home) (cond b (Some move) (find (has_home home) moves)))) other
 
--- the moves behind the first one have none of its homes
+-- the moves after the first one have none of its homes
 alike_behind : (a b : Home) (page : List ℕ) (pages : Pages) (moves : List Move) → IsInNone moves a → IsInNone moves b → AreAlike pages moves → AreAlike (with_page b page (with_page a page pages)) moves
 alike_behind a b page pages moves none_a none_b alike =
     alike_elsewhere pages (with_page b page (with_page a page pages)) moves
@@ -204,7 +204,7 @@ alike_copied_first pages first moves from is none_from none_to alike =
     let rest = alike_elsewhere pages new moves (λ home there. copy_kept from first.to home pages (not_the_home moves first.to home none_to there)) alike in
     subst (AreAlike new) (sym (first_rephased first moves Copied from is none_from)) ((λ _. same), rest)
 
--- it is one behind it
+-- it is one after it
 alike_copied_later : (pages : Pages) (first : Move) (moves : List Move) (from : Home) (move : Move) → move_of moves from ≡ Some move → IsInNone moves first.from → IsInNone moves first.to
     → IsAlike pages first → IsAlike (with_copy from move.to pages) first
 alike_copied_later pages first moves from move found none_from none_to alike phase =

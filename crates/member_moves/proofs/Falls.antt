@@ -68,7 +68,7 @@ loss_le true y part_of bound fits = omega arith
 loss_le false true part_of bound fits = fits refl
 loss_le false false part_of bound fits = omega arith
 
--- a sum of which at most one volume has a part is at most that part
+-- a sum to which at most one volume adds a part is at most that part
 one_part : (f : VolCount → ℕ) (vol bound : ℕ) → ((c : VolCount) → c.vol ≢ vol → f c ≡ 0)
     → (counts : List VolCount) → AllPairs (λ a b. a.vol ≢ b.vol) counts
     → All (λ c. f c ≤ bound) counts → sum_by f counts ≤ bound

@@ -59,7 +59,7 @@ found_closed end counts n x (Some f) within is below closed = (
       (λ open_one. absurd (closed open_one)) below.1,
 )
 
--- and so is one behind the one that was found
+-- and so is one after the one that was found
 pub found_behind : (end : End) (counts : List VolCount) (n : ℕ) (x : VolCount)
     → (found : Option VolCount) → n < length counts → x ≡ get_or counts n x
     → IsFound end counts n found → IfSome found (λ f. Precedes end f x)

@@ -52,7 +52,7 @@ room counts full empty sound uneven =
     uneven.fullest.open_volume.there)
     uneven.not_level
 
--- a count stays within its pages, where the volume that gets the page has room
+-- a count stays within its pages, if the volume that gets the page has room
 within_by : (x y : Bool) (c : VolCount) → c.used ≤ c.pages → (y ≡ true → c.used + 1 ≤ c.pages)
     → (cond x (record c { used = c.used - 1 }) (cond y (record c { used = c.used + 1 }) c)).used
     ≤ (cond x (record c { used = c.used - 1 }) (cond y (record c { used = c.used + 1 }) c)).pages

@@ -6,7 +6,7 @@ use Rattle.member_moves.specs.declared.balance.End.{End}
 use Rattle.member_moves.specs.declared.balance.End.TheVariants.{Fullest, Emptiest}
 use Rattle.member_moves.specs.declared.counts.VolCount.{VolCount}
 
--- counts of distinct volumes, each of which has pages, and no more of them used
+-- counts of distinct volumes, each with pages and no more of them used than it has
 pub record AreCounts (counts : List VolCount) : Type 0 where
   pub distinct : AllPairs (λ a b. a.vol ≢ b.vol) counts
   pub sized : All (λ c. 1 ≤ c.pages) counts
@@ -33,8 +33,8 @@ pub record IsEmptiest (counts : List VolCount) (e : VolCount) : Type 0 where
   pub least : (c : VolCount) → IsOpenOf counts c → HasShareUpTo e c
   pub first : (c : VolCount) → IsOpenOf counts c → HasShareUpTo c e → e.vol ≤ c.vol
 
--- where volumes are taken from this end by their used share, and of those with one share by their
--- number, the first one is taken before the second
+-- the first volume is taken before the second, if volumes are taken from this end by their used
+-- share, and those with one share by their number
 abbrev pub Precedes : End → VolCount → VolCount → Type 0
 Precedes Fullest a b = HasShareUpTo b a × (HasShareUpTo a b → a.vol ≤ b.vol)
 Precedes Emptiest a b = HasShareUpTo a b × (HasShareUpTo b a → a.vol ≤ b.vol)
@@ -53,11 +53,11 @@ NoneIsOpen counts = (c : VolCount) → ¬ IsOpenOf counts c
 abbrev pub IsLevel : VolCount → VolCount → Type 0
 IsLevel f e = 2 * (f.used * e.pages - e.used * f.pages) ≤ e.pages + f.pages
 
--- the fullest and the emptiest open volume are level; so it is also where no volume is open
+-- the fullest and the emptiest open volume are level; this holds also if no volume is open
 abbrev pub AreEven : List VolCount → Type 0
 AreEven counts = (f e : VolCount) → IsFullest counts f → IsEmptiest counts e → IsLevel f e
 
--- the fullest and the emptiest open volume, by their numbers, where they are not level
+-- the fullest and the emptiest open volume, by their numbers, if they are not level
 pub record IsUneven (counts : List VolCount) (full empty : ℕ) : Type 0 where
   pub f : VolCount
   pub e : VolCount

@@ -23,7 +23,7 @@ pages_product (c ∷ cs) = c.pages * pages_product cs
 abbrev pub unevenness : List VolCount → ℕ
 unevenness counts = sum_by (λ c. c.used * c.used * (pages_product counts / c.pages)) counts
 
--- each open volume has so many pages
+-- each open volume has at least `least` pages
 abbrev pub HaveOpenPages : List VolCount → ℕ → Type 0
 HaveOpenPages counts least = (c : VolCount) → IsOpenOf counts c → least ≤ c.pages
 

@@ -54,7 +54,7 @@ impl VolumeTable {
 
     /// The anchor by which a member is open at state 1, closed at state 2, and no longer a member
     /// at state 0. The volume must be a member, and one that is taken off must have neither the log
-    /// nor the fileset table. Its number of pages stays as it is, also at state 0, where nothing
+    /// nor the fileset table. Its number of pages stays as it is, also at state 0, at which nothing
     /// reads it.
     pub fn with_state(&self, vol: VolIx, state: u32) -> Anchor
         requires member { IsMember self.now vol }

@@ -37,7 +37,7 @@ byte_overlaid xs old ys bytes at n was same size fits = λ i k. place k i
     place : (k : ℕ) → get_or (put_mid at n xs ys) k 0 ≡ overlaid (λ k'. get_or old k' 0) at bytes k
     place k = rw (get_or-put_mid at n xs ys (ap length same ∙ sym size) fits k 0, was, same, size) refl
 
--- a block is among these exactly where a byte of it is among theirs
+-- a block is among these if and only if a byte of it is among theirs
 leb-blocks : (block k : ℕ) → leb block (k / 512) ≡ leb (512 * block) k
 leb-blocks block k = elim (cases_lt k (512 * block)) [
   | inl lt ↦ lt-leb block (k / 512) (omega arith) ∙ sym (lt-leb (512 * block) k lt)

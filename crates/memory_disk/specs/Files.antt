@@ -24,7 +24,7 @@ file_disk rack = record {
   past = λ _. untold;
 }
 
--- a rack of which no call was made yet
+-- a rack on which no call was made yet
 abbrev pub opened : List ℕ → Disk
 opened sizes = record {
   calls = 0;

@@ -5,7 +5,7 @@ use Rattle.memory_disk.specs.Memory.{memory_disk}
 use Rattle.memory_disk.specs.declared.fuse.FuseRack.{FuseRack}
 use Rattle.memory_disk.specs.declared.memory.MemoryRack.{MemoryRack}
 
--- the same disk, where each call after this one fails
+-- the same disk, but each call after this one fails
 abbrev pub fused : Disk → ℕ → Disk
 fused disk last = record disk { fails = λ n. disk.fails n || nat_lt last n }
 

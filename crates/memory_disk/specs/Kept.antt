@@ -36,8 +36,8 @@ pub record FitsIn (sizes : List ℕ) (call : KeptCall) : Type 0 where
   pub whole : size_of call.effect % 512 ≡ 0
   pub within : 512 * block_of call.effect + size_of call.effect ≤ 8192 * volume_pages sizes call.vol
 
--- a call with this number is added, of so many bytes of a volume from a block on, which makes of
--- each moment the one after
+-- a call with this number is added, for `size` bytes of a volume from a block on; it makes of each
+-- moment the one after
 pub record IsAdded (old new : List KeptCall) (number vol block size : ℕ)
     (next : Moment → Moment) : Type 0 where
   pub call : KeptCall
@@ -48,7 +48,7 @@ pub record IsAdded (old new : List KeptCall) (number vol block size : ℕ)
   pub size_is : size_of call.effect ≡ size
   pub next_is : (moment : Moment) → effect_on moment call.vol call.effect ≡ next moment
 
--- where calls are kept, such a call is added
+-- if calls are kept, such a call is added
 pub record Adds (keeps : Bool) (old new : List KeptCall) (number vol block size : ℕ)
     (next : Moment → Moment) : Type 0 where
   pub kept : IsTrue keeps → IsAdded old new number vol block size next

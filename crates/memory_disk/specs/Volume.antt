@@ -12,13 +12,13 @@ byte_of volume k = slice_index volume.bytes.items k
 abbrev pub mark_of : Volume → ℕ → Bool
 mark_of volume k = is_marked volume.unsynced.words.items (k / 512)
 
--- of the volume at this index, or d past the last
+-- a field of the volume at this index, or d past the last
 abbrev pub field_at : {X : Type 0} → (Volume → X) → X → List Volume → ℕ → X
 field_at f d [] i = d
 field_at f d (volume ∷ volumes) zero = f volume
 field_at f d (volume ∷ volumes) (suc i) = field_at f d volumes i
 
--- the same by its number, which is counted from 1
+-- a field of the volume with this number, which is counted from 1
 abbrev pub field_of : {X : Type 0} → (Volume → X) → X → List Volume → ℕ → X
 field_of f d volumes zero = d
 field_of f d volumes (suc i) = field_at f d volumes i
@@ -38,7 +38,7 @@ moment_of volumes = record {
   unsynced = field_of mark_of (λ _. false) volumes;
 }
 
--- what they hold, where nothing is pending
+-- what they hold, with nothing pending
 abbrev pub settled_of : List Volume → Moment
 settled_of volumes = record {
   contents = field_of byte_of (λ _. 0) volumes;

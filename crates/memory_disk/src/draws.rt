@@ -27,7 +27,7 @@ impl Part {
         }
     }
 
-    /// Whether all of it lasted or none of it, if this number says so. One in four numbers says
+    /// Whether all of it lasted or none of it, as this number decides. One in four numbers says
     /// each.
     fn of_whole(number: u64) -> Option<Self> {
         match number % 4 {

@@ -31,8 +31,8 @@ use std::alloc::Global;
 use volume_disk::{Failed, OutOfMemory, Rack, VolIx};
 
 /// A rack in memory. Contracts tell what it holds and what a stop now may leave. If it keeps its
-/// calls, they also tell what a stop after any call since its making may have left. Then `image`
-/// gives a rack with that.
+/// calls, they also tell what a stop after any call since its making may have left. `image` then
+/// gives such a rack.
 #[derive(Drop)]
 pub struct MemoryRack {
     alloc: Global,

@@ -1,4 +1,4 @@
--- What stands at places of a ring once a group is written there behind its gate.
+-- What stands at places of a ring once a group is written there after its gate.
 use Rattle.std.proofs.Common.{◌≡◌, ℕ, ◌+◌, ◌-◌, ◌<◌, ◌≤◌, List, [], ◌∷◌, ◌++◌, length, take, drop, refl, sym, ◌∙◌, ap, subst, inl, inr, arith}
 use Rattle.std.proofs.lemmas.List.{get_or-drop, length-drop, length-replicate}
 use Rattle.std.proofs.lemmas.Slice.{between_to_end}
@@ -18,7 +18,7 @@ use Rattle.log_ring.proofs.OnImages.{images-same}
 use Rattle.log_ring.proofs.RingPlaces.{apart}
 use Rattle.meta_log.specs.Force.{IsGateAt, IsGroupBody, IsHeaderBody, IsReadyToOpen, IsWrittenBody}
 
--- the bytes of a page behind its first block
+-- the bytes of a page after its first block
 drop-bytes_from : (volume : ℕ → ℕ) (at n m : ℕ) → drop n (bytes_from volume at (n + m)) ≡ bytes_from volume (at + n) m
 drop-bytes_from volume at n m =
     let all = length-bytes_from volume at (n + m) in
@@ -39,7 +39,7 @@ pub bytes-moved : (image : Image) (vol w at from : ℕ) (bytes others : List ℕ
 bytes-moved image vol w at from bytes others vol_is at_is bytes_are has =
     subst (λ (v : ℕ). HasBytes v from others image) vol_is (subst (λ (k : ℕ). HasBytes vol k others image) at_is (subst (λ (l : List ℕ). HasBytes vol at l image) bytes_are has))
 
--- what was written behind a gate
+-- what was written after a gate
 pub written_behind : (image : Image) (anchor : Anchor) (place : ℕ) (header : List ℕ) → length header ≡ 8192 → HasBytes anchor.log_vol (ring_byte anchor place + 512) (take (length header - 512) (drop 512 header)) image → IsWrittenBody image anchor place header
 written_behind image anchor place header size has =
     let rest = drop 512 header in
@@ -129,7 +129,7 @@ module _ (anchor : Anchor) (place : ℕ) (images : List PageImage) (few : length
       synced = syncs.here;
     }
 
--- the page of one image more is written behind those of the others
+-- the page of one image more is written after those of the others
 pub one_image_more : (anchor : Anchor) (place : ℕ) (images : List PageImage) (logged : PageImage) (d0 d1 : Disk) → Tells d0 → length images < 128 → OnlyWrites d0 d1 (IsIn anchor.log_vol (ring_byte anchor (place + length images)) 8192) → AreImagesAt d0.now.contents anchor place images
     → place_at d1.now.contents anchor (place + length images) ≡ logged.page → AreImagesAt d1.now.contents anchor place (images ++ logged ∷ [])
 one_image_more anchor place images logged d0 d1 told few writes are is =

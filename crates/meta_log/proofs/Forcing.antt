@@ -1,4 +1,4 @@
--- A group written behind the durable ones: what each image of a stop has meanwhile.
+-- A group written after the durable ones: what each image of a stop has meanwhile.
 use Rattle.std.proofs.Common.{◌≡◌, ℕ, ◌+◌, ◌<◌, ◌≤◌, List, [], ◌∷◌, ◌++◌, length, drop, Some, refl, sym, ◌∙◌, ap, subst, inl, inr, arith}
 use Rattle.std.proofs.lemmas.Bool.{cases_eq}
 use Rattle.std.proofs.lemmas.List.{append-nil, length-replicate}
@@ -100,13 +100,13 @@ module _ (anchor : Anchor) (behind : 1 < anchor.log_page) (groups : List Group) 
   still_closed : (before image : Image) → HasLog d0.sizes anchor groups before → SameOutside (IsGroupBody anchor place n) before image → ¬ IsGateOpen image anchor place
   still_closed before image had same is_open = had_closed before had (sym (same anchor.log_vol (ring_byte anchor place) (own_gate anchor.log_vol (ring_byte anchor place) gate_first)) ∙ is_open)
 
-  -- while it is written behind its gate, the groups are the same
+  -- while it is written after its gate, the groups are the same
   torn_body : (image : Image) → MayLeaveTorn (IsGroupBody anchor place n) d0.now image → HasLog d0.sizes anchor groups image
   torn_body image torn =
       let had = follow.stands torn.0 torn.1 in
       none_more torn.0 image had (λ v k out. torn.2 v k (λ at. out (body_on_places anchor place n v k at))) (still_closed torn.0 image had torn.2)
 
-  -- Behind the closed gate the group stands, on each image.
+  -- After the closed gate the group stands, on each image.
   module _ (d1 : Disk) (header : List ℕ) (is_header : IsHeader header (header_of group)) (ready : IsReadyToOpen d1.now anchor place header group.images) (left_before : (image : Image) → MayLeave d1.now image → HasLog d0.sizes anchor groups image) where
     module _ (image : Image) (left : MayLeave d1.now image) where
       same_there : (v k : ℕ) → v ≡ anchor.log_vol → image v k ≡ d1.now.contents v k

@@ -1,4 +1,4 @@
--- What is pending, as a group behind the durable ones.
+-- What is pending, as a group after the durable ones.
 use Rattle.std.proofs.Common.{◌≡◌, ℕ, ◌+◌, ◌-◌, ◌<◌, ◌≤◌, List, [], ◌∷◌, ◌++◌, length, length-append, take, drop, refl, sym, ◌∙◌, ap, subst, arith}
 use Rattle.std.proofs.lemmas.Grind.{flat_map-append}
 use Rattle.std.proofs.lemmas.List.{append-nil, length-map}
@@ -38,7 +38,7 @@ span-append : (groups others : List Group) → span (groups ++ others) ≡ span 
 span-append [] others = omega arith
 span-append (group ∷ groups) others = let rest = span-append groups others in omega (arith, rest)
 
--- images of which there are some are one group
+-- images, if there are some, are one group
 pub one_group : (number : ℕ) (images : List PageImage) → 0 < length images → groups_of number images ≡ group_of number images ∷ []
 one_group number [] some = absurd (omega arith)
 one_group number (image ∷ images) some = refl

@@ -16,7 +16,7 @@ drop_before zero xs ys le = refl
 drop_before (suc n) [] ys le = absurd (omega (arith, le))
 drop_before (suc n) (x ∷ xs) ys le = drop_before n xs ys (omega (arith, le))
 
--- the slot behind them is set
+-- the slot after them is set
 pub set_behind : {X : Type 0} (xs : List X) (first end : ℕ) (x : X) → first ≤ end → end < length xs → drop first (take (end + 1) (set xs end x)) ≡ drop first (take end xs) ++ x ∷ []
 set_behind xs first end x le lt =
     let size = length-take-le end xs (omega arith) in
@@ -30,7 +30,7 @@ parts_joined [] (suc first) (suc end) le = refl
 parts_joined (x ∷ xs) (suc first) zero le = absurd (omega (arith, le))
 parts_joined (x ∷ xs) (suc first) (suc end) le = λ i. x ∷ parts_joined xs first end (omega (arith, le)) i
 
--- and behind the front nothing of it is left
+-- and after the front nothing of it is left
 pub none_left : {X : Type 0} (xs : List X) (end : ℕ) → end ≤ length xs → drop end (take end xs) ≡ []
 none_left xs zero le = refl
 none_left [] (suc end) le = absurd (omega (arith, le))

@@ -1,4 +1,4 @@
--- How the images of durable groups come home, and the log's start goes behind them.
+-- How the images of durable groups come home, and the log's start moves past them.
 use Rattle.std.specs.Prelude.{◌≡◌, ◌==◌, ◌&&◌, ◌+◌, ◌-◌, ◌%◌, ℕ, Bool, IsTrue, List, [], Some, if◌then◌else◌}
 use Rattle.log_ring.specs.domain_base.Limits.{log_pages, max_volumes}
 use Rattle.log_ring.specs.volume_disk.Disk.{Disk, MayLeave, Tells}
@@ -17,8 +17,8 @@ use Rattle.meta_log.specs.Log.{Log, Stands, new_log, next_number, used}
 abbrev pub same_ring : Anchor → Anchor → Bool
 same_ring one other = (one.log_vol == other.log_vol) && (one.log_page == other.log_page)
 
--- the next anchor: one that was given, with the next number and slot, and a start behind the
--- durable groups, or at the first page of another ring
+-- the next anchor: one that was given, with the next number and slot, and a start after the durable
+-- groups, or at the first page of another ring
 abbrev pub next_anchor : Log → Anchor → Anchor
 next_anchor log given = record given {
   number = log.anchor.number + 1;

@@ -13,7 +13,7 @@ use Rattle.meta_log.specs.Log.{Log, Stands, pending_groups, used}
 
 -- Places.
 
--- what is written of the header's page: all behind its gate
+-- what is written of the header's page: all after its gate
 abbrev pub IsHeaderBody : Anchor → ℕ → Places
 IsHeaderBody anchor place = IsIn anchor.log_vol (ring_byte anchor place + block_bytes) 7680
 
@@ -30,12 +30,12 @@ IsGroupBody anchor place n v k =
 
 -- Calls.
 
--- what stands behind the gate at a place is what a page has there
+-- what follows the gate at a place is what a page has there
 abbrev pub IsWrittenBody : Image → Anchor → ℕ → List ℕ → Type 0
 IsWrittenBody image anchor place header =
     drop block_bytes (place_at image anchor place) ≡ drop block_bytes header
 
--- behind the gate at a place stands a group, but for the gate itself, and the next gate is closed;
+-- after the gate at a place stands a group, but for the gate itself, and the next gate is closed;
 -- nothing of it is pending
 pub record IsReadyToOpen (moment : Moment) (anchor : Anchor) (place : ℕ) (header : List ℕ)
     (images : List PageImage) : Type 0 where
@@ -45,7 +45,7 @@ pub record IsReadyToOpen (moment : Moment) (anchor : Anchor) (place : ℕ) (head
   pub synced : (k : ℕ) → moment.unsynced anchor.log_vol k ≡ false
 
 -- a group may follow these: they stand, and it is the next by its place and number and fits the
--- ring behind them
+-- ring after them
 pub record MayFollow (disk : Disk) (anchor : Anchor) (groups : List Group) (place : ℕ)
     (group : Group) : Type 0 where
   pub stands : LogStands disk anchor groups
@@ -98,7 +98,7 @@ HasWrittenGroup old new anchor place group =
 
 -- What is pending.
 
--- it was made durable, or that was cut short: nothing is touched but the ring behind the durable
+-- it was made durable, or that was cut short: nothing is touched but the ring after the durable
 -- groups, and each image since has it whole or not at all. The gate opens only once the log's
 -- volume is synced.
 pub record Forces (old new : Disk) (log : Log) : Type 0 where

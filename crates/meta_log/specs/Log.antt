@@ -13,7 +13,7 @@ use Rattle.log_ring.specs.declared.image.PageImage.{PageImage}
 use Rattle.log_ring.specs.Groups.{Group, LogStands, images_of, span}
 use Rattle.log_ring.specs.Homes.{AreLoggable}
 
--- its anchor, how many groups are durable behind that, their images in order, and the images that
+-- its anchor, how many groups are durable after that, their images in order, and the images that
 -- the next force makes durable
 pub record Log : Type 0 where
   pub anchor : Anchor
@@ -29,7 +29,7 @@ new_log anchor = record { anchor = anchor; groups = 0; logged = []; pending = []
 abbrev pub used : Log → ℕ
 used log = log.groups + length log.logged
 
--- the number of the group behind them
+-- the number of the group after them
 abbrev pub next_number : Log → ℕ
 next_number log = log.anchor.group + log.groups
 
@@ -37,7 +37,7 @@ next_number log = log.anchor.group + log.groups
 abbrev pub group_of : ℕ → List PageImage → Group
 group_of number images = record { number = number; images = images }
 
--- and none where there is no image
+-- and none if there is no image
 abbrev pub groups_of : ℕ → List PageImage → List Group
 groups_of number [] = []
 groups_of number (image ∷ images) = group_of number (image ∷ images) ∷ []
@@ -46,7 +46,7 @@ groups_of number (image ∷ images) = group_of number (image ∷ images) ∷ []
 abbrev pub pending_groups : Log → List Group
 pending_groups log = groups_of (next_number log) log.pending
 
--- what holds of every log: what is pending fits behind the durable groups, and all images may be
+-- what holds of every log: what is pending fits after the durable groups, and all images may be
 -- logged
 pub record IsLog (log : Log) : Type 0 where
   pub slot : log.anchor.slot ≤ 1
@@ -79,7 +79,8 @@ images_at pages homes = map (image_in pages) homes
 abbrev pub appended : Log → List PageImage → Log
 appended log change = record log { pending = joined change log.pending }
 
--- so many images fit one group, and it the ring behind the durable groups, with the next header
+-- `n` images fit one group, and that group fits the ring after the durable groups, with the next
+-- header
 pub record HasPlaceFor (log : Log) (n : ℕ) : Type 0 where
   pub group : n ≤ group_images
   pub ring : used log + n + 2 ≤ log_pages
@@ -88,7 +89,7 @@ pub record HasPlaceFor (log : Log) (n : ℕ) : Type 0 where
 abbrev pub IsFullFor : Log → ℕ → Type 0
 IsFullFor log n = (group_images < n) ⊎ (log_pages < used log + n + 2)
 
--- of how many images each change has a place
+-- how many images each change has a place for
 abbrev pub room_of : Log → ℕ
 room_of log =
     min (group_images - length log.pending) (log_pages - 2 - used log - length log.pending)

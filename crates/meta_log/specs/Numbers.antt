@@ -13,18 +13,18 @@ pub record AreNumbersWithin (first : ℕ) (disk : Disk) (log : Log) : Type 0 whe
   pub anchor : 5 * log.anchor.number ≤ 5 * first + disk.calls
   pub group : 5 * next_number log ≤ 5 * first + disk.calls
 
--- so they are after more calls
+-- they are still within that after more calls
 abbrev pub KeepsNumbers : ℕ → Disk → Disk → Log → Type 0
 KeepsNumbers first old new log =
     old.calls ≤ new.calls → AreNumbersWithin first old log → AreNumbersWithin first new log
 
--- once what is pending was forced, which makes calls where there is some
+-- once what is pending was forced, which makes calls if something is
 abbrev pub ForcesNumbers : ℕ → Disk → Disk → Log → Type 0
 ForcesNumbers first old new log =
     old.calls ≤ new.calls → (0 < length log.pending → IsLaterBy 5 old new)
     → AreNumbersWithin first old log → AreNumbersWithin first new (forced log)
 
--- and behind the next anchor
+-- and after the next anchor
 abbrev pub MovesNumbers : ℕ → Disk → Disk → Log → Anchor → Type 0
 MovesNumbers first old new log given =
     IsLaterBy 6 old new → AreNumbersWithin first old log

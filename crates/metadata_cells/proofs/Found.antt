@@ -10,7 +10,7 @@ use Rattle.metadata_cells.specs.Cell.{AreRecords, record_of, spellings}
 use Rattle.metadata_cells.proofs.OneByOne.{known}
 use Rattle.metadata_cells.proofs.Spellings.{some_bytes}
 
--- what is left of the records behind the bytes that were passed: the first of the kind is there
+-- what is left of the records after the bytes that were passed: the first of the kind is there
 pub record LeavesSo (bytes : List ℕ) (kind at : ℕ) (records : List Record) : Type 0 where
   pub rest : List Record
   pub spelled : drop at bytes ≡ spellings rest
@@ -27,7 +27,7 @@ begins_with : (r : Record) (rs : List Record) (bytes : List ℕ) → bytes ≡ s
 begins_with r rs bytes same allowed = record { allowed = allowed; known = known r; rest = spellings rs; parts = same }
 
 module _ (bytes : List ℕ) (kind at : ℕ) (leaves : LeavesOf bytes kind at) where
-  -- behind the end nothing is left
+  -- after the end nothing is left
   pub found_none : length bytes ≤ at → (records : List Record) → AreRecords records → bytes ≡ spellings records → None ≡ record_of kind records
   found_none past records good same = let so = leaves records good same in by_rest so.rest so.spelled so.allowed ∙ sym so.same
     where

@@ -23,7 +23,7 @@ row_of pages start passed last path =
           (earlier (record { at = at; cell = cell } ∷ rest) (next, follows, stands, follow))
     ]
 
--- what stands in the list stands in it behind others too
+-- what stands in the list stands in it after others too
 later : (a : CellAt) (c : PlacedCell) (cs : List PlacedCell) → Contains (places cs) a → Contains (places (c ∷ cs)) a
 later a c cs (k, within, is) = (suc k, omega (arith, within), is)
 

@@ -29,7 +29,7 @@ abbrev pub IsFileset : ℕ → Option ℕ → Type 0
 IsFileset n None = n ≡ 0
 IsFileset n (Some fileset) = (n ≡ fileset + 1) × (n ≤ 32)
 
--- a cell in use begins with this head, and its records have so many bytes
+-- a cell in use begins with this head, and its records have `bytes` bytes
 pub record HasHead (cell : List ℕ) (head : CellHead) (bytes : ℕ) : Type 0 where
   pub zero : number_at 2 0 cell ≡ 0
   pub next : IsAddress (number_at 1 2 cell) (number_at 1 3 cell) (number_at 4 4 cell) head.next

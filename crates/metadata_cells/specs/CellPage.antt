@@ -59,7 +59,7 @@ pub record IsEmptyPage (index : ℕ) (page : List ℕ) : Type 0 where
 abbrev pub home_of : CellAt → Home
 home_of at = record { vol = at.vol; page = at.page }
 
--- the bytes of a cell, where its page is there and one of the table, and has such a cell
+-- the bytes of a cell, if its page is there, is one of the table, and has such a cell
 abbrev pub cell_at : Pages → CellAt → Option (List ℕ)
 cell_at pages at =
     option_and_then (λ page. if is_cell_page page && nat_lt at.cell 28
@@ -82,7 +82,7 @@ pub record ChangesCell (at : CellAt) (bytes : List ℕ) (old new : Pages) : Type
   pub is : (home : Home) → new home ≡
       (if same_home home (home_of at) then Some (with_cell at.cell bytes page) else old home)
 
--- a page in place of which another stands, made from it
+-- another page, made from the one at the home, stands in its place
 pub record ChangesPage (home : Home) (change : List ℕ → List ℕ) (old new : Pages) : Type 0 where
   pub page : List ℕ
   pub was : old home ≡ Some page

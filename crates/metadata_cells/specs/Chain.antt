@@ -23,8 +23,8 @@ pub record HasHeadAt (pages : Pages) (at : CellAt) (head : CellHead) : Type 0 wh
   pub size : ℕ
   pub is : HasHead bytes head size
 
--- the kinds of cells that a cell may lead to: chain cells behind the first cell of a file, quota
--- cells behind one
+-- the kinds of cells that a cell may lead to: a file's first cell and a chain cell to a chain cell,
+-- a quota cell to a quota cell
 abbrev pub may_follow : CellKind → CellKind → Bool
 may_follow Primary Chain = true
 may_follow Chain Chain = true
@@ -62,7 +62,7 @@ pub record IsChain (pages : Pages) (start : CellAt) (cells : List PlacedCell) : 
   pub ends : last.cell.head.next ≡ None
   pub all : cells ≡ passed ++ last ∷ []
 
--- the cells that come behind a head: each stands where the one before it leads, and may follow it,
+-- the cells that come after a head: each stands where the one before it leads, and may follow it,
 -- and the last leads to none
 abbrev pub Follow : Pages → CellHead → List PlacedCell → Type 0
 Follow pages head [] = head.next ≡ None
@@ -97,8 +97,8 @@ LeadsAstray pages passed last at =
     ⊎ ((head : CellHead) → HasHeadAt pages at head
     → may_follow last.cell.head.kind head.kind ≡ false)
 
--- where the chain from a place on is broken: at that place, where no cell stands; at a cell whose
--- next address is wrong; or at a cell that one leads to and whose records are not well formed
+-- where the chain from a place on is broken: at that place, if no cell stands there; at a cell
+-- whose next address is wrong; or at a cell that one leads to and whose records are not well formed
 pub data IsBroken (pages : Pages) (start : CellAt) : CellAt → Type 0 where
   no_cell : ((cell : Cell) → ¬ StandsAt pages start cell) → IsBroken pages start start
   astray : (passed : List PlacedCell) (last : PlacedCell) (at : CellAt)

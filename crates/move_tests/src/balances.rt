@@ -58,7 +58,7 @@ fn plan(a: &VolCount, b: &VolCount, c: &VolCount) -> Option<(u32, u32)>
     Some((from.number(), to.number()))
 }
 
-/// What is moved between three volumes; an error where they are none that may be counted.
+/// What is moved between three volumes; an error if one of them cannot be counted.
 fn moved(volumes: [Volume; 3]) -> Result<Option<(u32, u32)>, &'static str> {
     let [a, b, c] = volumes;
     let a = count_of(a).ok_or("no count")?;

@@ -1,4 +1,4 @@
--- A fileset that rows make is at hand where it is known that there is one.
+-- A fileset that rows make is at hand if it is known that there is one.
 use Rattle.std.proofs.Common.{◌≡◌, ◌∙◌, ◌⊎◌, ℕ, nat_eq, Bool, true, false, cond, List, [], ◌∷◌, Option, Some, None, IsSomeAnd, IsTrue, inl, inr, refl, sym, ap, subst, ⊎_elim}
 use Rattle.std.proofs.Math.Logic.{∥∥₁_map}
 use Rattle.std.proofs.lemmas.Bool.{eq-eqb, eqb-true}

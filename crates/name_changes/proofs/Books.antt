@@ -1,4 +1,4 @@
--- Books are those of filesets once names have changed, where no file has come or gone.
+-- Books are those of filesets once names have changed, if no file has come or gone.
 use Rattle.std.proofs.Common.{◌≡◌, ◌∙◌, ◌≤◌, ℕ, Bool, true, false, not, cond, [], Option, Some, None, IfSome, IsSomeAnd, length, slice_get, refl, sym, ap, subst, arith, true≢false}
 use Rattle.std.specs.FinMap.{get}
 use Rattle.std.specs.Option.{option_and_then}

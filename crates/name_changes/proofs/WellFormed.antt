@@ -1,4 +1,4 @@
--- That a directory is well formed is at hand where it is known.
+-- That a directory is well formed is at hand if it is known.
 use Rattle.std.proofs.Common.{◌≡◌, ◌∙◌, ◌⊎◌, ◌++◌, ℕ, false, List, [], ◌∷◌, length, inl, refl, sym}
 use Rattle.std.proofs.Math.Logic.{∥∥₁_map}
 use Rattle.std.proofs.lemmas.List.{append_cancel_left}

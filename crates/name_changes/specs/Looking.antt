@@ -1,4 +1,4 @@
--- What a path leads to, where memory is looked at.
+-- What a path leads to, as looked up in memory.
 use Rattle.std.specs.Prelude.{◌≡◌, ℕ, None, Some}
 use Rattle.std.specs.FinMap.{get}
 use Rattle.std.specs.Option.{option_map}

@@ -84,7 +84,7 @@ pub record Renames (path to : Path) (all : FilesetMap) (entry : FilesetEntry)
   pub replaced : option_map number_of answer.replaced ≡ replaced_number path to fileset.tree
   pub staged : StandsWith all entry fileset now (renamed path to fileset.tree)
 
--- what a fault tells: the first refusal of the checks; or want of a page, which comes only where
+-- what a fault tells: the first refusal of the checks; or want of a page, which comes only if
 -- they refuse nothing
 abbrev pub IsRefused : Checks → FilesetSlot → NameFault → Type 0
 IsRefused checks fileset (Refused refusal) = first_refusal (checks fileset) ≡ Some refusal

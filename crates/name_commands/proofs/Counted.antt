@@ -79,7 +79,7 @@ rest_own : (x : SlotItem) (xs : List SlotItem) → HaveOwnNames (x ∷ xs) → H
 unfolding IsDistinct
 rest_own x xs own = own.1
 
--- where the first slot has no fileset, the others name all
+-- if the first slot has no fileset, the others name all
 pub rest_name : (x : SlotItem) (xs : List SlotItem) (all : FilesetMap) → ((entry : FilesetEntry) → ¬ x ≡ slot.Original entry) → NamesAll (x ∷ xs) all → NamesAll xs all
 rest_name x xs all none names = record {
   own = rest_own x xs names.own;
@@ -95,7 +95,7 @@ rest_name x xs all none names = record {
         by_number zero at = absurd (none h.entry (some_inj at))
         by_number (suc n) at = record { number = n; entry = h.entry; has = at; named = h.named }
 
--- where it has one, they name all but that
+-- if it has one, they name all but that
 pub rest_names : (entry : FilesetEntry) (xs : List SlotItem) (all : FilesetMap) → NamesAll (slot.Original entry ∷ xs) all → NamesAll xs (map.remove all entry.name)
 rest_names entry xs all names = record {
   own = rest_own (slot.Original entry) xs names.own;

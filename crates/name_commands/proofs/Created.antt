@@ -50,7 +50,7 @@ use Rattle.name_commands.proofs.Given.{Given}
 use Rattle.name_commands.proofs.Means.{accepted, in_this}
 use Rattle.name_commands.proofs.Removal.{refuses_none}
 
--- ---- checks with one more behind them
+-- ---- checks with one more after them
 
 pub first_behind : (checks : List (Option Refusal)) (more : Option Refusal) → first_refusal checks ≡ None → first_refusal (checks ++ more ∷ []) ≡ more
 first_behind [] None none = refl
@@ -156,7 +156,7 @@ module _ (memory mid last : DomainMemory) (number : ℕ) (place : Place) (all : 
           books_follow number g.entry memory all g.fileset g.has.original g.has.there last now_staged.stands.tables tree one.table one.others
           (λ its. charged_book g.fileset.tree tree file None (Some node) uid gid 1 0 (staged_books memory number) (staged_books last number) its grows (counts_new of uid gid) one.book) g.kept.books
 
-      -- behind what names refuse, which is nothing, quotas refuse
+      -- after what names refuse, which is nothing, quotas refuse
       asked_last : refusal_of all (creation of place uid gid) ≡ over
       asked_last = creation_refusal memory number place all g uid gid of ∙ first_behind (free_checks place.path g.fileset) (quota_refusal g.fileset.tree uid gid 1 0) creates.allowed ∙ sym is
 

@@ -31,7 +31,7 @@ use Rattle.name_commands.proofs.Removal.{HasNamed}
 pub original_of_named : (o : Option SlotItem) (name : Name) → HasNamed o name → of_original o ≡ true
 original_of_named o name h = ap of_original h.has
 
--- that a change can be taken back is at hand where there is none
+-- that a change can be taken back is at hand if there is none
 pub may_at_hand : (memory : DomainMemory) → IsSettled memory → (all : FilesetMap) → IsStaged memory all → ∥ MayGoBack memory ∥₁ → MayGoBack memory
 may_at_hand memory settled all staged may = record {
   has = record {

@@ -27,7 +27,7 @@ as_they_are [] = refl
 as_they_are (None ∷ checks) = as_they_are checks
 as_they_are (Some refusal ∷ checks) = refl
 
--- filesets of which the named one has this tree are those with this change of it
+-- filesets whose named one has this tree are those with this change of it
 pub with_its_tree : (memory : DomainMemory) (number : ℕ) (name : Name) (all : FilesetMap) (g : Given memory number name all) (change : Fileset → Fileset)
     → insert all g.entry.name (record g.fileset { tree = change g.fileset.tree }) ≡ with_tree all name change
 with_its_tree memory number name all g change =

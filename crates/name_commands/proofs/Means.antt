@@ -1,4 +1,4 @@
--- What commands on filesets mean where the table has a fileset, and where it has not.
+-- What commands on filesets mean if the table has a fileset, and if it has not.
 use Rattle.std.proofs.Common.{◌≡◌, ◌∙◌, ◌||◌, ℕ, zero, suc, Bool, true, false, List, [], ◌∷◌, MatchOption, Option, Some, None, IsSome, IsSomeAnd, is_some, map, slice_get, refl, sym, ap, subst, true≢false}
 use Rattle.std.specs.FinMap as map
 use Rattle.std.specs.List.{list_any}

@@ -38,7 +38,7 @@ use Rattle.name_commands.proofs.Gone.{IsLast, enough_there, is_last, refunded_th
 use Rattle.name_commands.proofs.Linked.{as_they_are, with_its_tree}
 use Rattle.name_commands.proofs.Means.{accepted, in_this}
 
--- what is gone where a rename replaces it
+-- what is gone if a rename replaces it
 pub record IsReplaced (tree : Fileset) (from to : Path) (number : ℕ) : Type 0 where
   pub apart : names_one tree from to ≡ false
   pub at : get tree.paths to ≡ Some number

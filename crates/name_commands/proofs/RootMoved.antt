@@ -65,7 +65,7 @@ module _ (slot : FilesetSlot) (role : slot.role ≡ Original) (valid : IsValidFi
   other_names_root : (name : Name) (rest : Path) → names_one slot.tree (name ∷ rest) [] ≡ false
   other_names_root name rest = (other_number name rest (map.get slot.tree.paths []) (map.get slot.tree.paths (name ∷ rest)) refl refl).1
 
-  -- it would come below itself, where the way to the other path is clear
+  -- it would come below itself, if the way to the other path is clear
   pub root_moved : (to : Path) → 1 ≤ length to → first_refusal (rename_checks [] to slot) ≡ first_refusal (walk_refusal slot to ∷ Some IntoItself ∷ [])
   root_moved [] some = absurd (omega (arith, some))
   root_moved (name ∷ rest) some = λ i. first_refusal

@@ -48,7 +48,7 @@ pub no_taking : (memory : DomainMemory) (place : Place) → IsSettled memory →
 no_taking memory place settled none all stands kind.File = refuses_none memory place.fileset settled none all stands (λ s. read_only s ∷ target_refusal s place.path ∷ directory_here s place.path ∷ [])
 no_taking memory place settled none all stands kind.Directory = refuses_none memory place.fileset settled none all stands (λ s. read_only s ∷ target_refusal s place.path ∷ file_here s place.path ∷ not_empty s place.path ∷ [])
 
--- where no page was wanted below none is wanted
+-- if no page was wanted below, none is wanted
 some_refused : (refusal : Refusal) → Some refusal ≡ None → ⊥
 some_refused refusal e = cc
 

@@ -36,7 +36,7 @@ none_a_clone memory settled all stands = have_no_clone (staged_in memory) all (s
 pub original_writable : (fileset : FilesetSlot) → fileset.role ≡ role.Original → read_only fileset ≡ None
 original_writable fileset is = ap (λ (r : Role). refuse_if (is_clone r) ReadOnly) is
 
--- so what is refused on the way to a place is refused behind it
+-- so what is refused on the way to a place is refused after it
 pub lost_writable : (all : FilesetMap) → HaveNoClone all → (place : Place) (stop : Stop) → IsLost all place stop → (more : FilesetSlot → List (Option Refusal))
     → StopsWith (in_fileset all place.fileset (λ slot. read_only slot ∷ target_refusal slot place.path ∷ more slot)) stop
 lost_writable all none place stop lost more = subst (λ (o : Option Refusal). StopsWith o stop) (sym (by_get (map.get all place.fileset) refl)) (lost more)

@@ -29,7 +29,7 @@ pub record ComesNext (entries : List Entry) (e : Entry) : Type 0 where
 -- ** A command that is answered
 
 -- with the change that is laid over memory a command on these filesets has this answer,
--- out-of-memory where nothing changes, and the change may be kept
+-- out-of-memory if nothing changes, and the change may be kept
 pub record IsAnswered (memory : DomainMemory) (all : FilesetMap) (command : Command) (reply : Reply)
     : Type 0 where
   pub now : FilesetMap

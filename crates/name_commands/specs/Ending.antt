@@ -26,14 +26,14 @@ abbrev pub stop_of : StoreFault → Stop
 stop_of fault.NoPage = NoPage
 stop_of fault.OutOfMemory = OutOfMemory
 
--- what the rules refuse is told, or that they refuse nothing, and a page is wanted; or memory was
--- short
+-- the first refusal of the rules is told; or they refuse nothing, and a page is wanted; or memory
+-- was short
 abbrev pub StopsWith : Option Refusal → Stop → Type 0
 StopsWith refusal (Refused told) = refusal ≡ Some told
 StopsWith refusal NoPage = refusal ≡ None
 StopsWith refusal OutOfMemory = Unit {0}
 
--- so a command on these filesets stops
+-- a command on these filesets stops in this way
 abbrev pub StopsAs : FilesetMap → Command → Stop → Type 0
 StopsAs all command stop = StopsWith (refusal_of all command) stop
 
@@ -74,10 +74,10 @@ IsServed Showfdmn = Unit {0}
 IsServed (Showfile place) = Unit {0}
 IsServed command = IsLaid command
 
--- why a command may want a page, where that is known: of mkfset, that no slot of the table is free;
--- or no page, or one alone and no cell; of setquota, that no cell is free, and no page; of write,
--- that the file lacks a page that its bytes lie in; rmfset, truncate, unlink, rmdir and chfile
--- never do. Of other commands on names nothing is said yet
+-- why a command may want a page, if that is known. For mkfset: no slot of the table is free, or no
+-- page, or only one page and no cell. For setquota: no cell is free, and no page. For write: the
+-- file lacks a page that its bytes lie in. rmfset, truncate, unlink, rmdir and chfile never want
+-- one. Nothing is said yet of other commands on names
 abbrev pub LacksPage : Command → DomainMemory → Type 0
 LacksPage (Mkfset fileset) memory = (list_any is_free memory.table.slots ≡ false)
     ⊎ BeginsNone memory.space memory.cells fault.NoPage

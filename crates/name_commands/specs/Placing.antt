@@ -31,7 +31,7 @@ pub record IsPlaced (memory : DomainMemory) (all : FilesetMap) (place : Place) (
   pub role : fileset.role ≡ Original
   pub leads : LeadsTo place.path fileset tag of
 
--- so it is for some filesets that memory stands for, and some place
+-- the tag is at some place in some filesets that memory stands for
 pub record IsPlacedForSome (memory : DomainMemory) (number : ℕ) (tag : Tag) (of : Kind) : Type 0
   where
     pub all : FilesetMap
@@ -39,7 +39,7 @@ pub record IsPlacedForSome (memory : DomainMemory) (number : ℕ) (tag : Tag) (o
     pub place : Place
     pub placed : IsPlaced memory all place number tag of
 
--- no path leads there, whatever is asked behind that
+-- no path leads there, whatever is asked after that
 abbrev pub IsLost : FilesetMap → Place → Stop → Type 0
 IsLost all place stop = (more : FilesetSlot → List (Option Refusal)) → StopsWith
     (in_fileset all place.fileset (λ slot. target_refusal slot place.path ∷ more slot)) stop

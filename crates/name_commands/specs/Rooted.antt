@@ -27,8 +27,8 @@ pub record IsRefusedIn (name : Name) (refusal : Refusal) (command : Command) : T
       → slot.role ≡ Original → IsValidFileset slot.tree → refusal_of all command ≡ Some refusal
   pub none : (all : FilesetMap) → get all name ≡ None → refusal_of all command ≡ Some NoFileset
 
--- it is refused so where a file stands at the place, or so where a directory does, behind what the
--- way there refuses
+-- it is refused with `of_file` if a file stands at the place, and with `of_directory` if a
+-- directory does, after what the way there refuses
 pub record IsRefusedOnto (place : Place) (of_file of_directory : Refusal) (command : Command)
     : Type 0 where
   pub there : (all : FilesetMap) (slot : FilesetSlot) (of : Kind)

@@ -25,8 +25,8 @@ use domain_changes::{
 use name_changes::{create, settings_of};
 use std::alloc::Global;
 
-/// Why nothing is made if a quota may refuse it too. What names refuse comes first, then what the
-/// quota refuses, then the want of a page.
+/// Why nothing is made if a quota may refuse it too. Refusals by names come first, then
+/// refusals by the quota, then no page.
 pub(crate) fn stop_for(fault: NameFault, over: Option<Refusal>) -> Stop
     ensures { (checks : Checks) (fileset : FilesetSlot) → IsRefused checks fileset fault
         → StopsWith (first_refusal (checks fileset ++ over ∷ [])) result }

@@ -89,7 +89,7 @@ module _ (files : Bitfiles) (nodes : List TaggedNode) (led : List Led) (are : Ar
         by_file None there is = none_is_some one (sym is)
         by_file (Some file) there is = (file, there, is)
 
-    -- so many links has the file
+    -- the file has this number of links
     pub links_of : most_paths (files one.tag) ≡ one.links
     links_of = ap most_paths file_of.1 ∙ sym file_of.2.links
 

@@ -197,7 +197,7 @@ module _ (files : Bitfiles) (nodes : List TaggedNode) (led : List Led) (are : Ar
       let same : w.0 ≡ front = one_way files are.good w.0 front at.dir Directory (way_leads at.dir w.0 w.1) leads in
       ap (option_map (λ (p : Path). p ++ at.name ∷ [])) w.1 ∙ ap (λ (p : Path). Some (p ++ at.name ∷ [])) same
 
-  -- a path leads to each directory, where none is missing
+  -- a path leads to each directory, if none is missing
   pub reached_by : AreAllThere files → (dir : Tag) → IsDirectory files dir → IsReached files dir Directory
   reached_by all dir is = by_way (way_to led dir) refl
     where
@@ -285,7 +285,7 @@ module _ (files : Bitfiles) (nodes : List TaggedNode) (led : List Led) (are : Ar
               of_file tag (length counted.0) (files tag) (λ f there. led_kind files are.good reached.0 tag File f reached.1 there) counted.2,
             )
 
-    -- as many lead to each as it has links, where no directory is missing
+    -- as many lead to each as it has links, if no directory is missing
     pub all_paths : AreAllThere files → (one : TaggedNode) → Contains nodes one → HasItsPaths files tree one
     all_paths all one among of reached =
         let counted = are.good.counted one.tag in

@@ -74,7 +74,7 @@ pub whole_path : (path : Path) → 1 ≤ length path → take (length path - 1) 
 whole_path path some =
     sym (take_more path (length path - 1) [] (omega (arith, some))) ∙ take_all (length path - 1 + 1) path (omega (arith, some))
 
--- what is in front of a last name
+-- what is before a last name
 pub fore : (front : Path) (name : Name) → take (length (front ++ name ∷ []) - 1) (front ++ name ∷ []) ≡ front
 fore front name =
     ap (λ n. take n (front ++ name ∷ [])) (omega (arith, length-append front (name ∷ [])))

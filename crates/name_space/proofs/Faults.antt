@@ -1,4 +1,4 @@
--- What a fault of a store tells, where the checks refuse nothing.
+-- What a fault of a store tells, if the checks refuse nothing.
 use Rattle.std.proofs.Common.{◌≡◌, ℕ, None, sym, subst}
 use Rattle.directory_rows.specs.page_store.Bitfiles.{Bitfiles, IsCounted}
 use Rattle.directory_rows.specs.page_store.declared.fault.StoreFault.{StoreFault}

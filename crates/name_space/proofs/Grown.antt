@@ -31,7 +31,7 @@ IsLedTo files path number = (tag : Tag) × (of : Kind) × (number ≡ number_of 
 abbrev pub IsNamed : Bitfiles → ℕ → Type 0
 IsNamed files number = (tag : Tag) × (of : Kind) × (number ≡ number_of tag) × IsReached files tag of
 
--- the paths in front of a place are in the tree, and no other
+-- the paths before a place are in the tree, and no other
 pub record IsGrown (files : Bitfiles) (nodes : List TaggedNode) (led : List Led) (count : ℕ) (tree : Fileset) : Type 0 where
   pub paths : (j : ℕ) (one : Led) → j < count → slice_get led j ≡ Some one → map.get tree.paths one.path ≡ Some (number_of one.tag)
   pub held : (j : ℕ) (one : Led) → j < count → slice_get led j ≡ Some one → map.get tree.nodes (number_of one.tag) ≡ Some (node_for nodes one.tag one.kind)

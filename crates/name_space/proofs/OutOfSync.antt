@@ -21,7 +21,7 @@ use Rattle.name_space.specs.Trees.{AreAllOf, AreMissing, IsFoundMissing, IsMissi
 use Rattle.name_space.specs.declared.parts.TaggedNode.{TaggedNode}
 use Rattle.name_space.proofs.Counted.{kind_is, led_in, led_out}
 
--- one of those in front of a place is missing, and has that number
+-- one of those before a place is missing, and has that number
 pub record IsOut (nodes : List TaggedNode) (led : List Led) (count number : ℕ) : Type 0 where
   pub k : ℕ
   pub one : Led

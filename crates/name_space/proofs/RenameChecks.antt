@@ -77,7 +77,7 @@ module _ (files : Bitfiles) (path to : Path) (spot : Spot) (dir : Tag) (looked :
       by_node None some is = absurd (true≢false (sym some))
       by_node (Some node) some is = ap Some is
 
-  -- the checks behind the looks
+  -- the checks after the looks
   pub looked_checks : first_refusal (rename_checks path to slot) ≡ cond (names_one slot.tree path to) None (first_refusal (move_checks path to slot))
   looked_checks = by_last _ _ _ _ (writable slot files original) target_passes walk_passes
 

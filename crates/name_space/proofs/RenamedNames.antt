@@ -34,7 +34,7 @@ use Rattle.name_space.proofs.RowFacts.{is_there, removed_index, removed_none, th
 use Rattle.name_space.proofs.Spots.{led_path}
 use Rattle.name_space.proofs.Taken.{removes, taken_index, taken_leads}
 
--- ---- the rows in front of a move and between its steps
+-- ---- the rows before a move and between its steps
 
 pub still_good : (old mid : Bitfiles) (from_dir dir : Tag) (name : Name) → IsWellFormed old from_dir → IsWellFormed old dir → RemovesRow from_dir name old mid → IsWellFormed mid dir
 still_good old mid from_dir dir name good into removes = by_tag (IsWellFormed mid dir) dir from_dir
@@ -140,7 +140,7 @@ module _ (old new : Bitfiles) (path to : Path) (spot : Spot) (dir : Tag) (looked
         indexes = λ differ. moved_indexes old old new spot dir (last_name path) (last_name to) moves (λ t there. refl) (looked.dir_is slot original).1.there at.1.there;
       }
 
--- ---- a path of which something else is taken away first
+-- ---- a path from which something else is taken away first
 
 pub record IsCleared (path to : Path) (spot : Spot) (dir : Tag) (slot : FilesetSlot) (mid : Bitfiles) : Type 0 where
   pub original : IsOriginal mid (record slot { tree = without to slot.tree })

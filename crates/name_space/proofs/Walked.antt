@@ -29,7 +29,7 @@ passes slot path count within clear =
     walk-step slot path count within
     ∙ ap (λ (r : Option Refusal). first_refusal (r ∷ map (directory_refusal slot) (map (λ k. take k path) (range_with_len (count + 1) (length path - (count + 1)))))) clear
 
--- what is left of the walk behind directories that refuse nothing is all of it
+-- what is left of the walk after directories that refuse nothing is all of it
 rest_is : (slot : FilesetSlot) (path : Path) (count : ℕ) → count ≤ length path → ((before : ℕ) → before < count → directory_refusal slot (take before path) ≡ None)
     → rest_of_walk slot path count ≡ walk_refusal slot path
 rest_is slot path zero within clear =

@@ -70,7 +70,7 @@ clear_in_sync slot path clear = by_node (option_and_then (get slot.tree.nodes) (
     by_node None out none = cc
     by_node (Some node) out none = by_flags (is_directory node) out none
 
--- the next directory of a path is shown where none in front of it refuses a look
+-- the next directory of a path is shown if none before it refuses a look
 pub next_shown : (slot : FilesetSlot) (path : Path) (count : ℕ) → IsClear slot path count → IsShown slot (take (count + 1) path)
 next_shown slot path count clear before lt =
     let low : before ≤ count = omega (arith, lt, length-take (count + 1) path) in
@@ -113,7 +113,7 @@ module _ (files : Bitfiles) (slot : FilesetSlot) (names : Names files slot) wher
         ((names.shown [] root_tag Directory (root_shown slot) refl).node file there).0;
   }
 
--- what the set has at a tag of which it tells the kind, and of which it tells none
+-- what the set has at a tag, if it tells the kind there, and if it tells none
 pub has_kind : (o : Option Bitfile) (of : Kind) → option_map (λ (file : Bitfile). file.kind) o ≡ Some of → (file : Bitfile) × (o ≡ Some file)
 has_kind None of is = cc
 has_kind (Some file) of is = (file, refl)

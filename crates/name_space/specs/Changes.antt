@@ -46,8 +46,8 @@ HasOriginal files = (slot : FilesetSlot) × IsOriginal files slot
 abbrev pub Checks : Type 0
 Checks = FilesetSlot → List (Option Refusal)
 
--- what a fault tells: the first refusal of the checks, after which all is as it was; or that no
--- page was free, which the misses count, where the checks refuse nothing
+-- what a fault tells: the first refusal of the checks, after which all is as it was; or, if the
+-- checks refuse nothing, that no page was free, which the misses count
 abbrev pub IsFaultOf : Checks → Bitfiles → Bitfiles → ℕ → ℕ → NameFault → Type 0
 IsFaultOf checks old new before after (Refused refusal) = (new ≡ old)
     × ((slot : FilesetSlot) → IsOriginal old slot → first_refusal (checks slot) ≡ Some refusal)
@@ -174,8 +174,8 @@ pub record Removes (checks : Checks) (path : Path) (slot : FilesetSlot) (old new
 
 -- ---- one path more
 
--- the file at a path, and the directory of a second, where that can be a path of the file; or what
--- is refused
+-- the file at a path, and the directory of a second, if that can be a path of the file; or what is
+-- refused
 abbrev pub IsLinkPlace : Bitfiles → FilesetSlot → Path → Path → Result LinkPlace Refusal → Type 0
 IsLinkPlace files slot path to (Ok place) = (first_refusal (link_checks path to slot) ≡ None)
     × (led_to files path ≡ Some (place.tag, kind.File)) × (rows_in files place.tag ≡ [])
@@ -227,7 +227,7 @@ replaced_number path to tree =
     (λ number. if is_named_elsewhere tree to number then None else Some number)
     (get tree.paths to)
 
--- what stood at a path, with all below it, stands at a second one; where both led to one file or
+-- what stood at a path, with all below it, stands at a second one; if both led to one file or
 -- directory the set is as it was
 pub record Renames (path to : Path) (slot : FilesetSlot) (old new : Bitfiles) (answer : Renamed)
     : Type 0 where

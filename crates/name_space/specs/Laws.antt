@@ -51,7 +51,8 @@ BytesAreFree = (files : Bitfiles) (slot : FilesetSlot) (tree : Fileset) → IsOr
     → HasSameNames tree slot.tree → IsValidFileset tree
     → IsOriginal files (record slot { tree = tree })
 
--- a change of the node at a path, where it is like the one before, is such a change of the fileset
+-- a change of the node at a path is such a change of the fileset, if the new node is like the one
+-- before
 abbrev pub ChangesAreLike : Type 0
 ChangesAreLike = (tree : Fileset) (path : Path) (change : Node → Node)
     → ((node : Node) → IsLike (change node) node)

@@ -20,7 +20,7 @@ abbrev pub AreRowsOf : Bitfiles → FilesetSlot → Tag → List NameItem → Ty
 AreRowsOf files slot dir list = (path : Path) → IsShown slot path
     → led_to files path ≡ Some (dir, Directory) → list ≡ rows_of slot.tree path
 
--- so many they are
+-- this is the number of those rows
 abbrev pub IsRowCount : Bitfiles → FilesetSlot → Tag → ℕ → Type 0
 IsRowCount files slot dir count = (path : Path) → IsShown slot path
     → led_to files path ≡ Some (dir, Directory) → count ≡ length (rows_of slot.tree path)

@@ -32,7 +32,7 @@ led_from files from [] = Some from
 led_from files from (name ∷ path) =
     option_and_then (λ row. led_from files row path) (found name (rows_in files from.0))
 
--- the same from the root on
+-- the tag and kind to which a path leads from the root on
 abbrev pub led_to : Bitfiles → Path → Option (Tag × Kind)
 led_to files path = led_from files (root_tag, kind.Directory) path
 
@@ -48,8 +48,8 @@ IsNodeOf file (Directory uid gid) =
     (file.kind ≡ kind.Directory) × (file.uid ≡ uid) × (file.gid ≡ gid)
 
 -- what a tag of this kind, to which a path leads, is in the fileset: a node of the kind; it is out
--- of sync where the set does not have it, and else it is what the set has, under as many paths as
--- that has links
+-- of sync if the set does not have it, and else it is what the set has, under as many paths as that
+-- has links
 pub record IsShownAs (files : Bitfiles) (slot : FilesetSlot) (tag : Tag) (of : Kind) : Type 0 where
   pub kind : IsSomeAnd (get slot.tree.nodes (number_of tag))
       (λ node. is_directory node ≡ is_directory_kind of)
@@ -58,7 +58,7 @@ pub record IsShownAs (files : Bitfiles) (slot : FilesetSlot) (tag : Tag) (of : K
       → (file.kind ≡ of) × IsSomeAnd (get slot.tree.nodes (number_of tag)) (IsNodeOf file)
       × (file.links ≡ paths_to slot.tree (number_of tag))
 
--- the fileset whose paths are the rows of a set, where no directory on the way is out of sync
+-- the fileset whose paths are the rows of a set, wherever no directory on the way is out of sync
 pub record Names (files : Bitfiles) (slot : FilesetSlot) : Type 0 where
   pub paths : (path : Path) → IsShown slot path
       → get slot.tree.paths path ≡ option_map (λ led. number_of led.0) (led_to files path)

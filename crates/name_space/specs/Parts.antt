@@ -19,7 +19,7 @@ abbrev pub node_in : List TaggedNode → Tag → Option TaggedNode
 node_in [] tag = None
 node_in (one ∷ more) tag = if same_tag one.tag tag then Some one else node_in more tag
 
--- the node of a tag; where there is none, an empty one of that kind
+-- the node of a tag; if there is none, an empty one of that kind
 abbrev pub node_for : List TaggedNode → Tag → Kind → Node
 node_for nodes tag of = option_map_or (λ (one : TaggedNode). one.node) (node_in nodes tag) (new_node of 0 0)
 

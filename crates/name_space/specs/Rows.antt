@@ -36,8 +36,8 @@ pub record AreAllThere (files : Bitfiles) : Type 0 where
 abbrev pub IsBeside : Bitfiles → Tag → Type 0
 IsBeside files tag = (path : Path) → ¬ led_to files path ≡ Some (tag, Directory)
 
--- so many rows lead to what a tag names: none but one to a directory, and as many as links to a
--- file, where no directory is missing; where one is, fewer may be found
+-- how many rows lead to what a tag names: no more than one to a directory, and to a file as many as
+-- its links, if no directory is missing; if one is, fewer may be found
 abbrev pub IsCounted : Bitfiles → Option Bitfile → ℕ → Type 0
 IsCounted files None count = count ≤ max_links
 IsCounted files (Some file) count = (file.links ≤ max_links) × (1 ≤ file.links)
@@ -60,7 +60,7 @@ pub record AreFilesetRows (files : Bitfiles) : Type 0 where
       → row_of files b ≡ Some (tag, of) → a ≡ b
   pub counted : (tag : Tag) → (names : List NameIn) × AreNamesOf files tag names
       × IsCounted files (files tag) (length names)
-  -- no directory is beside the root, where none is missing
+  -- no directory is beside the root, if none is missing
   pub reached : AreAllThere files → (tag : Tag) → IsDirectory files tag → ¬ IsBeside files tag
 
 -- nothing is missing, as in an original

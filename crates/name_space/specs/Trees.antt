@@ -40,13 +40,14 @@ hidden_below path number = path ++ to_be_bytes w64 number ∷ []
 abbrev pub IsMissing : Bitfiles → Path → Type 0
 IsMissing files path = (tag : Tag) × (led_to files path ≡ Some (tag, Directory)) × (files tag ≡ None)
 
--- a path leads to a tag; or it is one of so many below another, for a file that the set has
+-- a path leads to a tag; or it is one of a number of paths below another, for a file that the set
+-- has
 abbrev pub IsWay : Bitfiles → Path → ℕ → Path → Tag → Kind → Type 0
 IsWay files below count path tag of = (led_to files path ≡ Some (tag, of))
     ⊎ ((of ≡ File) × IsSome (files tag) × (number : ℕ) × (number < count)
     × (path ≡ hidden_below below number))
 
--- the paths of a set, so many more below one of them, and the nodes to which they lead
+-- the paths of a set, a number of others below one of them, and the nodes to which they lead
 pub record IsTreeOf (files : Bitfiles) (nodes : List TaggedNode) (below : Path) (count : ℕ)
     (tree : Fileset) : Type 0 where
   pub paths : (path : Path) (tag : Tag) (of : Kind) → led_to files path ≡ Some (tag, of)
@@ -104,7 +105,7 @@ pub record Hides (files : Bitfiles) (nodes : List TaggedNode) (below : Path) (on
   pub has : HasItsPaths files new one
   pub kept : KeepsPaths files nodes old new
 
--- all nodes have their paths, of which so many are below a directory that is missing
+-- all nodes have their paths, a number of which are below a directory that is missing
 pub record IsFullTree (files : Bitfiles) (nodes : List TaggedNode) (tree : Fileset) : Type 0 where
   pub below : Path
   pub count : ℕ

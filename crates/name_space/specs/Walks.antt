@@ -10,17 +10,17 @@ use Rattle.plain_program.specs.fileset_model.declared.fileset.FilesetSlot.{Files
 use Rattle.plain_program.specs.fileset_values.declared.reply.Refusal.{Refusal}
 use Rattle.name_space.specs.Names.{led_to}
 
--- the first names of a path, so many, lead to a directory that the set has
+-- the first `count` names of a path lead to a directory that the set has
 pub record IsWayTo (files : Bitfiles) (path : Path) (count : ℕ) (dir : Tag) : Type 0 where
   pub led : led_to files (take count path) ≡ Some (dir, Directory)
   pub there : IsDirectory files dir
 
--- none of the directories of the first names refuses a look, up to that of so many names
+-- none of the directories of the first names refuses a look, up to that of `count` names
 abbrev pub IsClear : FilesetSlot → Path → ℕ → Type 0
 IsClear slot path count =
     (before : ℕ) → before ≤ count → directory_refusal slot (take before path) ≡ None
 
--- the directory of so many names of a path, or what keeps from looking names up in it
+-- the directory of the first `count` names of a path, or what keeps from looking names up in it
 abbrev pub IsAtDirectory : Bitfiles → FilesetSlot → Path → ℕ → Result Tag Refusal → Type 0
 IsAtDirectory files slot path count (Ok dir) =
     (directory_refusal slot (take count path) ≡ None) × IsWayTo files path count dir

@@ -68,7 +68,7 @@ fn push_below(answers: &mut String, lines: &str) -> Result<(), Fail> {
     Ok(())
 }
 
-/// Adds a line and its answer, which stands below it where it has lines of its own.
+/// Adds a line and its answer, which stands below it if it has lines of its own.
 pub fn push_answer(answers: &mut String, line: &str, answer: &str) -> Result<(), Fail> {
     answers.push_str(line)?;
     if answer.contains('\n') {

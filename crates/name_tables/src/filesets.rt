@@ -61,7 +61,7 @@ fn root_rows(alloc: Global) -> Result<Vec<DirectoryRows>, OutOfMemory>
     Ok(all)
 }
 
-/// The root, and a file of so many links.
+/// The root, and a file of `links` links.
 fn root_and_file(alloc: Global, links: u32) -> Result<Vec<TaggedNode>, OutOfMemory> {
     let mut nodes = Vec::new(alloc);
     nodes.push(directory(1))?;

@@ -37,7 +37,7 @@ fn push_looks(looks: [[u32; 2]; 2], out: &mut String) -> Result<(), OutOfMemory>
     )
 }
 
-/// Adds lines that make so many directories in one another.
+/// Adds lines that make `count` directories, each in the one before.
 fn push_nesting(count: u32, path: &mut String, lines: &mut String) -> Result<(), OutOfMemory> {
     for _ in 0..count {
         path.push_str("/d")?;
@@ -74,8 +74,8 @@ fn push_looked(alloc: Global, lines: &str, out: &mut String) -> Result<(), Fail>
     push_looks_in(&mut set, alloc, lines, &mut String::new(alloc), out)
 }
 
-/// Says what is looked at along the path of the last of so many directories that stand in one
-/// another.
+/// Says what is looked at along the path of the last of a number of directories, each in the
+/// one before.
 pub fn looked_along(alloc: Global, line: &str, out: &mut String) -> Result<(), Fail> {
     let count = number_of(line).ok_or("a number")?;
     let mut lines = String::new(alloc);

@@ -95,7 +95,7 @@ fn plain_command(alloc: Global, line: &str) -> Result<Command, Fail> {
     command_of(verb, place, to)
 }
 
-/// The command of a line: a verb, a path, and a second path where it has one.
+/// The command of a line: a verb, a path, and a second path if it has one.
 pub fn command(alloc: Global, line: &str) -> Result<Command, Fail> {
     let mut text = String::new(alloc);
     push_spelled(&mut text, line)?;
@@ -132,7 +132,7 @@ fn push_listed(list: &NameList, out: &mut String) -> Result<(), Fail> {
     Ok(())
 }
 
-/// Says a reply, where nothing was said before.
+/// Says a reply, if nothing was said before.
 pub fn push_reply(reply: &Reply, out: &mut String) -> Result<(), Fail> {
     match reply {
         Reply::Done => Ok(out.push_str("ok")?),

@@ -12,8 +12,8 @@ use std::test::Fail;
 /// The tag of the root.
 pub const ROOT: Tag = Tag { slot: 1, seq: 1 };
 
-/// The root directory alone, of user 0 and group 0, on a volume of 1,024 pages. A fail where the
-/// first tag is another one.
+/// The root directory alone, of user 0 and group 0, on a volume of 1,024 pages. Fails if the
+/// first tag is another.
 pub fn root_alone(alloc: Global) -> Result<StoredBitfiles<MemoryPages>, Fail>
     ensures { IfOk result (λ set.
         HasOriginal (⟦<StoredBitfiles<MemoryPages> as BitfileSet>⟧.files set)) }

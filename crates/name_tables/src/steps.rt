@@ -32,7 +32,7 @@ pub fn is_good(path: &Path) -> bool
     }
 }
 
-/// The reply where a call failed: a refusal, or else none.
+/// The reply if a call failed: a refusal, or else none.
 fn refused(fault: NameFault) -> Result<Reply, StoreFault>
     ensures { OnOk result (IsRefusal fault) }
 {

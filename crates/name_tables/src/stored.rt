@@ -127,8 +127,7 @@ fn push_parent(
     }
 }
 
-/// Says in which directory a new one says that it stands, of which this is said of two others, one
-/// after the other.
+/// Says the parent of a new directory, set to two others in turn.
 pub fn last_parent(alloc: Global, line: &str, out: &mut String) -> Result<(), Fail> {
     let (first, second) = line.split_once(' ').ok_or("two tags")?;
     let (first, second) = (tag_of(first)?, tag_of(second)?);

@@ -22,7 +22,7 @@ pub record IsFirstRead (pages : Pages) (links : CellLinks) (number : ℕ) (at : 
   pub used : IsInUse links at
   pub alone : ¬ IsLedTo links at
 
--- where what is being removed in a slot names quota cells, their first is read so
+-- if what is being removed in a slot names quota cells, their first is read so
 abbrev pub NamesFirst : Pages → CellLinks → Table → ℕ → Type 0
 NamesFirst pages links table number = (at : CellAt) → IsRemoved (slice_get table.slots number)
     → option_and_then quota_of (slice_get table.slots number) ≡ Some at

@@ -33,7 +33,7 @@ abbrev pub AreOnce : List Entry → Type 0
 AreOnce entries = (i j : ℕ) (e : Entry) → i < length entries → j < length entries
     → (get_or entries i e).at ≡ (get_or entries j e).at → i ≡ j
 
--- it is the entry of a file of which something is left to be done
+-- it is the entry of a file for which something is left to be done
 pub record IsLeftAt (pages : Pages) (at : CellAt) (entry : Entry) : Type 0 where
   pub same : entry.at ≡ at
   pub alone : entry.clone ≡ None

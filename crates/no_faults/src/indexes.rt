@@ -15,7 +15,7 @@ ghost use Rattle.domain_memory.specs.standing_laws.IndexCalls.{KeepsTables, Name
 ghost use Rattle.domain_memory.specs.standing_laws.Leads.{StandsBelow};
 ghost use Rattle.domain_memory.specs.standing_laws.Sound.{StandsSound};
 
-/// A well-formed page is put in place of a page of a directory's index.
+/// A domain stays sound if a well-formed page is put in place of a page of a directory's index.
 pub fn soundness_stays_where_an_index_page_is_written()
     ensures { (number : ℕ) (tag : Tag) (start : CellAt) (d now : DomainNow) (chains : Chains)
         (files : Files) (indexes : IndexesAt) (page : ℕ) (bytes : List ℕ)
@@ -26,7 +26,8 @@ pub fn soundness_stays_where_an_index_page_is_written()
         → StandsSound now (with_said start (says_index (Some writes.says.index)) files) indexes }
 {}
 
-/// A well-formed page is put into the index, on a page that was free.
+/// A domain stays sound if a well-formed page is put into the index of a directory, on a page that
+/// was free.
 pub fn soundness_stays_where_an_index_page_is_put_in()
     ensures { (number : ℕ) (tag : Tag) (start : CellAt) (d now : DomainNow) (chains : Chains)
         (files : Files) (indexes : IndexesAt) (place prefer : ℕ) (bytes : List ℕ)
@@ -38,7 +39,8 @@ pub fn soundness_stays_where_an_index_page_is_put_in()
         (with_index_at start (insert (indexes start) place adds.home) indexes) }
 {}
 
-/// A file or directory is taken away with its index, whatever the list then is.
+/// A domain stays sound if a file or directory is taken away with its index, whatever the list then
+/// is.
 pub fn soundness_stays_where_a_file_goes_with_its_index()
     ensures { (number : ℕ) (tag : Tag) (start : CellAt) (d now : DomainNow) (chains : Chains)
         (files : Files) (indexes : IndexesAt) (group : ℕ) (listed : Listing)

@@ -1,5 +1,5 @@
-//! Laws by which a domain that stands breaks no rule of pages, and keeps to what rules ask of
-//! calls and changes; and what is still to be let go of in a domain that was read.
+//! Laws: a domain that stands breaks no rule of pages, and keeps what the rules ask through calls
+//! and changes. Also what is still to be let go of in a domain that was read.
 #![tactic(auto)]
 
 mod calls;

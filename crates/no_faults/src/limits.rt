@@ -7,8 +7,8 @@ ghost use Rattle.domain_memory.specs.standing_laws.Leads.{StandsBelow};
 ghost use Rattle.domain_memory.specs.standing_laws.SetsQuota.{SetsQuota};
 ghost use Rattle.domain_memory.specs.standing_laws.Sound.{StandsSound};
 
-/// An owner's limits are set: a page that a table of cells gets is a member's, and only quota cells
-/// change.
+/// A domain stays sound if an owner's limits are set: a page that a table of cells gets is a
+/// member's, and only quota cells change.
 pub fn soundness_stays_where_limits_are_set()
     ensures { (number : ℕ) (d now : DomainNow) (files files_now : Files) (indexes : IndexesAt)
         → StandsBelow d files indexes → StandsSound d files indexes

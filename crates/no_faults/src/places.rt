@@ -15,28 +15,29 @@ ghost use Rattle.domain_memory.specs.standing_laws.NewFileset.{JoinsEmpty};
 ghost use Rattle.domain_memory.specs.standing_laws.OtherPages.{KeepsPlaces, KeepsWhere};
 ghost use Rattle.domain_memory.specs.standing_laws.Sound.{StandsSound};
 
-/// Pages of files and of bitmaps change, and those that are held for nothing.
+/// A domain stays sound if only pages of files, pages of bitmaps and pages that are held for
+/// nothing change.
 pub fn soundness_stays_where_other_pages_change()
     ensures { (d now : DomainNow) (files : Files) (indexes : IndexesAt)
         → StandsSound d files indexes → KeepsPlaces d now → KeepsWhere d now files indexes
         → StandsSound now files indexes }
 {}
 
-/// An original joins the table: the first page of its tag directory is a member's.
+/// A domain stays sound if an original joins the table whose first tag page is a member's.
 pub fn soundness_stays_where_a_fileset_begins()
     ensures { (number : ℕ) (entry : FilesetEntry) (d now : DomainNow) (files : Files)
         (indexes : IndexesAt) → StandsBelow d files indexes → StandsSound d files indexes
         → JoinsEmpty number entry d now → StandsSound now files indexes }
 {}
 
-/// The removal of an original begins.
+/// A domain stays sound if the removal of an original begins.
 pub fn soundness_stays_where_a_fileset_begins_to_go()
     ensures { (number : ℕ) (entry : FilesetEntry) (d now : DomainNow) (files : Files)
         (indexes : IndexesAt) → StandsBelow d files indexes → StandsSound d files indexes
         → BeginsToGo number entry d now → StandsSound now files indexes }
 {}
 
-/// The limits of a whole fileset are set.
+/// A domain stays sound if the limits of a whole fileset are set.
 pub fn soundness_stays_where_a_fileset_is_bounded()
     ensures { (number : ℕ) (entry : FilesetEntry) (limits : Limits) (d now : DomainNow)
         (files : Files) (indexes : IndexesAt) → StandsBelow d files indexes
@@ -44,7 +45,7 @@ pub fn soundness_stays_where_a_fileset_is_bounded()
         → StandsSound now files indexes }
 {}
 
-/// Free space and free cells are kept as they are.
+/// A domain stays sound if its free space and its free cells are kept as they are.
 pub fn soundness_stays_where_a_domain_is_kept()
     ensures { (d : DomainNow) (files : Files) (indexes : IndexesAt) (space : Spaces)
         (cells : Cells) → StandsSound d files indexes
@@ -52,7 +53,8 @@ pub fn soundness_stays_where_a_domain_is_kept()
         → StandsSound (record d { space = space; cells = cells }) files indexes }
 {}
 
-/// The list of what is to be let go of changes, as after a call that drops a file.
+/// A domain stays sound if the list of what is to be let go of changes, as after a call that drops
+/// a file.
 pub fn soundness_stays_where_the_list_changes()
     ensures { (d : DomainNow) (files : Files) (indexes : IndexesAt) (listed : Listing)
         → StandsSound d files indexes

@@ -57,7 +57,7 @@ changes_nothing home cache width none = rw none (record {
 })
 
 module _ (home : Home) (frame : Option Frame) (first next last : PageCache) where
-  -- a change behind one of none
+  -- a change after one of none
   pub after_same : KeepsAll first next → Changes home frame next last → Changes home frame first last
   after_same same changes = record {
     frames = changes.frames ∙ ap (with_frame home frame) same.frames;

@@ -262,7 +262,7 @@ module _ (before : Entries) (e : ℕ × Frame) (distinct : IsDistinct nat_eq (ke
         kept = omega (arith, one_more);
       }
 
--- a dirty one at the end is one more behind the last clean one
+-- a dirty one at the end is one more after the last clean one
 behind_push : (before : Entries) (e : ℕ × Frame) → is_clean (Some e.1) ≡ false → 0 < length (clean_in before) → behind (before ++ e ∷ []) ≡ behind before + 1
 behind_push [] e dirty some = absurd (omega (arith, some))
 behind_push (x ∷ before) e dirty some =
@@ -277,7 +277,7 @@ behind_push (x ∷ before) e dirty some =
       ])
     ]) refl)
 
--- where one is clean, fewer are behind it than there are
+-- if one is clean, fewer come after it than there are
 pub fewer_behind : (entries : Entries) → 0 < length (clean_in entries) → behind entries < length entries
 fewer_behind [] some = absurd (omega (arith, some))
 fewer_behind (e ∷ entries) some =
@@ -383,7 +383,7 @@ module _ (number : ℕ) (frame : Frame) (old new : Entries) (clean : frame.waits
   pub displaced_parts : Displaces number frame old new → length (clean_in new) + length old ≡ length (clean_in old) + length new
   displaced_parts displaces = omega (arith, displaces.clean, displaces.kept, ap one_if (clean_waits_not frame clean))
 
--- ---- the only clean one, behind all others
+-- ---- the only clean one, after all others
 
 frame_behind : (entries : Entries) (e : ℕ × Frame) (q : ℕ) → frame_at (entries ++ e ∷ []) q ≡ (if is_some (frame_at entries q) then frame_at entries q else if nat_eq q e.0 then Some e.1 else None)
 frame_behind [] e q = refl
@@ -441,7 +441,7 @@ module _ (number : ℕ) (entries : Entries) (distinct : IsDistinct nat_eq (keys_
         kept = omega (arith, len_remove number entries, length-append (remove_entry (nat_eq number) entries) ((number, its_frame.0) ∷ []), ap (λ (f : Option Frame). one_for f) its_frame.1);
       }
 
-  -- the only clean one is put behind all others
+  -- the only clean one is put after all others
   pub demoted_keeps : KeepsOrder entries (demoted (nat_eq number) entries)
   unfolding behind_all
   demoted_keeps = subst (KeepsOrder entries) (sym (ap (λ o. option_map_or (λ (e : ℕ × Frame). remove_entry (nat_eq number) entries ++ e ∷ []) o entries) (entry_there number entries its_frame.0 its_frame.1))) behind_keeps

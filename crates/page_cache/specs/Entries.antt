@@ -50,12 +50,12 @@ pub record KeepsOrder (old new : Entries) : Type 0 where
   pub order : clean_in new ≡ clean_in old
   pub kept : length new ≡ length old
 
--- the number of the last entry, where that is dirty
+-- the number of the last entry, if that is dirty
 abbrev pub last_dirty : Entries → Option ℕ
 last_dirty entries =
     option_and_then (λ e. if is_clean (Some e.1) then None else Some e.0) (last_entry entries)
 
--- how many dirty ones stand behind the last clean one
+-- how many dirty ones stand after the last clean one
 abbrev pub behind : Entries → ℕ
 behind [] = 0
 behind (e ∷ entries) =

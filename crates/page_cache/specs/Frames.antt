@@ -13,11 +13,11 @@ Frames = Home → Option Frame
 abbrev pub no_frames : Frames
 no_frames home = None
 
--- the same with this frame, or none, at the home
+-- the frames with this frame, or none, at the home
 abbrev pub with_frame : Home → Option Frame → Frames → Frames
 with_frame home frame frames = λ h. if same_home h home then frame else frames h
 
--- the same with none at the home of this number
+-- the frames with none at the home of this number
 abbrev pub without_number : ℕ → Frames → Frames
 without_number number frames = λ h. if number == number_of h then None else frames h
 
@@ -25,7 +25,7 @@ without_number number frames = λ h. if number == number_of h then None else fra
 abbrev pub group_of : Option Frame → Option ℕ
 group_of frame = option_and_then (λ (f : Frame). f.waits) frame
 
--- the same, at each home that has a dirty frame
+-- the group of the dirty frame at each home, if it has one
 abbrev pub groups : Frames → Home → Option ℕ
 groups frames home = group_of (frames home)
 

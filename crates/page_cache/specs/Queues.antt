@@ -6,7 +6,7 @@ use Rattle.page_store.specs.sorted_sets.Homes.{number_of}
 use Rattle.page_store.specs.sorted_sets.Rising.{value_at}
 use Rattle.page_cache.specs.Entries.{Entries, clean_in, groups_in, one_for}
 
--- the place of a home's number behind those of older groups
+-- the place of a home's number after those of older groups
 abbrev pub place_at : ℕ → ℕ → ℕ
 place_at group number = group * 2 ^ 64 + number
 
@@ -32,7 +32,7 @@ Enters old new home group =
 abbrev pub Groups : Type 0
 Groups = ℕ → Option ℕ
 
--- the same with this group, or none, for a number
+-- the groups with this group, or none, for a number
 abbrev pub with_group : ℕ → Option ℕ → Groups → Groups
 with_group number group groups q = if number == q then group else groups q
 
@@ -51,8 +51,7 @@ pub record Moves (home : Home) (old new : Option ℕ) (queue moved : List (ℕ �
   pub lens : (groups : Groups) → IsQueueOf groups queue → groups (number_of home) ≡ old
       → moved_len + one_for old ≡ len + one_for new
 
--- the queue is that of these frames, each of which is clean or dirty, and it has room for more than
--- 1,024
+-- the queue is that of these frames, each clean or dirty, and it has room for more than 1,024
 pub record IsSound (entries : Entries) (queue : List (ℕ × Home)) (len room : ℕ) : Type 0 where
   pub queued : IsQueueOf (groups_in entries) queue
   pub parts : length (clean_in entries) + len ≡ length entries

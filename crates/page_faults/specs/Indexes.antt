@@ -17,7 +17,7 @@ pub record AreIndexes (pages : Pages) (frame : Frame) (indexes : List IndexAt) :
   pub once : (j k : ℕ) (one other : IndexAt) → slice_get indexes j ≡ Some one
       → slice_get indexes k ≡ Some other → one.at ≡ other.at → j ≡ k
 
--- the index that the cell at a place names was put behind others, or it names none
+-- the index that the cell at a place names was put after others, or it names none
 abbrev pub AddsIndex : Pages → Frame → CellAt → List IndexAt → List IndexAt → Type 0
 AddsIndex pages frame at old new =
     ((first : Home) × HasIndexAt pages frame at first

@@ -11,10 +11,10 @@ use crate::wrong::wrong_runs;
 use std::alloc::Global;
 use tag_faults::{DomainFrame, FilesetTable, HomeSet, MetaPages, OutOfMemory};
 
-/// The pages with a cell that says that a page of its file stands where no member has a page, where
-/// label, anchors, bitmap, log or a table has its page, or where another page of a file is said to
-/// stand, each once and in order. If a rule of cells is broken, nothing is said about them: look
-/// for those faults first. A page on volume 0 does not belong to a member.
+/// The pages with a cell that places a page of its file outside every member, on a page of label,
+/// anchors, bitmap, log or a table, or on the place of another page of a file. Each is there once
+/// and in order. If a rule of cells is broken, nothing is said about them: look for those faults
+/// first. A page on volume 0 does not belong to a member.
 pub fn extent_faults<M: MetaPages>(
     alloc: Global,
     pages: &M,

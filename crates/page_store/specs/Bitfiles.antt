@@ -28,15 +28,15 @@ Bitfiles = Tag → Option Bitfile
 abbrev pub same_tag : Tag → Tag → Bool
 same_tag a b = (a.slot == b.slot) && (a.seq == b.seq)
 
--- the same with this file at the tag
+-- the files with this file at the tag
 abbrev pub with_file : Tag → Bitfile → Bitfiles → Bitfiles
 with_file tag file files = λ t. if same_tag t tag then Some file else files t
 
--- the same with no file at the tag
+-- the files with no file at the tag
 abbrev pub without_file : Tag → Bitfiles → Bitfiles
 without_file tag files = λ t. if same_tag t tag then None else files t
 
--- the same with the tag's file changed; where it names none, the same
+-- the files with the tag's file changed; if it names none, as they were
 abbrev pub with_change : Tag → (Bitfile → Bitfile) → Bitfiles → Bitfiles
 with_change tag change files =
     option_map_or (λ file. with_file tag (change file) files) (files tag) files
@@ -46,7 +46,7 @@ abbrev pub new_file : Kind → ℕ → ℕ → Bitfile
 new_file kind uid gid =
     record { kind = kind; uid = uid; gid = gid; links = 1; pages = []; index = [] }
 
--- the pages with this one at a number: in place of the one there, or behind the last
+-- the pages with this one at a number: in place of the one there, or after the last
 abbrev pub with_entry : ℕ → List ℕ → List (List ℕ) → List (List ℕ)
 with_entry at page pages = take at pages ++ page ∷ drop (at + 1) pages
 
@@ -119,7 +119,7 @@ pub record IsBitfile (file : Bitfile) : Type 0 where
 abbrev pub AreBitfiles : Bitfiles → Type 0
 AreBitfiles files = (tag : Tag) → IfSome (files tag) IsBitfile
 
--- what a count of misses tells of a fault: it rose where no page was free
+-- what a count of misses tells of a fault: it rose if no page was free
 abbrev pub IsCounted : ℕ → ℕ → StoreFault → Type 0
 IsCounted old new NoPage = HasRisen old new
 IsCounted old new OutOfMemory = Unit {0}

@@ -16,11 +16,11 @@ same_home a b = (a.vol == b.vol) && (a.page == b.page)
 abbrev pub no_pages : Pages
 no_pages home = None
 
--- the same with this page at the home
+-- the pages with this page at the home
 abbrev pub with_page : Home → List ℕ → Pages → Pages
 with_page home page pages = λ h. if same_home h home then Some page else pages h
 
--- the same with no page at the home
+-- the pages with no page at the home
 abbrev pub without_page : Home → Pages → Pages
 without_page home pages = λ h. if same_home h home then None else pages h
 

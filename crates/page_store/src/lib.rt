@@ -1,6 +1,6 @@
-//! Where the layers between the volumes and the commands keep what they work on, as traits that a
-//! domain and a map in memory both meet: pages of metadata by their homes, and files and
-//! directories by their tags; and the maps in memory.
+//! Traits for what the layers between the volumes and the commands work on: pages of metadata by
+//! their homes, and files and directories by their tags. A domain and a map in memory both
+//! implement them. The maps in memory are here too.
 #![tactic(auto)]
 
 mod bitfile_set;

@@ -10,7 +10,7 @@ use Rattle.page_ways.specs.Walk.{AreRead, EndsThere, IsOnWay, IsReadable, StopsA
 some_same : {X : Type 0} (a b : X) → Some a ≡ Some b → a ≡ b
 some_same a b e = cc
 
--- ---- places of a list with one more behind it
+-- ---- places of a list with one more after it
 
 get_before : (done rest : List Home) (k : ℕ) (q : Home) → slice_get done k ≡ Some q → slice_get (done ++ rest) k ≡ Some q
 get_before [] rest k q is = let e : None ≡ Some q = is in absurd (cc)
@@ -22,7 +22,7 @@ get_end [] x = refl
 get_end (y ∷ ys) x = get_end ys x
 
 module _ (pages : Pages) (frame : Frame) (way : Way) where
-  -- the page that is come to behind so many is one alone
+  -- the page that is come to after this number of others is one alone
   come_once : (passed : List Home) (home : Home) → Reaches pages frame way passed home → (other : List Home) (onto : Home) → Reaches pages frame way other onto → length passed ≡ length other → (passed ≡ other) × (home ≡ onto)
   come_once passed home reached = elim reached as (λ passed home reached. (other : List Home) (onto : Home) → Reaches pages frame way other onto → length passed ≡ length other → (passed ≡ other) × (home ≡ onto)) [
     | begins ↦ λ other onto also same. elim also as (λ other onto also. length {A = Home} [] ≡ length other → ([] ≡ other) × (way.first ≡ onto)) [
@@ -39,7 +39,7 @@ module _ (pages : Pages) (frame : Frame) (way : Way) where
         ] same
   ]
 
-  -- the page behind so many of a list is one that is read
+  -- the page after this number of others in a list is one that is read
   record ReadAt (homes : List Home) (k : ℕ) : Type 0 where
     before : List Home
     at : Home

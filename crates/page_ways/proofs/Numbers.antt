@@ -12,7 +12,7 @@ use Rattle.page_ways.specs.Walk.{AreNumbers}
 abbrev Numbers : Type 0
 Numbers = List (ℕ × Unit {0})
 
--- ---- a list of homes with one more behind it
+-- ---- a list of homes with one more after it
 
 in_front : (homes : List Home) (home at : Home) → Contains homes at → Contains (homes ++ home ∷ []) at
 in_front [] home at (k, within, is) = absurd (omega (arith, within))
@@ -32,7 +32,7 @@ either (x ∷ xs) home at (suc k, within, is) =
 
 -- ---- numbers that rise
 
--- an entry has at least the number of those in front of it
+-- an entry has at least the number of those before it
 at_least : (es : Numbers) → IsRising es → (i : ℕ) (d : ℕ × Unit {0}) → i < length es → i ≤ (get_or es i d).0
 at_least es rising zero d within = omega arith
 at_least es rising (suc i) d within = omega (arith, at_least es rising i d (omega (arith, within)), rising i (suc i) d (omega arith) within)
@@ -63,7 +63,7 @@ no_numbers = record {
     by_width home true none = absurd (false≢true none)
     by_width home false none = absurd (false≢true none)
 
--- the number of a home is among them exactly where the home is
+-- the number of a home is among them if and only if the home is
 pub found_by_number : (homes : List Home) (numbers : Numbers) → AreNumbers homes numbers → (home : Home) → home.page < 2 ^ 32
     → (IsSome (value_at numbers (number_of home)) → Contains homes home) × (Contains homes home → IsSome (value_at numbers (number_of home)))
 found_by_number homes numbers are home fits =

@@ -15,7 +15,7 @@ pub record AreRead (pages : Pages) (frame : Frame) (way : Way) (homes : List Hom
       ↔ ((page : List ℕ) × IsRead pages frame way place home page)
   pub wrong : (home : Home) → (unread ≡ Some home) ↔ IsUnread pages frame way home
 
--- the page at a home may be read behind those that were passed
+-- the page at a home may be read after those that were passed
 pub record IsReadable (pages : Pages) (frame : Frame) (way : Way) (passed : List Home) (home : Home)
     (page : List ℕ) : Type 0 where
   pub may : MayBe frame home
@@ -33,7 +33,7 @@ pub record EndsThere (pages : Pages) (frame : Frame) (way : Way) (homes : List H
   pub readable : IsReadable pages frame way passed last page
   pub ends : way.next last page ≡ None
 
--- behind the pages that were read another one is come to, which cannot be read
+-- after the pages that were read another one is come to, which cannot be read
 pub record StopsAt (pages : Pages) (frame : Frame) (way : Way) (homes : List Home) (home : Home)
     : Type 0 where
   pub reached : Reaches pages frame way homes home

@@ -29,7 +29,7 @@ AreInRuns numbers runs = All (λ q. Any (IsInRun q) runs) numbers
 pub refuted : {P Q : Type 0} (b : Bool) → b ≡ false → (IsTrue b ↔ P) → (Q → P) → IsTrue false ↔ Q
 refuted b fails tests needs = (λ never. absurd (cc), λ q. let t : IsTrue b = tests.1 (needs q) in absurd (cc))
 
--- what is left of the runs behind a place
+-- what is left of the runs after a place
 rest_at : (runs : List ExtentItem) (n k : ℕ) (d : ExtentItem) → get_or (take (length runs - n) (drop n runs)) k d ≡ get_or runs (n + k) d
 rest_at runs n k d = ap (λ (l : List ExtentItem). get_or l k d) (take_rest runs n) ∙ get_or-drop n runs k d
 

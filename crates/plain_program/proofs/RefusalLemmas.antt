@@ -1,4 +1,4 @@
--- What stops some checks stops more checks behind them.
+-- What stops some checks stops more checks after them.
 use Rattle.std.proofs.Common.{◌≡◌, List, [], ◌∷◌, ◌++◌, Option, Some, None}
 use Rattle.legal_histories.specs.fileset_model.Paths.{first_refusal}
 use Rattle.legal_histories.specs.fileset_values.declared.reply.Refusal.{Refusal}

@@ -9,7 +9,7 @@ use Rattle.plain_program.specs.Stops.{StopsFor}
 use Rattle.plain_program.specs.declared.stop.Stop.{Stop}
 use Rattle.plain_program.specs.declared.stop.Stop.TheVariants.{Refused, OutOfMemory}
 
--- what is left of the walk from the directory of so many names on
+-- what is left of the walk from the directory of `count` names on
 abbrev pub rest_of_walk : FilesetSlot → Path → ℕ → Option Refusal
 rest_of_walk slot path count = first_refusal (map (directory_refusal slot) (map (λ k. take k path) (range_with_len count (length path - count))))
 
@@ -25,7 +25,7 @@ stops_at_first : (refusal : Option Refusal) (more : List (Option Refusal)) (stop
 stops_at_first refusal more (Refused why) is = ap (λ o. first_refusal (o ∷ more)) is
 stops_at_first refusal more OutOfMemory is = tt
 
--- what stops at a directory on the way stops the walk, where the directories in front of it are passed
+-- what stops at a directory on the way stops the walk, if the directories before it are passed
 pub stops_on_walk : (slot : FilesetSlot) (path : Path) (count : ℕ) (stop : Stop) → count < length path → rest_of_walk slot path count ≡ walk_refusal slot path
     → StopsFor (directory_refusal slot (take count path)) stop → StopsFor (walk_refusal slot path) stop
 stops_on_walk slot path count stop within passed here =

@@ -25,7 +25,7 @@ pub record HasVolumes (s : State) (sizes : List ℕ) (lines : List VolumeItem) :
   pub rack : s.rack ≡ rack_of sizes
   pub members : s.members ≡ members_of lines
 
--- a line whose used and free pages make up its pages, and that is marked where the log is on its
+-- a line whose used and free pages make up its pages, and that is marked if the log is on its
 -- volume
 abbrev pub AddsUp : ℕ → VolumeItem → Type 0
 AddsUp log_volume line =

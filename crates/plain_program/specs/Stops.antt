@@ -1,4 +1,4 @@
--- What the checks of a command answer, and what a command answers behind them.
+-- What the checks of a command answer, and what a command answers after them.
 use Rattle.std.specs.Prelude.{◌≡◌, MatchResult, Option, Result, Some, None}
 use Rattle.legal_histories.specs.fileset_model.Apply.{Answers, refusal_of}
 use Rattle.legal_histories.specs.fileset_model.Filesets.{FilesetMap}
@@ -8,7 +8,7 @@ use Rattle.legal_histories.specs.fileset_values.declared.reply.Reply.{Reply}
 use Rattle.plain_program.specs.declared.stop.Stop.{Stop}
 use Rattle.plain_program.specs.declared.stop.Stop.TheVariants.{Refused, OutOfMemory}
 
--- a check that takes no memory passes where nothing is refused, and else answers the refusal
+-- a check that takes no memory passes if nothing is refused, and else answers the refusal
 abbrev pub Refuses : {T : Type 0} → Option Refusal → Result T Refusal → Type 0
 Refuses refusal result = MatchResult result (λ _. refusal ≡ None) (λ why. refusal ≡ Some why)
 
@@ -17,7 +17,7 @@ abbrev pub StopsFor : Option Refusal → Stop → Type 0
 StopsFor refusal (Refused why) = refusal ≡ Some why
 StopsFor refusal OutOfMemory = Unit {0}
 
--- a check that takes memory passes where nothing is refused, and else stops for the refusal
+-- a check that takes memory passes if nothing is refused, and else stops for the refusal
 abbrev pub Checks : {T : Type 0} → Option Refusal → Result T Stop → Type 0
 Checks refusal result = MatchResult result (λ _. refusal ≡ None) (StopsFor refusal)
 

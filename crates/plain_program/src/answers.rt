@@ -8,8 +8,8 @@ use legal_histories::{Command, Filesets, Refusal, Reply};
 use std::alloc::Global;
 
 /// Answers a command and changes the filesets as it says. After a refusal, including out-of-memory,
-/// the filesets are as before. A command on volumes, of which the filesets know nothing, is
-/// answered as out of memory.
+/// the filesets are as before. A command on volumes, about which filesets know nothing, is answered
+/// as out of memory.
 pub fn apply(alloc: Global, filesets: &mut Filesets, command: &Command) -> Reply
     ensures { AnswersIfMemory filesets.old command.now result filesets.new }
 {

@@ -1,5 +1,5 @@
 //! What the plain programs answer, in tables of text. Standard input has commands of clients over
-//! filesets, of which there are none at first, and commands on volumes over lists of members; each
+//! filesets, none at first, and commands on volumes over lists of members; each
 //! is printed with its reply. The first word of a line tells what the line means: see `sheet`.
 #![tactic(auto)]
 

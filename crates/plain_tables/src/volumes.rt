@@ -36,7 +36,7 @@ fn reply_with(refusal: Option<Refusal>) -> Reply {
     }
 }
 
-/// The line in a history of the mover's command, where these members and the pages of the rack's
+/// The line in a history of the mover's command, if these members and the pages of the rack's
 /// volumes answer it.
 pub fn answered(
     alloc: Global,

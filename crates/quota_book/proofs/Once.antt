@@ -57,7 +57,7 @@ once_push (x ∷ xs) e once unsaid =
     let parts = unsaid_head x xs e unsaid in
     (all_push x xs e once.0 parts.0, once_push xs e once.1 parts.1)
 
--- the owners that were noted so far are those of which something is said
+-- the owners that were noted so far are those about which something is said
 pub record NotedSo (said : Said) (seen : Seen) : Type 0 where
   pub once : AreOnce said
   pub noted : (who : Owner) → was_seen seen who ≡ is_said who said

@@ -71,7 +71,7 @@ listed_before (x ∷ xs) who q apart is = by_test (same_owner q x) is (λ later.
     by_test true is rest = refl
     by_test false is rest = rest is
 
--- accounts of which the last one on the list is settled
+-- accounts, the last one on the list settled
 pub accounts_settled : (side : Side) (old new : Accounts) (listed changed : List Owner) (who : Owner) → AreAccounts old listed → listed ≡ changed ++ who ∷ [] → SettlesOne side who old new
     → IsTrue (is_sorted owner_cmp new) → AreAccounts new changed
 accounts_settled side old new listed changed who are is settles sorted = record {

@@ -39,7 +39,7 @@ unlinked_same tree path number book other at more has =
     ∙ ap (λ b. record tree { paths = map.remove tree.paths path; nodes = if b then tree.nodes else map.remove tree.nodes number }) more in
     subst (IsBookOf book) (sym is) (same_sums tree (record tree { paths = map.remove tree.paths path }) book refl (sym (root_left tree.paths path other)) refl has)
 
--- a path becomes the root's exactly where it was
+-- a path becomes the root's if and only if it was
 same_end : (from to path : Path) → ¬ from ≡ [] → ¬ to ≡ [] → eq_by_cmp path_cmp [] (moved_path from to path) ≡ eq_by_cmp path_cmp [] path
 same_end [] to path some other = absurd (some refl)
 same_end (f ∷ fs) [] path some other = absurd (other refl)

@@ -74,7 +74,7 @@ books_of accounts = record { book = book_on Now accounts; kept = book_on Kept ac
 abbrev pub is_listed : List Owner → Owner → Bool
 is_listed changed who = list_any (same_owner who) changed
 
--- the list with an owner behind the others, or as it is
+-- the list with an owner after the others, or as it is
 abbrev pub with_owner : Bool → Owner → List Owner → List Owner
 with_owner true who changed = changed ++ who ∷ []
 with_owner false who changed = changed
@@ -92,7 +92,7 @@ pub record AreAccounts (accounts : Accounts) (changed : List Owner) : Type 0 whe
       (λ account. is_same account ≡ false → is_listed changed who ≡ true)
   pub once : length changed + count_same accounts ≤ length accounts
 
--- there is room for so many accounts, and for as many owners on the list
+-- there is room for `many` accounts, and for as many owners on the list
 pub record HaveRoom (many room list_room : ℕ) : Type 0 where
   pub fit : many ≤ room
   pub list_fits : many ≤ list_room
@@ -121,7 +121,7 @@ pub record SettlesOne (side : Side) (who : Owner) (old new : Accounts) : Type 0 
   pub share : share_at side new who ≡ share_at side old who
   pub count : count_same new + length old ≤ count_same old + length new + 1
 
--- so do all accounts
+-- all accounts say one share, which they had on a side
 pub record SettlesAll (side : Side) (old new : Accounts) : Type 0 where
   pub shares : (who : Owner) → share_at side new who ≡ share_at side old who
   pub same : (who : Owner) → ForSome (find owner_cmp who new)

@@ -65,7 +65,7 @@ HasBindingLimits book = (who : Owner) (limits : Limits) → map.get book.limits 
 abbrev pub is_nothing : Usage → Bool
 is_nothing usage = usage.files == 0 && usage.blocks == 0
 
--- what the limits of an owner refuse, of so many more files and blocks
+-- what the limits of an owner refuse, if `files` more files and `blocks` more blocks are asked for
 abbrev pub refusal_in : Book → Owner → ℕ → ℕ → Option Refusal
 refusal_in book who files blocks =
     let limits : Limits = limits_in book who in
@@ -76,39 +76,39 @@ refusal_in book who files blocks =
     (QuotaBlocks limits.blocks usage.blocks blocks)
     ∷ [])
 
--- so much more, and so much less
+-- what an owner uses with `files` more files and `blocks` more blocks
 abbrev pub raised : ℕ → ℕ → Usage → Usage
 raised files blocks usage = record { files = usage.files + files; blocks = usage.blocks + blocks }
 
--- what an owner uses after so many files and blocks less
+-- what an owner uses with `files` fewer files and `blocks` fewer blocks
 abbrev pub lowered : ℕ → ℕ → Usage → Usage
 lowered files blocks usage = record { files = usage.files - files; blocks = usage.blocks - blocks }
 
--- so much more is below 2^64; one usage is within another
+-- a usage with `files` and `blocks` more is below 2^64; one usage is within another
 abbrev pub IsBelow : ℕ → ℕ → Usage → Type 0
 IsBelow files blocks usage = (usage.files + files < 2 ^ 64) × (usage.blocks + blocks < 2 ^ 64)
 
 abbrev pub IsWithin : Usage → Usage → Type 0
 IsWithin part usage = (part.files ≤ usage.files) × (part.blocks ≤ usage.blocks)
 
--- the same of what the user, the group and the fileset use
+-- what the user, the group and the fileset use with `files` and `blocks` more is below 2^64
 pub record FitsAll (uid gid files blocks : ℕ) (uses : Owner → Usage) : Type 0 where
   pub user : IsBelow files blocks (uses (User uid))
   pub group : IsBelow files blocks (uses (Group gid))
   pub all : IsBelow files blocks (uses Fileset)
 
--- the user, the group and the fileset use at least so much
+-- the user, the group and the fileset use at least `files` and `blocks`
 pub record HasAll (uid gid files blocks : ℕ) (uses : Owner → Usage) : Type 0 where
   pub user : IsWithin (record { files = files; blocks = blocks }) (uses (User uid))
   pub group : IsWithin (record { files = files; blocks = blocks }) (uses (Group gid))
   pub all : IsWithin (record { files = files; blocks = blocks }) (uses Fileset)
 
--- each of them uses so much more, or less, and no other owner does
+-- each of them uses `files` and `blocks` more, and no other owner does
 abbrev pub ChargesAll : ℕ → ℕ → ℕ → ℕ → (Owner → Usage) → (Owner → Usage) → Type 0
 ChargesAll uid gid files blocks old new = (who : Owner) → new who
     ≡ (if is_owned who uid gid then raised files blocks (old who) else old who)
 
--- the user, the group and the fileset use so much less, and no other owner does
+-- the user, the group and the fileset use `files` and `blocks` less, and no other owner does
 abbrev pub RefundsAll : ℕ → ℕ → ℕ → ℕ → (Owner → Usage) → (Owner → Usage) → Type 0
 RefundsAll uid gid files blocks old new = (who : Owner) → new who
     ≡ (if is_owned who uid gid then lowered files blocks (old who) else old who)

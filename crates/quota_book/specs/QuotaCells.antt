@@ -30,7 +30,7 @@ limits_said _ = None
 abbrev pub said_by : List Record → Said
 said_by records = filter_map limits_said records
 
--- an owner's limits, which are none where nothing is said of the owner; 0 is none too
+-- an owner's limits, which are none if nothing is said of the owner; 0 is none too
 abbrev pub limits_at : Said → Owner → Limits
 limits_at said who = unwrap_or (find owner_cmp who said) (record { files = 0; blocks = 0 })
 
@@ -52,13 +52,12 @@ Notes who old new true = (was_seen old who ≡ false)
     × ((other : Owner) → was_seen new other ≡ (same_owner other who || was_seen old other))
 Notes who old new false = was_seen old who ≡ true
 
--- the same of what a record says, which may be nothing
+-- the owner that a record says is noted so; a record may say none
 abbrev pub NotesSaid : Option (Owner × Limits) → Seen → Seen → Bool → Type 0
 NotesSaid None old new noted = (noted ≡ true) × (new ≡ old)
 NotesSaid (Some said) old new noted = Notes said.0 old new noted
 
--- a book with no totals, and the limits that are said, of which those that bind nothing have no
--- entry
+-- a book with no totals, and the limits that are said; those that bind nothing have no entry
 pub record HasLimits (said : Said) (book : Book) : Type 0 where
   pub unused : book.totals ≡ map.empty
   pub limits : (who : Owner) → limits_in book who ≡ limits_at said who
@@ -95,7 +94,7 @@ or_else None other = other
 or_else (Some k) other = Some k
 
 -- the cell that a change of an owner's limits touches: the first in which something is said of the
--- owner, or else the first that has room; where there is none, a cell has to be added
+-- owner, or else the first that has room; if there is none, a cell has to be added
 abbrev pub touched : List Said → Owner → Option ℕ
 touched cells who = or_else (first_where (is_said who) cells) (first_where has_room cells)
 

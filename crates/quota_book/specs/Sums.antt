@@ -41,7 +41,7 @@ files_for who node = option_map_or (λ n. if is_owners who n then 1 else 0) node
 abbrev pub blocks_for : Owner → Option Node → ℕ
 blocks_for who node = option_map_or (λ n. if is_owners who n then blocks_of n else 0) node 0
 
--- one counts so many files and blocks of these ids more than another
+-- one counts `files` more files and `blocks` more blocks of these ids than another
 pub record CountsMore (uid gid files blocks : ℕ) (less more : Option Node) : Type 0 where
   pub more_files : (who : Owner) → files_for who more
       ≡ files_for who less + (if is_owned who uid gid then files else 0)

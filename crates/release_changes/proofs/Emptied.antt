@@ -111,7 +111,7 @@ is_so : (b : Bool) → ¬ b ≡ false → b ≡ true
 is_so true is = refl
 is_so false is = absurd (is refl)
 
--- where it cannot be that nothing on it may be let go of, something may be
+-- if it cannot be that nothing on it may be let go of, something may be
 pub may_known : (memory : DomainMemory) → ¬ ¬ MayLetGo memory → MayLetGo memory
 may_known memory known = record {
   some = λ empty. known (λ may. may.some empty);

@@ -159,7 +159,7 @@ module _ (number group : ℕ) (old mid : DomainMemory) (puts : PutsSlot number s
   slot_was : slot_in mid.slots.items number ≡ slot_in old.slots.items number
   slot_was = ap (λ (m : DomainMemory). slot_in m.slots.items number) puts.same
 
-  -- where the slot had files, their tag directory is the slot's
+  -- if the slot had files, their tag directory is the slot's
   pub its_places : (slot : SlotFiles) → o ≡ Some slot → (places : List TagPlace) → places ≡ slot.files.tags → homes_of places ≡ homes_of (places_in (slot_in old.slots.items number))
   its_places slot there places are = ap homes_of (are ∙ ap places_in (sym there ∙ was ∙ slot_was))
 
@@ -169,7 +169,7 @@ module _ (number group : ℕ) (old mid : DomainMemory) (puts : PutsSlot number s
       subst (DropsIndex group old.space space (pages_of mid.pages) new) (its_places slot there places are)
       (subst (λ (m : DomainMemory). DropsIndex group m.space space (pages_of mid.pages) new (homes_of places)) puts.same drops)
 
-  -- where it had none, nothing goes
+  -- if it had none, nothing goes
   pub drops_none : o ≡ None → DropsIndex group old.space mid.space (pages_of mid.pages) (pages_of mid.pages) (homes_of (places_in (slot_in old.slots.items number)))
   drops_none none =
       subst (λ (ps : List TagPlace). DropsIndex group old.space mid.space (pages_of mid.pages) (pages_of mid.pages) (homes_of ps)) (ap places_in (sym none ∙ was ∙ slot_was))

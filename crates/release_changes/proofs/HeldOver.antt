@@ -70,7 +70,7 @@ less_by : (s t : Spaces) → s ≡ t → held_open s ≤ held_open t
 less_by s t same = let held = ap held_open same in omega (arith, held)
 
 module _ (group : ℕ) (version : Version) (old new : Now) (alone : GiveNone old) where
-  -- where no clone reads, none is handed over
+  -- if no clone reads, none is handed over
   none_taken : (s : LetsPages group version old new) → s.releases.space_between ≡ old.space
   none_taken s = ⊎_elim
       (λ same. same.0)

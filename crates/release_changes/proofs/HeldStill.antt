@@ -11,7 +11,7 @@ use Rattle.domain_changes.specs.domain_memory.declared.memory.DomainMemory.{Doma
 use Rattle.domain_changes.proofs.OfDomainMemory.Held.{held_keeping, held_same}
 
 module _ (old new : DomainMemory) (settled : IsSettled old) where
-  -- where no change is laid over either, as much is held
+  -- if no change is laid over either, as much is held
   pub still_held : KeepsKept old new → IsSettled new → held_open new.space ≤ held_open old.space
   still_held kept settled_now = held_same new.space old.space (λ vol.
       ap (λ (s : Spaces). volume_of s vol) (sym settled_now.space) ∙ kept.spaces vol ∙ ap (λ (s : Spaces). volume_of s vol) settled.space)

@@ -89,7 +89,7 @@ once_known (home ∷ homes) = both not (once_known homes)
 
 -- ---- what is left
 
--- where no case but one is left
+-- if no case but one is left
 pub must_be : (item : SlotItem) → IsRemoved (Some item) → ((first_tag : Option Home) (quota : Option CellAt) → ¬ item ≡ slot.Removed first_tag quota) → ⊥
 must_be slot.Free removed not_so = removed
 must_be (slot.Original entry) removed not_so = removed
@@ -119,7 +119,7 @@ module _ (memory : DomainMemory) (number : ℕ) (removed : IsRemoved (slice_get 
   none_in : (home : Home) → Contains [] home → ⊥
   none_in home inside = omega (arith, inside.1)
 
-  -- where the directory has a page the slot has files
+  -- if the directory has a page, the slot has files
   has_files : (home : Home) → has_home (d.tags number) home ≡ true → HasFilesAmong d is.sound.files number
   has_files home has = by_first (named_by first_tag_of d number) (is.sound.below.chains.slots number)
     where

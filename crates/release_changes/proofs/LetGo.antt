@@ -64,7 +64,7 @@ use Rattle.domain_changes.specs.domain_memory.Going.{MayLetGo, are_plain, say_di
 zero_below : (page : ℕ) → page < 0 → ⊥
 zero_below page less = omega (arith, less)
 
--- where no entry gives a clone's file none is wanted
+-- if no entry gives a clone's file none is wanted
 pub no_lack : (list : Listing) (files : Files) → ((e : Entry) → Contains list.entries e → e.clone ≡ None) → LacksRoom list files → ⊥
 no_lack list files alone lacks = by_reader lacks.reader (alone lacks.entry (in_last list lacks.front lacks.entry lacks.last)) lacks.given lacks.lacks
   where

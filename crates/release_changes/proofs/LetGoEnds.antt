@@ -76,7 +76,7 @@ last_none (home ∷ homes) none = absurd (let same : length (home ∷ homes) - 1
     some_last home (next ∷ homes) none = some_last next homes none
 
 module _ (memory : DomainMemory) (settled : IsSettled memory) (stands : ∥ StandsForAny memory ∥₁) where
-  -- where the first cell of an entry is not plain, not all are
+  -- if the first cell of an entry is not plain, not all are
   pub not_plain : (entry : Entry) → Contains memory.list.list.entries entry → ((cell : Cell) → StandsAt (pages_of memory.pages) entry.at cell → are_plain cell.records ≡ false) → HavePlain memory memory.list.list.entries → ⊥
   not_plain entry inside other plain = nothing (∥∥₁_map stands (λ s. by_files (ready memory settled stands s.0 s.1).staged.sound.files (ready memory settled stands s.0 s.1).staged.sound.below.chains.well))
     where

@@ -77,7 +77,7 @@ module _ (number : ℕ) (tag : Tag) (group : ℕ) (d : DomainNow) (at : StandsAt
     no_tag : (home : Home) → has_home (d.tags number) home ≡ true → ¬ Contains (at.indexes first.at) home
     no_tag home has inside = off_tags d at.files at.indexes at.below number tag at.chains at.well first rest is number home inside has
 
-    -- where no page of the index stands nothing changes once the first cell says what goes
+    -- if no page of the index stands, nothing changes once the first cell says what goes
     on_table_same : (home : Home) → Contains (table_of d.cells home.vol) home.page → pages home ≡ out.said home
     on_table_same home on = drops.others home (λ inside. off_table home inside on)
 

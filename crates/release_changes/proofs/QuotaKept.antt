@@ -1,4 +1,4 @@
--- Memory of a domain of which a quota cell of what is being removed goes stands for the same filesets.
+-- Memory stands for the same filesets if a quota cell of what is being removed goes.
 use Rattle.std.proofs.Common.{◌≡◌, ◌≤◌, ◌∙◌, ℕ, Some, IsSomeAnd, length, sym, ap, subst}
 use Rattle.std.specs.FinMap.{get}
 use Rattle.domain_changes.specs.free_space.Spaces.{Spaces, kept_spaces}

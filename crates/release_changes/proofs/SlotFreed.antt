@@ -1,4 +1,4 @@
--- A domain stands for the same filesets where a slot comes free of what was removed from it.
+-- A domain stands for the same filesets if a slot comes free of what was removed from it.
 use Rattle.std.proofs.Common.{◌≡◌, ◌∙◌, ◌==◌, ⊎_elim, inl, inr, ◌⊎◌, ℕ, Bool, true, false, cond, List, [], Option, Some, None, IfSome, IsSome, IsSomeAnd, Contains, slice_get, refl, sym, ap, subst, true≢false}
 use Rattle.std.proofs.lemmas.Bool.{both_ways, eq-eqb, eqb-true}
 use Rattle.std.specs.Option.{option_and_then, option_map_or}
@@ -86,7 +86,7 @@ module _ (number group : ℕ) (d now : DomainNow) (files : Files) (indexes : Ind
   item_other : (n : ℕ) → ¬ n ≡ number → item_in now n ≡ item_in d n
   item_other n differ = ap (λ (t : Table). slice_get t.slots n) s.table ∙ other_freed d files indexes below number group s.left now.pages now.contents says_it s.others n differ
 
-  -- ---- no file comes to be read through another, bits and what rules ask beside
+  -- ---- no file comes to be read through another, bits and what rules ask besides
 
   pub alone_then : StandAlone d → StandAlone now
   alone_then alone = alone_by_files now files indexes below_then (files_alone d files indexes below alone)

@@ -177,7 +177,7 @@ module _ (memory : DomainMemory) (number : ℕ) (all : FilesetMap) (is : IsStage
   abbrev d : DomainNow
   d = staged_in memory
 
-  -- where a tag is used the slot has files
+  -- if a tag is used, the slot has files
   pub has_by : (tag : Tag) → IsUsedIn memory number tag → HasFilesAmong d is.sound.files number
   has_by tag used = by_first (named_by first_tag_of d number) (is.sound.below.chains.slots number)
     where

@@ -53,7 +53,7 @@ table_was (Some was) table is = sym (length_put table.slots was.number was.item)
 table_whole : (memory : DomainMemory) → ∥ MayGoBack memory ∥₁ → length memory.table.slots ≡ 32
 table_whole memory may = one_number _ _ (∥∥₁_map may (λ m. table_was memory.was memory.table m.table))
 
--- none may be where none of the 32 may be
+-- none may be if none of the 32 may be
 pub none_may : (memory : DomainMemory) → ∥ MayGoBack memory ∥₁ → (n : ℕ) → 32 ≤ n → ((number : ℕ) → number < n → ¬ MayEmpty memory number) → NoneToEmpty memory
 none_may memory may n far before number empties = ⊎_elim
     (λ low. before number low empties)

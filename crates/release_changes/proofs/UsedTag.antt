@@ -52,7 +52,7 @@ page_of_tag pages places tag some = by_home (home_with places (tag.slot / 1022))
     by_home None none = absurd (true≢false (sym (subst (λ o. IsSome (option_and_then (cell_for tag.seq) (option_map (λ page. entry_of page (tag.slot % 1022)) (option_and_then pages o)))) none some)))
     by_home (Some home) is = refl
 
--- where no page has a tag that leads to a cell, none does
+-- if no page has a tag that leads to a cell, none does
 pub none_used : (pages : Pages) (places : List TagPlace) (count : ℕ) → length places ≤ count → ((k : ℕ) → k < count → (tag : Tag) → IsOnPage places k tag → cell_of pages places tag ≡ None) → (tag : Tag) → ¬ IsSome (cell_of pages places tag)
 none_used pages places count all none tag some =
     let on = on_some places (tag.slot / 1022) (page_of_tag pages places tag some) in
@@ -78,7 +78,7 @@ no_directory pages = record { run = λ k. tt; apart = λ j k p q at_j. absurd (n
     nothing : {p : TagPlace} → None ≡ Some p → ⊥
     nothing e = cc
 
--- where no tag leads to a cell there is no file
+-- if no tag leads to a cell there is no file
 none_are : (fileset : ℕ) (places : List TagPlace) (pages : Pages) → IsDirectory pages places → ((tag : Tag) → cell_of pages places tag ≡ None) → HasFiles fileset places pages
 none_are fileset places pages directory none = (no_chains, record { directory = directory; none = λ tag is. none tag; some = λ tag. tt; apart = λ s t differ. tt })
 

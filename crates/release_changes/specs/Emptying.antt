@@ -61,8 +61,8 @@ pub record TakesOut (group fileset : ℕ) (places : List TagPlace) (tag : Tag) (
       → AreIndexHomes old (option_and_then index_of (chains tag)) homes
       → DropsIndex group space space_now said new homes
 
--- what is asked of the files of a slot of which a tag is taken out of use: it names one that is not
--- to be removed yet, and the pages of its index are known
+-- what is asked of the files of a slot if a tag of theirs is taken out of use: it names one that is
+-- not to be removed yet, and the pages of its index are known
 pub record MayTakeOut (tag : Tag) (space : Spaces) (pages : Pages) (slot : SlotFiles) : Type 0 where
   pub files : HasFiles slot.files.fileset slot.files.tags pages
   pub live : (chains : Chains) → AreFiles slot.files.fileset slot.files.tags pages chains
@@ -137,7 +137,7 @@ pub record UsesFewer (number : ℕ) (old new : DomainMemory) : Type 0 where
   pub gone : ¬ IsUsedIn new number tag
   pub others : (t : Tag) → IsUsedIn new number t → IsUsedIn old number t
 
--- one of these cells is free, and beside it those are that were
+-- one of these cells is free, and so are those that were
 abbrev pub FreesOneOf : List PlacedCell → Cells → Cells → Type 0
 FreesOneOf chain old new = (gone : CellAt) × Contains (places chain) gone
     × ((at : CellAt) → is_free new at ≡ (is_at gone at || is_free old at))

@@ -12,8 +12,8 @@ abbrev pub list_in : DomainMemory → Files → Now
 list_in memory files =
     now_of memory.list.list files memory.space memory.cells (pages_of memory.pages)
 
--- so many things of the list were let go of, one after the other, and no other, whatever files they
--- are with which all was well
+-- `count` things of the list were let go of, one after the other, and no others, for any files with
+-- which all was well
 abbrev pub LetsListGo : ℕ → ℕ → DomainMemory → DomainMemory → Type 0
 LetsListGo group count old new = (files : Files) → IsWell (list_in old files)
     → LetsGo group old.frame.version (list_in old files) count new.list.list new.space new.cells

@@ -42,7 +42,7 @@ abbrev pub LosesLast : ℕ → CellAt → Files → DomainMemory → DomainMemor
 LosesLast number at files old new = HasQuotaCells old number at → (files_now : Files)
     × EndsQuotaOf number (staged_in old) (staged_in new) files files_now
 
--- one goes of those that a slot names: the second or, where there is no second one, the last
+-- one of the quota cells that a slot names goes: the second or, if there is no second, the last
 abbrev pub LosesOne : ℕ → DomainMemory → DomainMemory → Type 0
 LosesOne number old new = (at : CellAt) × HasQuotaCells old number at × ((files : Files)
     → BeginsQuotas old at files

@@ -74,7 +74,7 @@ fn are_all_plain<M: MetaPages>(pages: &M, entries: &[Entry]) -> bool
 }
 
 /// Whether something is on the list of a domain, and all of it may be let go of: each is a file or
-/// directory that names no index, and none is a directory of which only pages go. So nothing may be
+/// directory that names no index, and none is a directory that only loses pages. So nothing may be
 /// let go of as long as the list holds pages of a tag directory or quota cells that the slot of a
 /// removed fileset names, or a directory that was removed without its index. It takes no memory.
 pub fn may_let_go(memory: &DomainMemory) -> bool

@@ -1,4 +1,4 @@
--- A domain of which no page waits any more.
+-- A domain in which no page waits any more.
 use Rattle.standing_laws.specs.free_space.Spaces.{change_volumes}
 use Rattle.standing_laws.specs.free_space.VolumeSpace.{with_none_waiting}
 use Rattle.standing_laws.specs.domain_standing.Domain.{DomainNow}

@@ -8,7 +8,7 @@ ghost use Rattle.standing_laws.specs.Leads.{StandsBelow};
 ghost use Rattle.standing_laws.specs.Sound.{IsSound, StandsSound};
 ghost use Rattle.release_laws.specs.Released.{QuotasStay, Releases};
 
-/// All of a domain except its filesets stands on once things on its list were let go of, so the
+/// All of a domain except its filesets still stands once things on its list were let go of, so the
 /// next call may follow.
 pub fn all_below_stands_on_over_steps()
     ensures { (group count : ℕ) (d now : DomainNow) (files files_now : Files)

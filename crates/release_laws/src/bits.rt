@@ -9,8 +9,7 @@ ghost use Rattle.standing_laws.specs.free_space.Spaces.{Spaces, kept_spaces};
 ghost use Rattle.standing_laws.specs.Leads.{StandsBelow};
 ghost use Rattle.release_laws.specs.Released.{Releases};
 
-/// Bits of bitmaps say what they said of free space once things on the list of a domain were let go
-/// of.
+/// Once things on the list of a domain were let go of, bitmaps say the same of free space.
 pub fn bits_stay_over_steps()
     ensures { (group count : ℕ) (d now : DomainNow) (files files_now : Files)
         (indexes : IndexesAt) → StandsBelow d files indexes

@@ -8,13 +8,14 @@ ghost use Rattle.standing_laws.specs.domain_standing.Standing.{IsMarkedBut};
 ghost use Rattle.standing_laws.specs.Leads.{StandsBelow};
 ghost use Rattle.release_laws.specs.Freed.{freed};
 
-/// If a domain stands, it also stands once all pages that wait are free: they are held for nothing.
+/// If a domain stands, it still stands once all pages that wait are free: they are held for
+/// nothing.
 pub fn all_below_stands_on_where_pages_come_free()
     ensures { (d : DomainNow) (files : Files) (indexes : IndexesAt) → StandsBelow d files indexes
         → StandsBelow (freed d) files indexes }
 {}
 
-/// It stands for the same filesets.
+/// A domain stands for the same filesets once all pages that wait are free.
 pub fn filesets_stand_on_where_pages_come_free()
     ensures { (d : DomainNow) (files : Files) (indexes : IndexesAt) → StandsBelow d files indexes
         → (all : FilesetMap) → StandSlots d all → StandSlots (freed d) all }

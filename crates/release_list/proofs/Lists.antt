@@ -1,4 +1,4 @@
--- Lists with one thing behind the others.
+-- Lists with one thing after the others.
 use Rattle.std.proofs.Common.{◌≡◌, ◌∙◌, ◌⊎◌, inl, inr, ℕ, zero, suc, ◌-◌, ◌<◌, true, cond, List, [], ◌∷◌, ◌++◌, Option, Some, None, Contains, get_or, length, slice_set, refl, sym, ap, subst, arith, ⊎_elim}
 use Rattle.std.proofs.lemmas.Bool.{cases_lt}
 use Rattle.std.proofs.lemmas.List.{get_or-map, length-map}
@@ -41,7 +41,7 @@ pub set_last : {X : Type 0} (xs : List X) (e y : X) → slice_set (xs ++ e ∷ [
 set_last [] e y = refl
 set_last (x ∷ xs) e y = ap (λ ys. x ∷ ys) (set_last xs e y)
 
--- the files of entries, where the last has another clone
+-- the files of entries, if the last has another clone
 pub same_files : (front : List Entry) (a b : Entry) → a.at ≡ b.at → (k : ℕ) (d : Entry) → (get_or (front ++ a ∷ []) k d).at ≡ (get_or (front ++ b ∷ []) k d).at
 same_files [] a b same zero d = same
 same_files [] a b same (suc k) d = refl
@@ -91,7 +91,7 @@ one_entry entries once a b (i, less_i, is_a) (j, less_j, is_b) same =
     let all : i ≡ j = once i j a less_i less_j (ap (λ (e : Entry). e.at) is_a ∙ same ∙ sym (ap (λ (e : Entry). e.at) b_there)) in
     sym is_a ∙ ap (λ n. get_or entries n a) all ∙ b_there
 
--- ---- what reads through a file stands behind it
+-- ---- what reads through a file stands after it
 
 pub order_front : (front : List Entry) (last : Entry) → AreInOrder (front ++ last ∷ []) → AreInOrder front
 order_front front last order i j d less_i less_j same =
@@ -165,7 +165,7 @@ order_without at xs order i j d less_i less_j same =
     (but_some at (get_or xs j d).at (get_or xs i d).clone
     (sym (ap (λ (e : Entry). e.clone) (get_without at xs i d in_i)) ∙ same ∙ ap (λ (e : Entry). Some e.at) (get_without at xs j d in_j))).0
 
--- the last of a list and those in front of it
+-- the last of a list and those before it
 pub last_split : (xs : List Entry) (n : ℕ) (d e : Entry) → length xs ≡ suc n → get_or xs n d ≡ e → (front : List Entry) × (xs ≡ front ++ e ∷ [])
 last_split [] n d e len is = absurd (omega (arith, len))
 last_split (x ∷ []) zero d e len is = ([], ap (λ (y : Entry). y ∷ []) is)

@@ -48,7 +48,7 @@ use Rattle.release_list.proofs.Well.{chain_of}
 
 -- ---- the chain then
 
--- what followed a quota cell follows the one in front of it
+-- what followed a quota cell follows the one before it
 quota_follow : (old new : Pages) (b c : CellHead) (rest : List PlacedCell) → b.kind ≡ Quota → c.kind ≡ Quota → AllByRecursion (λ (x : PlacedCell). StandsAt new x.at x.cell) rest → Follow old c rest → Follow new (record b { next = c.next }) rest
 quota_follow old new b c [] kind_b kind_c stand follow = follow
 quota_follow old new b c (r ∷ rest) kind_b kind_c stand follow = (

@@ -73,7 +73,7 @@ part_went group version list front files entry left from reader space space_now 
 pub listed_as : (space : Spaces) (cells : Cells) (files : Files) (list : Listing) (front : List Entry) (entry : Entry) → list.entries ≡ front ++ entry ∷ [] → IsListed space cells files list → IsListed space cells files (record { entries = front ++ entry ∷ []; tag_pages = list.tag_pages })
 listed_as space cells files list front entry last listed = subst (λ (es : List Entry). IsListed space cells files (record { entries = es; tag_pages = list.tag_pages })) last listed
 
--- ---- a file of which all goes
+-- ---- a file that goes as a whole
 
 pub whole_from : (o : Option Leftover) (chain : List PlacedCell) → ¬ o ≡ Some Trim → from_by o chain ≡ 0
 whole_from None chain whole = refl

@@ -23,9 +23,9 @@ IsOfEntry entries cursor = IfSome cursor (λ c. (entry : Entry) × Contains entr
 abbrev pub IsLeftAt : CellAt → Went → Option Cursor → Type 0
 IsLeftAt file went cursor = IfSome cursor (λ c. (went ≡ Part) × (c.file ≡ file))
 
--- a list of what is to be let go of, where the next step goes on, what is known of the clone's file
--- that reads through the one of which that lets something go, and for how many entries more there
--- is room
+-- a list of what is to be let go of; where the next step goes on; what is known of the clone's file
+-- that reads through the file that loses something there; and for how many more entries there is
+-- room
 pub record Deferral : Type 0 where
   pub list : Listing
   pub cursor : Option Cursor

@@ -27,7 +27,7 @@ leftover_in _ = None
 abbrev pub left_of : List PlacedCell → Option Leftover
 left_of cells = option_and_then leftover_in (first_record 6 cells)
 
--- from which page on pages go, by what is left: behind those that the file keeps, or all
+-- from which page on pages go, by what is left: after those that the file keeps, or all
 abbrev pub from_by : Option Leftover → List PlacedCell → ℕ
 from_by (Some Trim) cells = unwrap_or (keep_of cells) 65536
 from_by (Some Remove) cells = 0
@@ -49,16 +49,16 @@ record_at files kind at = option_and_then (first_record kind) (files at)
 abbrev pub SaysWhatGoes : Files → CellAt → Type 0
 SaysWhatGoes files at = IsSome (record_at files 6 at) ⊎ (record_at files 1 at ≡ None)
 
--- a file of which something is to be let go of is there, as its first cell says, or quota cells
--- are; the clone's file is given that reads through it, and none where none does
+-- a file that is to let go of something is there, as its first cell says, or quota cells are; the
+-- clone's file that reads through it is given, and none if none does
 pub record IsEntry (files : Files) (entry : Entry) : Type 0 where
   pub there : IsSome (files entry.at)
   pub says : SaysWhatGoes files entry.at
   pub given : (clone : CellAt) → entry.clone ≡ Some clone → ReadsThrough files clone entry.at
   pub all : (clone : CellAt) → ReadsThrough files clone entry.at → entry.clone ≡ Some clone
 
--- the entries are so, no file has two, and that of a clone's file stands behind that of the file
--- through which it reads; the pages of tag directories stand on volumes, are held and none of
+-- each is an entry like that, no file has two, and that of a clone's file stands after that of the
+-- file through which it reads; the pages of tag directories stand on volumes, are held and none of
 -- cells, each once, and no file's
 pub record IsListed (space : Spaces) (cells : Cells) (files : Files) (list : Listing) : Type 0 where
   pub each : (entry : Entry) → Contains list.entries entry → IsEntry files entry

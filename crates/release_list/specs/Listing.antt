@@ -6,7 +6,7 @@ use Rattle.file_release.specs.domain_base.declared.place.Home.{Home}
 use Rattle.file_release.specs.metadata_cells.Chain.{is_at}
 use Rattle.release_list.specs.declared.list.Entry.{Entry}
 
--- files of which something or all is to be let go of, and pages of tag directories
+-- files that are to lose some of their pages or everything, and pages of tag directories
 pub record Listing : Type 0 where
   pub entries : List Entry
   pub tag_pages : List Home
@@ -34,7 +34,7 @@ pub record SetsEntry (at : CellAt) (clone : Option CellAt) (place : ℕ) (old ne
     pub was : (d : Entry) → (get_or old place d).at ≡ at
     pub is : new ≡ slice_set old place (record { at = at; clone = clone })
 
--- no entry had the file, and one has it now, behind all others
+-- no entry had the file, and one has it now, after all others
 pub record AddsEntry (at : CellAt) (clone : Option CellAt) (place : ℕ) (old new : List Entry) : Type 0
   where
     pub none : (entry : Entry) → Contains old entry → ¬ entry.at ≡ at
@@ -45,7 +45,7 @@ pub record AddsEntry (at : CellAt) (clone : Option CellAt) (place : ℕ) (old ne
 abbrev pub Puts : CellAt → Option CellAt → ℕ → List Entry → List Entry → Type 0
 Puts at clone place old new = SetsEntry at clone place old new ⊎ AddsEntry at clone place old new
 
--- a file has an entry in front of a place, and the two entries change places
+-- a file has an entry before a place, and the two entries change places
 pub record ChangesPlaces (at : CellAt) (place : ℕ) (old new : List Entry) : Type 0 where
   pub front : ℕ
   pub in_front : front < place
@@ -57,14 +57,13 @@ pub record HasNoneInFront (at : CellAt) (place : ℕ) (old new : List Entry) : T
   pub none : (k : ℕ) (d : Entry) → k < place → ¬ (get_or old k d).at ≡ at
   pub is : new ≡ old
 
--- the entry of a clone's file does not stand in front of the entry at a place
+-- the entry of a clone's file does not stand before the entry at a place
 abbrev pub Orders : Option CellAt → ℕ → List Entry → List Entry → Type 0
 Orders None place old new = new ≡ old
 Orders (Some clone) place old new =
     ChangesPlaces clone place old new ⊎ HasNoneInFront clone place old new
 
--- an entry has the file, with that clone, and that of the clone's file does not stand in front of
--- it
+-- an entry has the file, with that clone, and that of the clone's file does not stand before it
 pub record Adds (at : CellAt) (clone : Option CellAt) (old new : List Entry) : Type 0 where
   pub place : ℕ
   pub between : List Entry
@@ -82,6 +81,6 @@ clone_but at (Some clone) = if is_at clone at then None else Some clone
 abbrev pub without : CellAt → Entry → Entry
 without at entry = record entry { clone = clone_but at entry.clone }
 
--- the entries so
+-- the entries, none of which gives the file as its clone's
 abbrev pub without_clone : CellAt → List Entry → List Entry
 without_clone at entries = map (without at) entries

@@ -40,7 +40,7 @@ pub record Source : Type 0 where
   pub at : CellAt
   pub frozen : ℕ
 
--- what a record of a clone's file says of it: nothing, where it reads through none any more
+-- what a record of a clone's file says of it: nothing, if it reads through none any more
 abbrev pub source_in : Record → Option Source
 source_in (written.CloneFile vol cell page frozen) = if vol == 0 then None
     else Some (record { at = record { vol = vol; page = page; cell = cell }; frozen = frozen })

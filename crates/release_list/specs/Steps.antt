@@ -74,7 +74,7 @@ abbrev pub ReadsFrozen : CellAt → List PlacedCell → Option Reader → Type 0
 ReadsFrozen at own reader = IsSomeAnd reader (λ r. (r.at ≡ at)
     × IsSomeAnd (source_of own) (λ source. source.frozen ≡ r.frozen))
 
--- the files with a clone's chain so, if there is a clone
+-- the files with this chain for a clone's, if there is a clone
 abbrev pub with_clone : Option CellAt → List PlacedCell → Files → Files
 with_clone None own files = files
 with_clone (Some clone) own files = with_file clone (Some own) files
@@ -108,7 +108,7 @@ leads_to next c = record {
   cell = record c.cell { head = record c.cell.head { next = next } };
 }
 
--- of the last entry's quota cells the second goes: it is free, and the first leads past it
+-- the second of the last entry's quota cells goes: it is free, and the first leads past it
 pub record LosesQuotaCell (old new : Now) : Type 0 where
   pub front : List Entry
   pub entry : Entry
@@ -136,7 +136,7 @@ kept_all (written.Attributes kind uid gid flags size keep links birth unsynced) 
     written.Attributes kind uid gid flags size 65536 links birth unsynced
 kept_all r = r
 
--- a first cell that says so, and that nothing is left to be done
+-- a first cell that says that it keeps all, and that nothing is left to be done
 abbrev pub says_trimmed : Cell → Cell
 says_trimmed cell =
     with_record 6 None (with_record 1 (option_map kept_all (record_of 1 cell.records)) cell)
@@ -228,7 +228,7 @@ abbrev pub last_home : List Home → Option Home
 last_home homes = slice_get homes (length homes - 1)
 
 -- the last page of a tag directory on a list is on it no more, and waits as metadata; and the page
--- in front of it on the list leads to it no more
+-- before it on the list leads to it no more
 pub record TakesTagPage (group : ℕ) (list list_now : Listing) (space space_now : Spaces)
     (old new : Pages) : Type 0 where
   pub front : List Home
@@ -258,7 +258,7 @@ pub data Step (group : ℕ) (version : Version) (old new : Now) : Type 0 where
   file_ends : EndsFile old new → Step group version old new
   tag_page_goes : GivesTagPage group old new → Step group version old new
 
--- so many times, one after the other
+-- this number of steps, one after the other
 pub data Steps (group : ℕ) (version : Version) (first : Now) : ℕ → Now → Type 0 where
   none : Steps group version first 0 first
   more : (n : ℕ) (between last : Now) → Steps group version first n between
@@ -283,7 +283,7 @@ abbrev pub step_pages : Listing → ℕ
 step_pages list = pages_of_entry (slice_get list.entries (length list.entries - 1))
 
 -- what a step of an entry leaves of it: all, all but its clone, or nothing; and of the others all,
--- but a clone of which nothing is left
+-- except a clone that has nothing left
 abbrev pub list_after : Went → List Entry → Entry → Listing → Listing
 list_after went.Part front entry list = list
 list_after went.Reading front entry list = record {
@@ -308,7 +308,8 @@ pub record HasEntry (front : List Entry) (entry : Entry) (now : Now) : Type 0 wh
   pub last : IsLast front entry now.list
   pub well : IsWell now
 
--- the same, and the entry's file has let go of all that it was asked to
+-- all is well, the entry is the last of the list, and its file has let go of all that it was asked
+-- to
 pub record IsEnding (front : List Entry) (entry : Entry) (left : Option Leftover) (now : Now)
     : Type 0 where
   pub has : HasEntry front entry now
@@ -318,7 +319,8 @@ pub record IsEnding (front : List Entry) (entry : Entry) (left : Option Leftover
   pub left_is : left_of chain ≡ left
   pub done : IsReleased (from_by left chain) chain
 
--- the same of a file of which all goes
+-- all is well, the entry is the last of the list, all of its file goes, and the file has let go of
+-- all its pages
 pub record IsEndingWhole (front : List Entry) (entry : Entry) (now : Now) : Type 0 where
   pub has : HasEntry front entry now
   pub chain : List PlacedCell
@@ -346,7 +348,7 @@ pub record Leaves (group : ℕ) (version : Version) (old : Now) (list : Listing)
   pub step : Step group version old (now_of list files space cells pages)
   pub well : IsWell (now_of list files space cells pages)
 
--- so many steps lead to such
+-- this number of steps leads to a list and files that belong together
 pub record LeadsTo (group : ℕ) (version : Version) (first : Now) (count : ℕ) (list : Listing)
     (space : Spaces) (cells : Cells) (pages : Pages) : Type 0 where
   pub files : Files
@@ -365,7 +367,8 @@ pub record LacksRoom (list : Listing) (files : Files) : Type 0 where
   pub given : IsGiven files entry.clone reader own
   pub lacks : LacksPlace (stale_from chain) (frozen_of reader) chain own
 
--- so many steps were done, at least one, and then one was not for want of a page or of memory
+-- this number of steps was done, at least one, and then one was not done, because no page was free
+-- or memory was short
 pub record StopsAfter (group : ℕ) (version : Version) (first : Now) (count : ℕ) (list : Listing)
     (space : Spaces) (cells : Cells) (pages : Pages) : Type 0 where
   pub some : 1 ≤ count
@@ -377,7 +380,7 @@ pub record StopsAfter (group : ℕ) (version : Version) (first : Now) (count : �
   pub full : fault ≡ NoPage → LacksRoom list files
   pub well : IsWell (now_of list files space cells pages)
 
--- so many steps were done, and no other
+-- this number of steps was done, and no other
 abbrev pub LetsGo : ℕ → Version → Now → ℕ → Listing → Spaces → Cells → Pages → Type 0
 LetsGo group version first count list space cells pages =
     LeadsTo group version first count list space cells pages

@@ -1,4 +1,4 @@
-//! Files, pages of files and tag directories that are let go little by little.
+//! The list of files, pages of files and tag directories that are still to be given back.
 #![tactic(auto)]
 
 mod cursor;

@@ -1,4 +1,4 @@
--- A quota cell more: the first of a fileset, or one behind the last of its chain.
+-- A quota cell more: the first of a fileset, or one after the last of its chain.
 use Rattle.std.proofs.Common.{◌≡◌, ◌∙◌, ◌⊎◌, ◌||◌, ⊎_elim, inl, inr, ℕ, zero, suc, ◌≤◌, true, false, not, List, [], ◌∷◌, ◌++◌, Option, Some, None, Contains, refl, sym, ap, subst, arith}
 use Rattle.std.proofs.lemmas.Bool.{and_parts, not-true, or_from}
 use Rattle.std.specs.List.{AllByRecursion}
@@ -73,7 +73,7 @@ module _ (prefer : ℕ) (at : CellAt) (space space_now : Spaces) (cells cells_no
       one_place q (zero, within, is) cell stood on = fresh_at q cell on stood is
       one_place q (suc k, within, is) cell stood on = omega (arith, within)
 
-  -- ---- one behind the last
+  -- ---- one after the last
 
   module _ (start : CellAt) (front : List PlacedCell) (c : PlacedCell) (quotas : IsQuotas old start (front ++ c ∷ [])) (on : AreOnTables cells (front ++ c ∷ []))
       (last : StandsAt new c.at (record { head = record c.cell.head { next = Some at }; records = records_for (said_by c.cell.records) })) (others : LeavesOthers (λ q. is_at at q || is_at c.at q) between new) where

@@ -1,4 +1,4 @@
--- A chain of quota cells in which one cell is another, and others come behind it.
+-- A chain of quota cells in which one cell is another, and others come after it.
 use Rattle.std.proofs.Common.{◌≡◌, ◌∙◌, true, List, [], ◌∷◌, ◌++◌, Option, Some, None, refl, sym, ap, subst}
 use Rattle.std.specs.List.{AllByRecursion}
 use Rattle.release_list.specs.domain_base.declared.place.CellAt.{CellAt}

@@ -25,7 +25,7 @@ pub record HasOneMap (cell : Cell) : Type 0 where
   pub map : HasMap cell value
   pub attributes : IsSome (record_of 1 cell.records)
 
--- no file has two entries, and that of a clone's file stands behind that of the file; the clones
+-- no file has two entries, and that of a clone's file stands after that of the file; the clones
 -- that are given are those that read through the files; what is read through reads through none; and
 -- first cells have maps, or are of quotas
 pub record Fits (now : Now) : Type 0 where

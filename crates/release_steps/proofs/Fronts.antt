@@ -1,4 +1,4 @@
--- A file that is trimmed keeps its pages in front of those that go.
+-- A file that is trimmed keeps its pages before those that go.
 use Rattle.std.proofs.Common.{◌≡◌, ◌∙◌, ℕ, ◌<◌, List, Some, Contains, refl, sym, ap, subst, ⊎_elim}
 use Rattle.release_list.specs.domain_base.declared.place.CellAt.{CellAt}
 use Rattle.release_list.specs.domain_base.declared.version.Version.{Version}

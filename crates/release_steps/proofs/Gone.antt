@@ -115,7 +115,7 @@ pub record IsOwned (now : Now) (a : CellAt) (p : ℕ) (home : Home) (kind : Page
   pub there : places_of chain p ≡ At home
   pub of_use : use_of chain ≡ kind
 
--- or that of one of which no entry is
+-- or that of one that has no entry
 pub record IsPassedOn (now : Now) (p : ℕ) (home : Home) : Type 0 where
   pub at : CellAt
   pub there : place_in now.files at p ≡ At home

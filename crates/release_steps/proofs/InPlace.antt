@@ -1,4 +1,4 @@
--- A chain of quota cells of which one says an owner's limits in their place.
+-- A chain of quota cells, one of which says an owner's limits in their place.
 use Rattle.std.proofs.Common.{◌≡◌, ◌∙◌, ◌⊎◌, inl, inr, ℕ, ◌+◌, ◌<◌, true, false, List, [], ◌∷◌, ◌++◌, length, take, drop, get_or, set, Option, Some, None, Contains, refl, sym, ap, subst}
 use Rattle.std.proofs.lemmas.List.{drop_more, take-append-drop}
 use Rattle.std.specs.List.{AllByRecursion}

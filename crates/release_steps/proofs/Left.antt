@@ -43,7 +43,7 @@ listed (p ∷ ps) h has = ⊎_elim
     (λ other. let rest = listed ps h (sym (ap (λ (b : Bool). b || has_home ps h) other) ∙ has) in (suc rest.0, omega (arith, rest.1), rest.2))
     (cases_Bool (same_home h p.home))
 
--- the places in front of the one whose home is the last
+-- the places before the one whose home is the last
 record IsSplit (places : List TagPlace) (front : List Home) (home : Home) : Type 0 where
   rest : List TagPlace
   last : TagPlace
@@ -132,7 +132,7 @@ module _ (old new : Pages) (home : Home) (x : TagPlace) (xs : List TagPlace) (la
           let other = there_and (old q.home) (IsPageOf q (home_behind all k)) (was k q at_k) page (sym (ap old same) ∙ there) in
           dir.apart j k p q (at_all j p at_j) (at_all k q at_k) (sym is.indexed ∙ other.indexed)
 
-  -- one in front of the last stays
+  -- one before the last stays
   in_front : (k : ℕ) (q : TagPlace) → slice_get rest k ≡ Some q → k + 1 < length rest → IsSomeAnd (new q.home) (IsPageOf q (home_behind rest k))
   in_front k q at less =
       let next : home_behind all k ≡ home_behind rest k = ap (option_map (λ (p : TagPlace). p.home)) (place_start rest (last ∷ []) (k + 1) less) in

@@ -48,7 +48,7 @@ then_keeps first between a xs ys zs are one two = ⊎_elim
 
 -- ---- a step
 
--- the file was there before, and kept so many pages
+-- the file was there before, and kept this number of pages
 record HasKept (old : Now) (a : CellAt) (after : List PlacedCell) : Type 0 where
   cells : List PlacedCell
   is : old.files a ≡ Some cells

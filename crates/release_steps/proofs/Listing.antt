@@ -192,7 +192,7 @@ which_entry old new at clone adds e inside =
     inside_puts old adds.between at clone adds.place adds.puts e
     (inside_orders clone adds.place adds.between new (place_within old adds.between at clone adds.place adds.puts) adds.orders e inside)
 
--- the entry stands at its place, and each other one's clone has no entry in front of it
+-- the entry stands at its place, and each other one's clone has no entry before it
 record IsPut (entry : Entry) (place : ℕ) (entries : List Entry) : Type 0 where
   once : AreEntriesOnce entries
   within : place < length entries
@@ -231,7 +231,7 @@ module _ (old new : List Entry) (at : CellAt) (clone : Option CellAt) (place : �
       (λ s. subst (IsPut one place) (sym s.is) (is_added (record { none = s.none; behind = s.behind; is = refl })))
       puts
 
--- no clone's file has an entry in front of that of the file then
+-- no clone's file has an entry before that of the file then
 module _ (space : Spaces) (cells : Cells) (pages : Pages) (files : Files) (together : StandTogether space cells pages files) (at c : CellAt) (place : ℕ) (entries new : List Entry) (each : (e : Entry) → Contains entries e → IsEntry files e)
     (put : IsPut (record { at = at; clone = Some c }) place entries) (reads : ReadsThrough files c at) where
   place_at : (d : Entry) → (get_or entries place d).at ≡ at

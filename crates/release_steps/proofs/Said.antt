@@ -20,7 +20,7 @@ use Rattle.release_steps.specs.Tags.{start_of}
 use Rattle.release_steps.proofs.AllKept.{none_trimmed, trimmed_first}
 
 -- it begins there, is of the same tag, has kinds of records that it may have, and is not to be
--- removed, where that was so
+-- removed, if it was
 pub record SaysSame (cells after : List PlacedCell) : Type 0 where
   pub start : start_of after ≡ start_of cells
   pub is_of : (fileset : ℕ) (tag : Tag) → IsOf fileset tag cells → IsOf fileset tag after

@@ -127,7 +127,7 @@ then_same xs ys zs one two = record {
 
 -- ---- a step
 
--- the file was there before, and said so
+-- the file was there before, and said the same
 record HasSaid (old : Now) (a : CellAt) (after : List PlacedCell) : Type 0 where
   cells : List PlacedCell
   is : old.files a ≡ Some cells

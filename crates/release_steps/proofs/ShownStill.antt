@@ -58,7 +58,7 @@ module _ (group : ℕ) (version : Version) (first : Now) (count : ℕ) (last : N
   apart_page : (h : Home) → StandsApart first h → last.pages h ≡ first.pages h
   apart_page h stands = same_page h stands.not_listed ((held_still group version first count last well steps h stands.low).stands stands).apart.off_table
 
-  -- where the pages behind it are read again
+  -- if the pages after it are read again
   page_again : (page : List ℕ) (others : List (List ℕ)) → ((start : Option Home) → IsIndexApart first start others → AreIndexPages first.pages start others → AreIndexPages last.pages start others) → (o : Option (List ℕ))
       → IsSomeAnd o (λ stored. IsIndexApart first (next_of stored) others) → IsSomeAnd o (λ stored. (page ≡ shown_index stored) × AreIndexPages first.pages (next_of stored) others) → IsSomeAnd o (λ stored. (page ≡ shown_index stored) × AreIndexPages last.pages (next_of stored) others)
   page_again page others later None apart are = are

@@ -145,7 +145,7 @@ module _ (group : ℕ) (version : Version) (old new : Now) (well : IsWell old) w
   was_listed (tag_page_goes s) home inside =
       subst (λ (hs : List Home). Contains hs home) (sym s.takes.last) (in_start s.takes.front (s.takes.home ∷ []) home (subst (λ l. Contains l.tag_pages home) s.takes.is inside))
 
-  -- a page that is held, no file's and not on the list stays so
+  -- a page that is held, no file's and not on the list stays like that
   pub held_on : (home : Home) → 1 ≤ home.vol → ((a : CellAt) (p : ℕ) → ¬ place_in old.files a p ≡ At home) → ¬ Contains old.list.tag_pages home → IsHeldApart old.space old.cells home
       → Step group version old new → IsHeldApart new.space new.cells home
   held_on home low no_file not_listed held (pages_go s) =

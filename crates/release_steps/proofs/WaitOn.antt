@@ -19,7 +19,7 @@ use Rattle.release_list.specs.Steps.{Now, Step, Steps, file_ends, more, none, pa
 use Rattle.release_list.proofs.Lists.{in_start}
 use Rattle.release_steps.specs.Waits.{Waits}
 
--- what is so of each volume stays so, where a change of one keeps it
+-- what holds of each volume still holds, if a change of one keeps it
 module _ (P : VolumeSpace → Type 0) where
   kept_by : (change : VolumeSpace → VolumeSpace) → ((v : VolumeSpace) → P v → P (change v)) → (o : Option VolumeSpace) → IsSomeAnd o P → IsSomeAnd (option_map change o) P
   kept_by change keeps None has = has

@@ -19,13 +19,13 @@ pub record StandsBeside (fileset : ℕ) (places : List TagPlace) (chains : Chain
   pub among : AreAmong now.domain places chains
   pub apart : (home : Home) → has_home now.places home ≡ true → has_home places home ≡ false
 
--- where a call puts a page at a home that the caller held, that is none of these
+-- if a call puts a page at a home that the caller held, the home is none of these
 abbrev pub IsApartOf : (fileset : ℕ) (version : Version) (tag : Tag) → List TagPlace
     → (old new : FilesetNow) → Call fileset version tag old new → Type 0
 IsApartOf fileset version tag places old new (moved s) = has_home places s.home ≡ false
 IsApartOf fileset version tag places old new _ = Unit {0}
 
--- so in each of some calls
+-- in each of some calls the home is none of these
 abbrev pub AreApartOf : (fileset : ℕ) (version : Version) (tag : Tag) → List TagPlace
     → (first last : FilesetNow) → Calls fileset version tag first last → Type 0
 AreApartOf fileset version tag places first last calls =

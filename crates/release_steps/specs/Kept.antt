@@ -22,18 +22,17 @@ IsBeside list at = (entry : Entry) → Contains list.entries entry
 abbrev pub HasNoEntry : Listing → CellAt → Type 0
 HasNoEntry list at = (entry : Entry) → Contains list.entries entry → ¬ entry.at ≡ at
 
--- a page of a file is none of those that go: where an entry is the file's, it stands in front of
--- them
+-- a page of a file is none of those that go: if an entry is the file's, the page stands before them
 abbrev pub Stays : Now → CellAt → ℕ → Type 0
 Stays now at page = (entry : Entry) → Contains now.list.entries entry → entry.at ≡ at
     → (chain : List PlacedCell) → now.files at ≡ Some chain → page < stale_from chain
 
--- a file is there, and its pages in front of those that go stand where they stood
+-- a file is there, and its pages before those that go stand where they stood
 abbrev pub KeepsFront : List PlacedCell → Option (List PlacedCell) → Type 0
 KeepsFront chain now = IsSomeAnd now (λ after. (page : ℕ) → page < stale_from chain
     → places_of after page ≡ places_of chain page)
 
--- a file is there that keeps all of 65,536 pages, and of which nothing is left to be let go of
+-- a file is there that keeps all of 65,536 pages, and has nothing left to let go of
 abbrev pub KeepsAll : Option (List PlacedCell) → Type 0
 KeepsAll now = IsSomeAnd now (λ after. (keep_of after ≡ Some 65536) × (left_of after ≡ None))
 

@@ -20,8 +20,8 @@ LeadOn pages homes =
 abbrev pub homes_of : List TagPlace → List Home
 homes_of places = map (λ (place : TagPlace). place.home) places
 
--- of a tag directory the pages in front are left, which are one if there is any, and just these are
--- on the list
+-- the first pages of a tag directory are left, at least one if there is any, and just these are on
+-- the list
 pub record IsLeft (places : List TagPlace) (now : Now) : Type 0 where
   pub left : List TagPlace
   pub gone : List TagPlace

@@ -10,7 +10,7 @@ use Rattle.release_list.specs.Listing.{Listing}
 use Rattle.release_list.specs.Steps.{Now}
 use Rattle.release_steps.specs.Waits.{waiting_at}
 
--- all is the same, but for the list
+-- all is the same except the list
 abbrev pub with_list : Listing → Now → Now
 with_list list now = record now { list = list }
 

@@ -46,7 +46,7 @@ pub record ReadCell : Type 0 where
 abbrev pub read_of : PlacedCell → ReadCell
 read_of c = record { at = c.at; head = c.cell.head; said = said_by c.cell.records }
 
--- the same as it stands in memory
+-- what is read of a quota cell as it stands in memory
 abbrev pub there_of : QuotaCell → ReadCell
 there_of c = record { at = c.at; head = c.head; said = c.said.items }
 
@@ -64,7 +64,7 @@ IsLast c (x ∷ y ∷ cs) = IsLast c (y ∷ cs)
 abbrev pub said_in : List PlacedCell → List Said
 said_in chain = map (λ (c : PlacedCell). said_by c.cell.records) chain
 
--- the chain of quota cells from there on; none where there is no first one
+-- the chain of quota cells from there on; none if there is no first one
 abbrev pub IsQuotaChain : Pages → Option CellAt → List PlacedCell → Type 0
 IsQuotaChain pages None chain = chain ≡ []
 IsQuotaChain pages (Some at) chain = IsQuotas pages at chain
@@ -75,7 +75,7 @@ with_limits who limits cells =
     option_map_or (λ k. with_quota k who limits cells) (touched cells who)
     (cells ++ ((who, limits) ∷ []) ∷ [])
 
--- the fileset that each cell says; one more is of the fileset where none is touched
+-- the fileset that each cell says; one more is of the fileset if none is touched
 abbrev pub filesets_in : List PlacedCell → List (Option ℕ)
 filesets_in chain = map (λ (c : PlacedCell). c.cell.head.fileset) chain
 

@@ -11,7 +11,7 @@ use Rattle.release_list.specs.Standing.{Files, with_file}
 use Rattle.release_list.specs.Steps.{Now}
 use Rattle.release_steps.specs.QuotaChain.{IsQuotaChain, SetsLimits, TakesIfUntouched, said_in}
 
--- the chain that begins there is one of a domain's; none is, where there is no first cell
+-- the chain that begins there is one of a domain's; if there is no first cell, there is no chain
 abbrev pub IsChainIn : Files → Option CellAt → List PlacedCell → Type 0
 IsChainIn files None chain = chain ≡ []
 IsChainIn files (Some at) chain = files at ≡ Some chain

@@ -12,7 +12,7 @@ use Rattle.release_steps.specs.Kept.{IsBeside}
 use Rattle.release_steps.specs.Tags.{start_of}
 use Rattle.release_steps.specs.Waits.{StandsApart}
 
--- from a home on each page of an index stands so
+-- from a home on, each page of an index stands apart
 abbrev pub IsIndexApart : Now → Option Home → List (List ℕ) → Type 0
 IsIndexApart now (Some home) (page ∷ more) = StandsApart now home
     × IsSomeAnd (now.pages home) (λ stored. IsIndexApart now (next_of stored) more)

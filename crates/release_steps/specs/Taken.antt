@@ -27,7 +27,7 @@ pub record IsGiven (fileset : ℕ) (version : Version) (tag : Tag) (first last :
   pub is : gives.home ≡ home
   pub later : Calls fileset version tag after last
 
--- so it was, or it is a page of cells, or of the tag directory
+-- the page was given like that, or it is a page of cells, or of the tag directory
 abbrev pub IsTaken : ℕ → Version → Tag → FilesetNow → FilesetNow → Home → Type 0
 IsTaken fileset version tag first last home = IsGiven fileset version tag first last home
     ⊎ (Contains (table_of last.domain.cells home.vol) home.page

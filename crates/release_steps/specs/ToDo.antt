@@ -20,7 +20,7 @@ is_there Absent = false
 abbrev pub goes : List PlacedCell → ℕ → Bool
 goes chain page = nat_le (stale_from chain) page && is_there (places_of chain page)
 
--- of how many numbers in front of one it is so
+-- for how many numbers below one this holds
 unfoldable pub count_below : (ℕ → Bool) → ℕ → ℕ
 count_below is zero = 0
 count_below is (suc n) = (if is n then 1 else 0) + count_below is n

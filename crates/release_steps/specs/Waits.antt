@@ -50,7 +50,8 @@ pub record IsLost (first last : Now) (home : Home) : Type 0 where
   pub was : place_in first.files at page ≡ At home
   pub nowhere : IsNowhere last.files home
 
--- so it is, or the home is that of a page of a tag directory which is on the list no more
+-- the home is lost like that, or it is that of a page of a tag directory that is on the list no
+-- more
 abbrev pub IsGivenUp : Now → Now → Home → Type 0
 IsGivenUp first last home = IsLost first last home
     ⊎ (Contains first.list.tag_pages home × ¬ Contains last.list.tag_pages home)

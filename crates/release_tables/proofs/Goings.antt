@@ -1,4 +1,4 @@
--- Files of which something is to be let go of, once they were cut or removed.
+-- Files that have something to be let go of, once they were cut or removed.
 use Rattle.std.proofs.Common.{◌≡◌, ◌∙◌, ℕ, List, [], ◌∷◌, Option, Some, None, IfSome, IsSomeAnd, refl, sym, ap, subst}
 use Rattle.std.specs.Option.{option_map, option_map_or}
 use Rattle.release_steps.specs.domain_base.declared.place.CellAt.{CellAt}

@@ -1,4 +1,4 @@
--- A file of which something is to be let go of, and lists of such.
+-- A file that has something to be let go of, and lists of such files.
 use Rattle.std.specs.Prelude.{◌≡◌, ℕ, List}
 use Rattle.release_steps.specs.domain_base.declared.place.CellAt.{CellAt}
 use Rattle.release_steps.specs.domain_base.declared.place.Home.{Home}

@@ -1,4 +1,4 @@
--- Two files of a world, of which the second may read through the first.
+-- Two files of a world; the second may read through the first.
 use Rattle.std.specs.Prelude.{◌≡◌, ℕ, List, None, Some}
 use Rattle.release_steps.specs.domain_base.declared.place.CellAt.{CellAt}
 use Rattle.release_steps.specs.domain_base.declared.place.Home.{Home}

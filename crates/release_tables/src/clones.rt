@@ -39,8 +39,8 @@ fn remove_two(alloc: Global, world: &mut World, file: Tag, clone: Tag) -> Result
     })
 }
 
-/// Takes the name of the second of two files, and sets the size of the first, of which something is
-/// to be let go of then.
+/// Takes the name of the second of two files, and sets the size of the first, which then has
+/// something to be let go of.
 fn remove_and_cut(
     alloc: Global,
     world: &mut World,
@@ -69,8 +69,8 @@ fn remove_and_cut(
     })
 }
 
-/// The record of a clone's file that reads through the one that begins there, of which so many
-/// pages were frozen. None where no cell has that number.
+/// The record of a clone's file that reads through the one that begins there, with `frozen`
+/// pages frozen. None if no cell has that number.
 fn clone_record(at: CellAt, frozen: u32) -> Option<Record>
     ensures { IfSome result (IsCloneOf at frozen) }
 {
@@ -85,8 +85,8 @@ fn clone_record(at: CellAt, frozen: u32) -> Option<Record>
     })
 }
 
-/// Says of the second file that it reads through the first, of which so many pages were frozen:
-/// a list on which nothing is.
+/// Says of the second file that it reads through the first, with `frozen` pages frozen; with an
+/// empty list.
 fn unlisted_pair(
     alloc: Global,
     world: &mut World,
@@ -143,8 +143,8 @@ fn list_pair(world: &World, list: &mut Deferred, pair: &Pair, listed: Listed) ->
     list_second(world, list, pair, listed == Listed::FirstThenSecond)
 }
 
-/// Says of the second file that it reads through the first, of which so many pages were frozen, and
-/// lists them.
+/// Says of the second file that it reads through the first, with `frozen` pages frozen, and lists
+/// them.
 fn listed_pair(
     alloc: Global,
     world: &mut World,
@@ -160,7 +160,7 @@ fn listed_pair(
     Ok(list)
 }
 
-/// A list of two files of which neither reads through the other, and of a page of a tag directory,
+/// A list of two files, neither reading through the other, and of a page of a tag directory,
 /// which is taken for it.
 fn listed_unrelated(alloc: Global, world: &mut World, pair: &Pair) -> Result<Deferred, Fail>
     requires { HasTwo world.old pair.now }
@@ -261,7 +261,7 @@ fn say_steps(out: &mut String, answer: &Result<u32, StoreFault>) -> Result<(), F
     }
 }
 
-/// Makes so many files.
+/// Makes `count` files.
 fn make_all(alloc: Global, world: &mut World, count: u32) -> Result<(), Fail>
     requires { IsWorld world.old }
     ensures { IfOk result (λ _. IsWorld world.new) }
@@ -272,8 +272,8 @@ fn make_all(alloc: Global, world: &mut World, count: u32) -> Result<(), Fail>
     Ok(())
 }
 
-/// So many other files, a file of so many pages, and one that reads those of them through it that
-/// were frozen; which of the two are listed, and whether a first call is stopped for want of room.
+/// `others` other files, a file of `own` pages, and one that reads its frozen pages through it;
+/// which of the two are listed, and whether a first call is stopped for want of room.
 #[derive(Clone, Copy)]
 struct Scene {
     others: u32,
@@ -283,8 +283,7 @@ struct Scene {
     is_stopped: bool,
 }
 
-/// The two files, of which the first was cut to a size, or its name was taken if that is 0, and the
-/// name of the second was taken.
+/// The two files: the first cut to a size, or removed if the size is 0, and the second removed.
 fn made_by(
     alloc: Global,
     world: &mut World,
@@ -311,8 +310,8 @@ fn made_by(
     }
 }
 
-/// A file of so many extents that is on a list, beside a clone's file of so many of its own, which
-/// reads those of its pages through it that were frozen.
+/// A file of `extents` extents that is on a list, beside a clone's file with `own` extents of its
+/// own, which reads its frozen pages through it.
 pub fn listed_beside(
     alloc: Global,
     world: &mut World,
@@ -345,7 +344,7 @@ fn say_pair(world: &World, pair: &Pair, out: &mut String) -> Result<(), Fail> {
 }
 
 /// Lets go of the first of two files, and says the steps, and what is seen of both then; and the
-/// runs that a cell of page 13 names, where other files fill the cells before it.
+/// runs that a cell of page 13 names, if other files fill the cells before it.
 fn say_handed_by(
     alloc: Global,
     world: &mut World,
@@ -378,8 +377,8 @@ fn is_left(list: &Deferred, pair: &Pair) -> bool {
         })
 }
 
-/// Lets go of the first of two files in two calls, of which the first has no room for its second
-/// step, and says its steps, whether the entry is left, the runs of its file, the second call's
+/// Lets go of the first of two files in two calls, the first without room for its second step, and
+/// says its steps, whether the entry is left, the runs of its file, the second call's
 /// answer, the free and waiting pages, and the misses.
 fn say_stopped_by(
     alloc: Global,

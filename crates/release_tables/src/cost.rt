@@ -118,7 +118,7 @@ fn way_of(word: &str) -> Way {
     }
 }
 
-/// A list of a file of so many pages that is cut to a size, or removed if that is 0.
+/// A list of a file of `count` pages that is cut to a size, or removed if that is 0.
 fn listed_of(
     alloc: Global,
     world: &mut World,
@@ -135,10 +135,10 @@ fn listed_of(
     listed(alloc, world, &at)
 }
 
-/// A list of the file that a line says: it has so many extents, or as many before page 20,000 as
-/// after it, by turns (mixed), and so many numbers are left of a trim; or it is removed beside a
-/// clone's file with so many extents of its own, which reads those of its pages through it that
-/// were frozen.
+/// A list of the file that a line says. Its numbers are the extents of the file, or half of them if
+/// they are given by turns (mixed), and the pages that a trim leaves; or the file is removed beside
+/// a clone's file, which has the second number of extents of its own, and reads its frozen pages
+/// through it.
 fn listed_by(
     alloc: Global,
     world: &mut World,

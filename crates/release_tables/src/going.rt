@@ -97,7 +97,8 @@ pub fn release_by<M: MetaPages>(
     list.release_some(alloc, pages, space, cells, 5, version, 30)
 }
 
-/// The same of a world, in which the first step looks from a file's first cell on.
+/// Lets go of things of a list of a world in one call, whose first step looks from a file's first
+/// cell on.
 pub fn release(
     alloc: Global,
     world: &mut World,
@@ -119,7 +120,7 @@ pub fn release(
     )
 }
 
-/// The same in 20 calls.
+/// Lets go of things of a list of a world in 20 calls.
 pub fn release_all(
     alloc: Global,
     world: &mut World,

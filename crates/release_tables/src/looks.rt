@@ -15,7 +15,7 @@ pub struct Counted {
 }
 
 impl Counted {
-    /// These pages, of which none was looked at or changed yet.
+    /// These pages, none of them looked at or changed yet.
     pub fn new(pages: MemoryPages) -> Counted
         ensures { result.pages ≡ pages }
     {

@@ -1,5 +1,5 @@
 //! Pages, cells and files that are let go of little by little: a program that does what the lines
-//! that it reads name, and prints each line with its answer. What stands in its input is what no
+//! that it reads name, and prints each line with its answer. Its input covers what no
 //! clause says; the functions with contracts are callers that show what the calls promise one after
 //! the other.
 #![tactic(auto)]

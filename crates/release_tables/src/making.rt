@@ -130,7 +130,7 @@ pub enum Way {
     Mixed,
 }
 
-/// The page that comes at a place of so many.
+/// The page that comes at a place among `count`.
 fn page_at(way: Way, place: u32, count: u32) -> u32
     requires there { place < count }
     requires few { count ≤ 2000 }
@@ -143,7 +143,7 @@ fn page_at(way: Way, place: u32, count: u32) -> u32
     }
 }
 
-/// So many pages.
+/// The `count` pages in their order.
 fn pages_by(alloc: Global, way: Way, count: u32) -> Result<Vec<u32>, Fail>
     requires { count ≤ 2000 }
 {
@@ -154,7 +154,7 @@ fn pages_by(alloc: Global, way: Way, count: u32) -> Result<Vec<u32>, Fail>
     Ok(pages)
 }
 
-/// Makes a file of so many pages.
+/// Makes a file of `count` pages.
 pub fn make_by(
     alloc: Global,
     world: &mut World,
@@ -170,7 +170,7 @@ pub fn make_by(
     make_of(alloc, world, pages.as_slice(), version)
 }
 
-/// Sets the size of a file: its first cell, where something is left to be done then.
+/// Sets the size of a file: its first cell, if something is left to be done then.
 pub fn cut(alloc: Global, world: &mut World, tag: Tag, size: u64) -> Result<Option<CellAt>, Fail>
     requires { IsWorld world.old }
     ensures world { IfOk result (λ _. IsWorld world.new) }

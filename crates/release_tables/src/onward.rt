@@ -1,4 +1,4 @@
-//! Lists of which steps go on where those of an earlier call were, with files made between the
+//! Lists whose steps go on where those of an earlier call were, with files made between the
 //! calls.
 ghost use Rattle.std.specs.Prelude.{IfOk};
 ghost use Rattle.release_tables.specs.Onward.{GoesOnFrom};

@@ -1,4 +1,4 @@
-//! Two files of which the second may read through the first.
+//! Two files; the second may read through the first.
 use release_steps::CellAt;
 
 /// The first cells of two files that no tag names.

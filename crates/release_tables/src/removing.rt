@@ -129,7 +129,7 @@ fn say_look(world: &World, list: &Deferred, out: &mut String) -> Result<(), Fail
     say_counts(out, counts(world))
 }
 
-/// Makes a file of six pages, one of six that is cut to two, of which the others are on the list,
+/// Makes a file of six pages, one of six that is cut to two, whose others are on the list,
 /// and a directory of three pages.
 fn make_three(alloc: Global, world: &mut World, list: &mut Deferred) -> Result<(), Fail>
     requires { HasStood world.old list.old.list }
@@ -141,7 +141,7 @@ fn make_three(alloc: Global, world: &mut World, list: &mut Deferred) -> Result<(
     cut_listed(alloc, world, list, tag, 16_384)
 }
 
-/// Takes up to so many tags out of use, and then lets go of things in one call: it says how many
+/// Takes up to `most` tags out of use, and then lets go of things in one call: it says how many
 /// tags and steps that were, and what is seen then.
 fn go_on(
     alloc: Global,

@@ -77,8 +77,8 @@ fn say_trimmed(
     say_counts(out, counts(world))
 }
 
-/// Lets go of what is on a list, and says the steps, and the free and waiting pages after; where it
-/// is a page, once the group is durable too, and once the log has passed it.
+/// Lets go of what is on a list, and says the steps, and the free and waiting pages after; if it is
+/// a page, once the group is durable too, and once the log has passed it.
 fn say_released(
     alloc: Global,
     world: &mut World,

@@ -14,7 +14,7 @@ use Rattle.domain_making.specs.declared.fault.MakeFault.TheVariants as fault
 use Rattle.run_parts.specs.declared.status.Status.{Status}
 use Rattle.run_parts.specs.declared.status.Status.TheVariants as status
 
--- the status where no domain is made
+-- the status if no domain is made
 abbrev pub status_of_make_fault : MakeFault → Status
 status_of_make_fault (fault.VolumeSmall pages) = status.VolumeSmall pages
 status_of_make_fault (fault.Fault vol) = status.VolumeFault vol
@@ -74,7 +74,7 @@ abbrev pub Guards : Bool → Disk → Disk → Type 0
 Guards true old new = Unit {0}
 Guards false old new = OnlyReads old new ⊎ FindsUsed old None
 
--- where the first volume is too small for a domain, the status says that and nothing else
+-- if the first volume is too small for a domain, the status says that and nothing else
 abbrev pub TellsOfSmall : Disk → Status → Type 0
 TellsOfSmall disk end =
     let pages = volume_pages disk.sizes 1 in

@@ -27,9 +27,9 @@ pub record Follows (left : Option (List ℕ)) (read : List ℕ) (history : List 
   pub is_script : IsScript left read script
   pub shuffle : Shuffle history (section_of script)
 
--- how a run ends that gets no script: too long exactly where one byte more was read than a script
--- may have, and bad exactly where the script that was read to its end has such a bad line. No more
--- bytes are ever read than that one
+-- how a run ends that gets no script: too long only if one byte more was read than a script may
+-- have, and bad only if the script was read to its end and has such a bad line. No more bytes are
+-- ever read than that one
 abbrev pub GetsNoScript : Option (List ℕ) → List ℕ → Status → Type 0
 GetsNoScript left read (status.Usage word) = read ≡ []
 GetsNoScript left read status.SourceFault = IsShort read
@@ -39,8 +39,8 @@ GetsNoScript left read (status.BadScript line kind) =
 GetsNoScript left read status.OutOfMemory = IsNoLonger read
 GetsNoScript left read other = ⊥
 
--- what was read, by how a run ended and the history that it has: where a run has begun, a script that
--- the history follows; and where it could not begin, a script, if the domain was why
+-- what was read, by how a run ended and the history that it has: if a run has begun, a script that
+-- the history follows; and if it could not begin, a script, if the domain was why
 abbrev pub HasRead : Option (List ℕ) → List ℕ → Status → List Entry → Type 0
 HasRead left read status.Ok history = Follows left read history
 HasRead left read status.SinkFault history = Follows left read history

@@ -4,7 +4,7 @@ use Rattle.std.specs.Io.KnownBytes.{Appends}
 use Rattle.run_parts.specs.declared.transfer.ReadError.{ReadError}
 use Rattle.run_parts.specs.declared.transfer.ReadError.TheVariants.{SourceFault, TooLong, OutOfMemory}
 
--- too long exactly where one byte more was read than the limit, and never more than that
+-- too long only if one byte more than the limit was read; no more than that is ever read
 abbrev pub StopsAfter : ℕ → ReadError → List ℕ → Type 0
 StopsAfter limit SourceFault read = length read ≤ limit
 StopsAfter limit TooLong read = length read ≡ limit + 1

@@ -10,11 +10,11 @@ use Rattle.domain_faults.specs.word_forms.Forms.{number_below}
 use Rattle.run_parts.specs.declared.words.Form.{Form}
 use Rattle.run_parts.specs.declared.words.Form.TheVariants.{Try, Run, Make, Verify}
 
--- decimal digits, of which the first is not 0
+-- decimal digits, the first not 0
 abbrev pub are_plain_digits : List ℕ → Bool
 are_plain_digits word = list_all is_ascii_digit word && not (slice_index word 0 == 48)
 
--- the number, where a volume may have so many pages
+-- the number, if a volume may have that many pages
 abbrev pub in_range : Option ℕ → Option ℕ
 in_range number =
     option_and_then (λ n. if nat_le 64 n && nat_le n 65_536 then Some n else None) number
@@ -24,9 +24,9 @@ abbrev pub asked_pages : List ℕ → Option ℕ
 asked_pages word = if are_plain_digits word then in_range (number_below (2 ^ 32) word) else None
 
 -- What is asked for, or how many words of the line stand before the first one that is out of place;
--- that is all of them where one is missing.
+-- that is all of them if one is missing.
 
--- of the words after a form that is whole, so many words before them
+-- the words after a whole form, with `count` words before them
 abbrev pub form_end : ℕ → Form → List (List ℕ) → Result Form ℕ
 form_end count form [] = Ok form
 form_end count form (word ∷ words) = Err count
@@ -37,37 +37,38 @@ try_form [] = Err 1
 try_form (word ∷ words) =
     option_map_or (λ pages. form_end 2 (Try pages) words) (asked_pages word) (Err 1)
 
--- the name of an image, so many words before it
+-- the name of an image, with `count` words before it
 abbrev pub image_form : ℕ → Form → List (List ℕ) → Result Form ℕ
 image_form count form [] = Err count
 image_form count form ([] ∷ words) = Err count
 image_form count form ((byte ∷ bytes) ∷ words) = form_end (suc count) form words
 
--- the names of so many more images at most
+-- the names of at most `most` more images
 abbrev pub more_images : ℕ → ℕ → Form → List (List ℕ) → Result Form ℕ
 more_images most count form [] = Ok form
 more_images most count form ([] ∷ words) = Err count
 more_images most count form ((byte ∷ bytes) ∷ words) =
     if most == 0 then Err count else more_images (most - 1) (suc count) form words
 
--- the names of one to eight images, so many words before them
+-- the names of one to eight images, with `count` words before them
 abbrev pub images_form : ℕ → Form → List (List ℕ) → Result Form ℕ
 images_form count form [] = Err count
 images_form count form (word ∷ words) = more_images 8 count form (word ∷ words)
 
--- the name of a script, so many words before it, and images
+-- the name of a script, with `count` words before it, and images
 abbrev pub script_form : ℕ → List (List ℕ) → Result Form ℕ
 script_form count [] = Err count
 script_form count ([] ∷ words) = Err count
 script_form count ((byte ∷ bytes) ∷ words) = images_form (suc count) Run words
 
--- the words after `run`: a script and images, after `-r` to be opened for reading alone
+-- the words after `run`: a script and images; after `-r` they are opened read-only
 abbrev pub run_form : List (List ℕ) → Result Form ℕ
 run_form [] = Err 1
 run_form (word ∷ words) =
     if bytes_eq word (codes "-r") then script_form 2 words else script_form 1 (word ∷ words)
 
--- an image for a domain of this version, so many words before it, after `-o` to be overwritten
+-- an image for a domain of this version, with `count` words before it; after `-o`, one to be
+-- overwritten
 abbrev pub version_form : ℕ → Version → List (List ℕ) → Result Form ℕ
 version_form count version [] = Err count
 version_form count version (word ∷ words) =

@@ -30,7 +30,7 @@ abbrev pub first_row : ℕ → ℕ → FaultRow
 first_row vol at = record { code = first_code at; home = record { vol = vol; page = at } }
 
 -- the first page that is none of a domain is listed alone; else the faults of the domain's pages,
--- once its log is redone; and none where the image means filesets
+-- once its log is redone; and none if the image means filesets
 abbrev pub AreFaultsOf : List ℕ → Image → List FaultRow → Type 0
 AreFaultsOf sizes image rows =
     ((vol at : ℕ) × IsFirstFault sizes image vol at × (rows ≡ first_row vol at ∷ []))
@@ -43,12 +43,12 @@ rows_of (NoDomain vol at) = first_row vol at ∷ []
 rows_of (Faulty rows) = rows_there rows.items
 rows_of (Filesets all) = []
 
--- the filesets of a meaning are so many
+-- a meaning has `count` filesets
 abbrev pub HasFilesets : Meaning → ℕ → Type 0
 HasFilesets (Filesets all) count = count ≡ map.len all
 HasFilesets other count = ⊥
 
--- so many filesets are what an image means
+-- an image means `count` filesets
 abbrev pub CountsFilesets : List ℕ → Image → ℕ → Type 0
 CountsFilesets sizes image count =
     (all : FilesetMap) × Means sizes image all × (count ≡ map.len all)
@@ -70,13 +70,13 @@ faults_text rows = flat_map fault_line rows
 abbrev pub ListsFaults : Disk → List FaultRow → Type 0
 ListsFaults disk rows = Tells disk → AreFaultsOf disk.sizes disk.now.contents rows
 
--- the status where it is not known what an image means
+-- the status if it is not known what an image means
 abbrev pub status_of_read_fault : ReadFault → Status
 status_of_read_fault (fault.Fault vol) = status.VolumeFault vol
 status_of_read_fault fault.OutOfMemory = status.OutOfMemory
 
--- these faults are printed, and there is none, or so many; or those in front; or nothing, for want
--- of memory
+-- these faults are printed, and there are none, or as many as the status says; or a front part of
+-- their text is printed; or nothing, for want of memory
 abbrev pub PrintEnds : List FaultRow → Status → Option (List ℕ) → Option (List ℕ) → Type 0
 PrintEnds rows status.Ok before after = (rows ≡ []) × Appends before after []
 PrintEnds rows (status.Found faults) before after =
@@ -85,8 +85,8 @@ PrintEnds rows status.SinkFault before after = AppendsFront before after (faults
 PrintEnds rows status.OutOfMemory before after = after ≡ before
 PrintEnds rows other before after = ⊥
 
--- so the faults of what a rack holds are printed; or nothing, where a read failed of the volume that
--- is named
+-- the faults of what a rack holds are printed in this way; or nothing, if a read of the volume
+-- that is named failed
 abbrev pub VerifyEnds : Disk → Disk → Status → Option (List ℕ) → Option (List ℕ) → Type 0
 VerifyEnds old new (status.VolumeFault vol) before after =
     (new.read_faults ≡ raised_at old.read_faults vol) × (after ≡ before)

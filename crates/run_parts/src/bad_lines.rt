@@ -69,7 +69,7 @@ fn paired(pairs: &[(&str, &'static str)], text: &str) -> &'static str {
     ""
 }
 
-/// Whether bytes are a path with at least so many names.
+/// Whether bytes are a path with at least `least` names.
 fn is_path(alloc: Global, word: &[u8], least: usize) -> Result<bool, OutOfMemory> {
     if word == b"/".as_slice() {
         return Ok(least == 0);
@@ -90,7 +90,7 @@ fn is_path(alloc: Global, word: &[u8], least: usize) -> Result<bool, OutOfMemory
     Ok(true)
 }
 
-/// Whether bytes are a place with at least so many names.
+/// Whether bytes are a place with at least `least` names.
 pub fn is_place(alloc: Global, word: &[u8], least: usize) -> Result<bool, OutOfMemory> {
     let (front, path) = halves(word, b':');
     if fileset(alloc, front).is_err() {
@@ -221,7 +221,7 @@ pub struct BadLine<'a> {
 }
 
 impl<'a> BadLine<'a> {
-    /// The bad line of a script with this text, of which the number and the fault are known.
+    /// The bad line of a script with this text, given its number and its fault.
     pub fn of(
         alloc: Global,
         text: &'a [u8],

@@ -22,8 +22,7 @@ pub struct DomainCounts {
     pub files: u64,
 }
 
-/// How verifying ended. Of a domain without a fault it is also counted what it has, if there is
-/// memory for that.
+/// How verifying ended. If the domain has no fault, also its counts, if there is memory for them.
 #[derive(Clone, Copy, Debug, PartialEq, Eq)]
 pub struct Findings {
     pub status: Status,

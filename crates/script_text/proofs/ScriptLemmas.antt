@@ -31,7 +31,7 @@ sections_of-opens (Opens m ∷ statements) n =
     ∙ ap (λ ss. section m (commands_at_front statements) ∷ ss) (sections_of-opens statements n)
 sections_of-opens (Gives c ∷ statements) n = sections_of-opens statements n
 
--- a command more is the section's that is open, and before the next one where there is none
+-- one more command belongs to the section that is open, and if none is, comes before the next one
 commands_at_front-none : (statements : List Statement) (c : Command) → sections_of statements ≡ [] → commands_at_front (statements ++ Gives c ∷ []) ≡ commands_at_front statements ++ c ∷ []
 commands_at_front-none [] c none = refl
 commands_at_front-none (Opens m ∷ statements) c none = absurd (cc)

@@ -19,7 +19,7 @@ before-stop p b bs e = rw e refl
 pub before-more : (p : ℕ → Bool) (b : ℕ) (bs : List ℕ) → p b ≡ false → before p (b ∷ bs) ≡ suc (before p bs)
 before-more p b bs e = rw e (one_more (before p bs))
 
--- one passes exactly where fewer stand before it than there are
+-- one passes if and only if fewer stand before it than there are
 pub any_within : (p : ℕ → Bool) (bs : List ℕ) → before p bs < length bs → list_any p bs ≡ true
 any_within p [] some = absurd (omega (arith, some))
 any_within p (b ∷ bs) some = elim (cases_Bool (p b)) [
@@ -52,7 +52,7 @@ within-goes (b ∷ bs) = elim (cases_Bool (is_blank b)) [
   | inr fails ↦ rw (before-more is_blank b bs fails) (within-more b bs fails ∙ ap (onto_first b) (within-goes bs))
 ]
 
--- within quotes, the word goes on behind the next quote
+-- within quotes, the word goes on after the next quote
 quoted-goes : (bs : List ℕ) → list_any is_quote bs ≡ true → words_from Quoted bs ≡ Goes (take (suc (before is_quote bs)) bs) (drop (suc (before is_quote bs)) bs)
 quoted-goes [] some = absurd (false≢true some)
 quoted-goes (b ∷ bs) some = elim (cases_Bool (is_quote b)) [
@@ -77,7 +77,7 @@ first_goes b bs word = elim (cases_Bool (is_quote b && list_any is_quote bs)) [
   | inr fails ↦ rw (word, fails) (ap (onto_first b) (within-goes bs))
 ]
 
--- the first word and those behind it
+-- the first word and those after it
 pub words_of-first : (text : List ℕ) (n : ℕ) → 0 < length text → is_blank (slice_index text 0) ≡ false → n ≡ cond (is_quote (slice_index text 0) && list_any is_quote (drop 1 text)) (before is_quote (drop 1 text) + 2) 1 →
     words_of text ≡ take (n + before is_blank (drop n text)) text ∷ words_of (drop (n + before is_blank (drop n text)) text)
 words_of-first [] n some word e = absurd (omega (arith, some))

@@ -107,11 +107,11 @@ refusal_text r =
 
 -- ** Replies
 
--- a name, with `/` behind a directory's
+-- a name, with `/` after a directory's
 abbrev pub name_item_text : NameItem → List ℕ
 name_item_text item = name_text item.name ++ (if item.directory then codes "/" else [])
 
--- a fileset, with its original behind `<` where it is a clone
+-- a fileset, with its original after `<` if it is a clone
 abbrev pub original_text : Option (List ℕ) → List ℕ
 original_text None = []
 original_text (Some original) = codes "<" ++ original
@@ -139,7 +139,7 @@ extent_item_text item =
 abbrev pub logged_text : Bool → List ℕ
 logged_text logged = if logged then codes "log" else codes "-"
 
--- the words behind `ok`
+-- the words after `ok`
 abbrev pub reply_words : Reply → List (List ℕ)
 reply_words reply.Done = []
 reply_words (reply.Count n) = decimal n ∷ []

@@ -39,7 +39,7 @@ abbrev pub keyword_of : List ℕ → Option Keyword
 keyword_of word = if is_section_word word then Some keyword.Client
     else option_map keyword.Command (verb_in_scripts word)
 
--- whether its line may have so many words
+-- whether its line may have `count` words
 abbrev pub takes_count : Keyword → ℕ → Bool
 takes_count keyword.Client count = count == 2
 takes_count (keyword.Command verb) count = takes verb count

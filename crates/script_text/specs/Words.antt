@@ -21,7 +21,7 @@ pub data Spot : Type 0 where
   Quoted : Spot
 
 -- the words of the rest of a line. A word that begins with a quote takes in all up to the next
--- quote, where there is one
+-- quote, if there is one
 abbrev pub words_from : Spot → List ℕ → List (List ℕ)
 words_from Between [] = []
 words_from Within [] = [] ∷ []

@@ -86,7 +86,7 @@ GoesOnAtSlot said number d now at =
 abbrev pub GoesOnAround : Said → ℕ → DomainNow → DomainNow → Type 0
 GoesOnAround said number d now = StandsAround number now × StaysAround said number d now
 
--- a page of which nothing is changed has the bytes that it had
+-- a page in which nothing is changed has the bytes that it had
 abbrev pub BytesFollow : DomainNow → DomainNow → Type 0
 BytesFollow d now =
     (home : Home) → now.pages home ≡ d.pages home → now.contents home ≡ d.contents home

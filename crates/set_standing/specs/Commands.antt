@@ -40,13 +40,13 @@ pub record WritesFile (pages : Pages) (offset : ℕ) (bytes : List ℕ) (content
       ≡ (if is_touched offset (length bytes) page then Some (page_after pages offset bytes page)
       else bytes_of contents seen page)
 
--- a page of a file that is cut, with zeros behind the end
+-- a page of a file that is cut, with zeros after the end
 abbrev pub zeros_behind : ℕ → ℕ → List ℕ → List ℕ
 zeros_behind size page bytes =
     let at = size % PAGE_BYTES in
     if page == size / PAGE_BYTES then overwritten bytes at (zero_bytes (PAGE_BYTES - at)) else bytes
 
--- of the pages that it has, the last one has zeros behind the end, and each other is as it was
+-- of the pages that it has, the last one has zeros after the end, and each other is as it was
 abbrev pub ClearsBehind : ℕ → Contents → Contents → SeenFile → Type 0
 ClearsBehind size contents now seen =
     (page : ℕ) (home : Home) → seen.homes page ≡ Some home

@@ -38,7 +38,7 @@ abbrev pub ComesFrom : DomainNow → DomainNow → Option (List PlacedCell) → 
 ComesFrom d now None is = is.is.kind ≡ File → IsEmptyFile is
 ComesFrom d now (Some cells) is = IsSomeAnd (seen_in cells) (λ was. IsStill d now was is)
 
--- of which directory it was said in which one it stands, if of one
+-- the directory of which a parent was said, with that parent, if there is one
 abbrev pub Said : Type 0
 Said = Option (Tag × Tag)
 
@@ -68,7 +68,7 @@ TagsFollow said number d now chains chains_now = (tag : Tag)
     → TagFollows said d now (last_sequence d.pages (d.tags number) tag.slot) tag (chains tag)
     (chains_now tag)
 
--- and the tag directory has the pages that it had and more behind them, with no lower sequence
+-- and the tag directory has the pages that it had and more after them, with no lower sequence
 pub record FilesFollow (said : Said) (number : ℕ) (d now : DomainNow) : Type 0 where
   pub more : List TagPlace
   pub grows : now.tags number ≡ d.tags number ++ more

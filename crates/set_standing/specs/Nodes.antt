@@ -30,7 +30,7 @@ abbrev pub with_size : ℕ → Bool → Node → Node
 with_size size flag (File uid gid was logged pages) = File uid gid size flag pages
 with_size size flag (Directory uid gid) = Directory uid gid
 
--- the file has that size, and of its pages only those that begin in front of its end
+-- the file has that size, and of its pages only those that begin before its end
 abbrev pub cut_to : ℕ → Node → Node
 cut_to size (File uid gid was logged pages) =
     File uid gid size logged (retain_keys pages (λ q. nat_lt (q * PAGE_BYTES) size))

@@ -9,13 +9,13 @@ ghost use Rattle.standing_laws.specs.Sound.{IsSound};
 ghost use Rattle.set_standing.specs.Around.{GoesOnAround, StandsAround};
 ghost use Rattle.set_standing.specs.Follow.{Said};
 
-/// If nothing is changed, the domain stands on around a slot.
+/// If nothing is changed, the domain around a slot still stands.
 pub fn all_stays_around()
     ensures { (number : ℕ) (d : DomainNow) → StandsAround number d → GoesOnAround None number d d }
 {}
 
-/// It also does after two changes, if it does after each. What the second says of a directory is
-/// said then, if the first says nothing.
+/// The domain around a slot still stands after two changes, if it does after each. If the first
+/// says nothing of directories, both together say of one what the second says of it.
 pub fn changes_around_join()
     ensures { (said : Said) (number : ℕ) (d between now : DomainNow)
         → GoesOnAround None number d between → GoesOnAround said number between now

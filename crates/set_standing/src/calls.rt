@@ -16,7 +16,7 @@ ghost use Rattle.standing_laws.specs.Leads.{IsLiveOf};
 ghost use Rattle.standing_laws.specs.OtherPages.{KeepsPlaces};
 ghost use Rattle.set_standing.specs.Around.{BytesFollow, ChangesSlot, GoesOnAround, StandsAround};
 
-/// If a call was refused, and at most a miss was counted, the domain stands on around the slot.
+/// If a call was refused, and at most a miss was counted, the domain around the slot still stands.
 pub fn all_stands_around_a_call_that_does_nothing()
     ensures { (number : ℕ) (d now : DomainNow) → StandsAround number d → ChangesSlot number d now
         → BytesFollow d now → now.tags number ≡ d.tags number → now.cells ≡ d.cells
@@ -24,7 +24,8 @@ pub fn all_stands_around_a_call_that_does_nothing()
         → GoesOnAround None number d now }
 {}
 
-/// It also does if a file or directory is made that belongs to no clone that was not made.
+/// The domain around the slot still stands if a file or directory is made that belongs to no clone
+/// that was not made.
 pub fn all_stands_around_a_file_that_is_made()
     ensures { (number : ℕ) (tag : Tag) (what : NewFile) (prefer : ℕ) (d now : DomainNow)
         → (around : StandsAround number d) → ChangesSlot number d now
@@ -39,8 +40,8 @@ pub fn all_stands_around_a_file_that_is_made()
         → GoesOnAround None number d now }
 {}
 
-/// It also does if the first cell of a file or directory says another number of links, from 1 to
-/// 1,000.
+/// The domain around the slot still stands if the first cell of a file or directory says another
+/// number of links, from 1 to 1,000.
 pub fn all_stands_around_links_that_are_set()
     ensures { (number : ℕ) (tag : Tag) (was : Attributes) (links : ℕ) (d now : DomainNow)
         → (around : StandsAround number d) → KeepsPlaces d now → BytesFollow d now
@@ -51,7 +52,8 @@ pub fn all_stands_around_links_that_are_set()
         → GoesOnAround None number d now }
 {}
 
-/// It also does if the first cell of a directory says another directory in which it stands.
+/// The domain around the slot still stands if the first cell of a directory says that it stands in
+/// another directory.
 pub fn all_stands_around_a_parent_that_is_said()
     ensures { (number : ℕ) (tag parent : Tag) (d now : DomainNow)
         → (around : StandsAround number d) → KeepsPlaces d now → BytesFollow d now

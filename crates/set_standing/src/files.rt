@@ -36,7 +36,7 @@ pub fn all_stands_around_a_file_that_is_described()
         (λ page. ⊥) around.chains d now }
 {}
 
-/// It also does if other bytes are put at the home of a file's page.
+/// The domain around the slot still stands if other bytes are put at the home of a file's page.
 pub fn all_stands_around_a_page_of_a_file_that_is_put()
     ensures { (number : ℕ) (tag : Tag) (page : ℕ) (d now : DomainNow)
         → (around : StandsAround number d) → KeepsPlaces d now → BytesFollow d now
@@ -47,8 +47,8 @@ pub fn all_stands_around_a_page_of_a_file_that_is_put()
         d now }
 {}
 
-/// It also does if a file gets a home for a page that it does not have, and these bytes are put
-/// there.
+/// The domain around the slot still stands if a file gets a home for a page that it does not have,
+/// and these bytes are put there.
 pub fn all_stands_around_a_file_that_gets_a_page()
     ensures { (number : ℕ) (tag : Tag) (page : ℕ) (bytes : List ℕ) (prefer : ℕ)
         (d now : DomainNow) (chain : List PlacedCell) → (around : StandsAround number d)
@@ -60,9 +60,9 @@ pub fn all_stands_around_a_file_that_gets_a_page()
         → ChangesOneFile number tag (placed page (At gets.home)) (λ k. ⊥) around.chains d now }
 {}
 
-/// It also does if a file is cut: it then has that size, and pages after its end may be stale and
-/// are to be let go of. If nothing is left to be done for the file, nothing is listed; otherwise
-/// the file is on the list.
+/// The domain around the slot still stands if a file is cut: the file then has the new size, and
+/// pages after its end may be stale and are to be let go of. If nothing is left to be done for the
+/// file, nothing is listed; otherwise the file is on the list.
 pub fn all_stands_around_a_file_that_is_cut()
     ensures none { (number : ℕ) (tag : Tag) (size : ℕ) (d now : DomainNow)
         → (around : StandsAround number d) → KeepsPlaces d now → BytesFollow d now

@@ -10,7 +10,7 @@ ghost use Rattle.standing_laws.specs.IndexCalls.{KeepsTables};
 ghost use Rattle.standing_laws.specs.OtherPages.{KeepsPlaces};
 ghost use Rattle.set_standing.specs.Around.{BytesFollow, GoesOnAround, StandsAround};
 
-/// The domain stands on around the slot if a page of a directory's index is put in place of
+/// The domain around the slot still stands if a page of a directory's index is put in place of
 /// another.
 pub fn all_stands_around_an_index_page_that_is_written()
     ensures { (number : ℕ) (tag : Tag) (start : CellAt) (page : ℕ) (bytes : List ℕ)
@@ -20,7 +20,7 @@ pub fn all_stands_around_an_index_page_that_is_written()
         (around.indexes start) d.pages now.pages → GoesOnAround None number d now }
 {}
 
-/// It also does if a free page is put into the index.
+/// The domain around the slot still stands if a free page is put into the index of a directory.
 pub fn all_stands_around_an_index_page_that_is_put_in()
     ensures { (number : ℕ) (tag : Tag) (start : CellAt) (place prefer : ℕ) (bytes : List ℕ)
         (d now : DomainNow) → (around : StandsAround number d) → KeepsTables d now

@@ -13,7 +13,7 @@ ghost use Rattle.standing_laws.specs.Leads.{IsLiveOf};
 ghost use Rattle.standing_laws.specs.OtherPages.{KeepsPlaces};
 ghost use Rattle.set_standing.specs.Around.{BytesFollow, ChangesSlot, GoesOnAround, StandsAround};
 
-/// The domain stands on around the slot if a page of a directory is put in place of the one that
+/// The domain around the slot still stands if a page of a directory is put in place of the one that
 /// stood there.
 pub fn all_stands_around_a_page_that_is_written()
     ensures { (number : ℕ) (tag : Tag) (page : ℕ) (d now : DomainNow)
@@ -24,7 +24,7 @@ pub fn all_stands_around_a_page_that_is_written()
         → GoesOnAround None number d now }
 {}
 
-/// It also does if a directory gets a page after its last one.
+/// The domain around the slot still stands if a directory gets a page after its last one.
 pub fn all_stands_around_a_directory_that_gets_a_page()
     ensures { (number : ℕ) (tag : Tag) (page : ℕ) (bytes : List ℕ) (prefer : ℕ)
         (d now : DomainNow) → (around : StandsAround number d) → ChangesSlot number d now

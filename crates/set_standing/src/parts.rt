@@ -5,14 +5,15 @@ ghost use Rattle.standing_laws.specs.domain_base.declared.version.Version.{Versi
 ghost use Rattle.set_standing.specs.Follow.{Said};
 ghost use Rattle.set_standing.specs.Parts.{KeepsAround, Parts};
 
-/// If no part changes, whatever domain stands around the slot stands on.
+/// If no part changes, a domain that stands around the slot still does.
 pub fn parts_that_stay_keep_all_around()
     ensures { (number : ℕ) (version : Version) (born : ℕ) (parts : Parts)
         → KeepsAround None number version born [] parts parts }
 {}
 
-/// It also does after two changes, if it does after each. What both take away is put on the list,
-/// and what the second says of a directory is said then, if the first says nothing.
+/// The domain around the slot still stands after two changes, if it does after each. What both take
+/// away is put on the list. If the first says nothing of directories, both together say of one what
+/// the second says of it.
 pub fn changes_of_parts_join()
     ensures { (said : Said) (number : ℕ) (version : Version) (born : ℕ) (removed more : List CellAt)
         (parts between parts_now : Parts)

@@ -18,9 +18,9 @@ ghost use Rattle.standing_laws.specs.domain_standing.Sources.{StandAlone};
 ghost use Rattle.standing_laws.specs.domain_standing.Standing.{HaveParents, IsMarkedBut, StandsDomain};
 ghost use Rattle.set_standing.specs.Around.{BytesFollow, GoesOnAround, GoesOnAtSlot, StandsAround, StandsAtSlot};
 
-/// The domain stands on around the slot if a file or directory is taken away with its index, once
-/// it is put on the list. No clone is given its file, since no file of the domain is read through
-/// another.
+/// The domain around the slot still stands if a file or directory is taken away with its index,
+/// once it is put on the list. No clone is given its file, since no file of the domain is read
+/// through another.
 pub fn all_stands_around_a_file_that_is_taken_away()
     ensures { (number : ℕ) (tag : Tag) (start : CellAt) (group : ℕ) (d now : DomainNow)
         → (around : StandsAround number d) → KeepsTables d now → BytesFollow d now
@@ -57,8 +57,8 @@ pub fn all_goes_on_where_a_file_of_any_slot_is_taken_away()
         → GoesOnAtSlot None number d (record now { list = listed }) at }
 {}
 
-/// So if it is taken from what is being removed, the domain stands for the same filesets, and is as
-/// the rules of pages ask if it was before.
+/// If a file or directory is taken from what is being removed, the domain stands for the same
+/// filesets, and is as the rules of pages ask if it was before.
 pub fn filesets_stay_where_a_file_of_what_is_removed_goes()
     ensures stands { (number : ℕ) (d now : DomainNow) (at : StandsAtSlot number d)
         → IsRemoved (item_in d number) → GoesOnAtSlot None number d now at

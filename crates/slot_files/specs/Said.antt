@@ -42,7 +42,7 @@ runs_there runs = map run_there runs
 abbrev pub home_said : Option SaidHome → Option Home
 home_said home = option_map home_there home
 
--- the place of a page in a list, absent behind the last
+-- the place of a page in a list, absent after the last
 abbrev pub place_in : List SaidPlace → ℕ → PagePlace
 place_in places page = option_map_or place_there (slice_get places page) Absent
 
@@ -50,7 +50,7 @@ place_in places page = option_map_or place_there (slice_get places page) Absent
 abbrev pub ListsPlaces : Places → List SaidPlace → Type 0
 ListsPlaces places listed = (page : ℕ) → place_in listed page ≡ places page
 
--- the home of a page in a list, none behind the last
+-- the home of a page in a list, none after the last
 abbrev pub said_in : List (Option SaidHome) → ℕ → Option Home
 said_in homes page = option_and_then home_said (slice_get homes page)
 
@@ -61,7 +61,7 @@ HasTwo homes = (one : ℕ) × (other : ℕ) × (¬ one ≡ other) × IsSome (sai
 
 -- ** Sizes
 
--- exactly the first so many pages have a home
+-- the pages below a number, and no others, have a home
 abbrev pub HasFirst : List (Option SaidHome) → ℕ → Type 0
 HasFirst homes count = (page : ℕ) → IsSome (said_in homes page) ↔ (page < count)
 

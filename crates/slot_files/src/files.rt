@@ -59,7 +59,7 @@ fn directory_there(
     Ok(file)
 }
 
-/// The file or directory of an original with these attributes and so many kept pages.
+/// The file or directory of an original with these attributes and this number of kept pages.
 fn original_there<M: MetaPages>(
     alloc: Global,
     pages: &M,

@@ -26,7 +26,7 @@ fn end_of(runs: &[SaidRun]) -> u64
     end
 }
 
-/// Where the page of a run is that stands `behind` pages after its first.
+/// The place of the page that stands `behind` pages after the first of a run.
 fn place_behind(first: &SaidFirst, behind: u32) -> SaidPlace
     ensures { place_there result ≡ placed (behind_there behind (first_there first.now)) }
 {

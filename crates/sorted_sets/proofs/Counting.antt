@@ -29,13 +29,13 @@ counts_more spans span n = sum_by-append (has n) spans (span ∷ []) ∙ ap (λ 
     last : counts (span ∷ []) n ≡ has n span
     last = omega arith
 
--- where all that begin in front of a number begin in front of a later one
+-- all that begin before a number begin before a later one
 earlier_still : (earlier : List Span) (low n : ℕ) → low ≤ n → AllByRecursion (λ span. span.from ≤ low) earlier → AllByRecursion (λ span. span.from ≤ n) earlier
 earlier_still [] low n le all = tt
 earlier_still (span ∷ spans) low n le all = (omega (arith, all.0, le), earlier_still spans low n le all.1)
 
 module _ (earlier : List Span) (span : Span) (end : ℕ) (behind : IsBehind span earlier) (ends : EndsAt end earlier) where
-  -- a part in front of the end is what an earlier one has too
+  -- a part before the end is what an earlier one has too
   pub twice_more : (n : ℕ) → (2 ≤ counts (earlier ++ span ∷ []) n) ↔ ((2 ≤ counts earlier n) ⊎ IsOf (record { from = span.from; to = min span.to end }) n)
   twice_more n = by_span (counted n span).is
     where
@@ -104,12 +104,12 @@ map_ok (Err e) more is = is
 pub none_counted : EndsAt 0 []
 none_counted n all = ((λ less. omega (arith, less)), λ some. omega (arith, some))
 
--- what is so of each place in front of one is so of all in front of it
+-- what is so of each place before one is so of all before it
 all_taken : (P : Span → Type 0) (spans : List Span) (i : ℕ) (d : Span) → ((k : ℕ) → k < i → k < length spans → P (get_or spans k d)) → AllByRecursion P (take i spans)
 all_taken P spans zero d each = tt
 all_taken P [] (suc i) d each = tt
 all_taken P (span ∷ spans) (suc i) d each = (each 0 (omega arith) (omega arith), all_taken P spans i d (λ k front below. each (suc k) (omega (arith, front)) (omega (arith, below))))
 
--- spans in the order in which they begin: each begins where the earlier ones do, or behind
+-- spans in the order in which they begin: each begins where the earlier ones do, or after
 pub behind_all : (spans : List Span) (i : ℕ) (d : Span) → IsNonDecreasingBy (λ (s : Span). s.from) spans → i < length spans → IsBehind (get_or spans i d) (take i spans)
 behind_all spans i d rise below = all_taken (λ other. other.from ≤ (get_or spans i d).from) spans i d (λ k front within. rise k i d (omega (arith, front)) below)

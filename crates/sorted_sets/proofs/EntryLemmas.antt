@@ -54,7 +54,7 @@ pub record Passed {K X : Type 0} (R : K → K → Ordering) (es : List (K × X))
   pub sorted : T (is_sorted R (drop place es))
 
 module _ {K X : Type 0} {R : K → K → Ordering} (o : IsTotalOrder R) where
-  -- no key that stands above x is the key, where the key is below x
+  -- no key that stands above x is the key, if the key is below x
   find-below : (key x : K) (es : List (K × X)) → R key x ≡ Less → T (below_all R x es) → find R key es ≡ None
   find-below key x [] h b = refl
   find-below key x (e ∷ es) h b =

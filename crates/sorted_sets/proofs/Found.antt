@@ -18,7 +18,7 @@ none_some x e = cc
 abbrev pub Entry : Type 0
 Entry = ℕ × ℕ
 
--- none begins in front of a number, so none meets what ends there
+-- none begins before a number, so none meets what ends there
 pub none_before : (spans : List Entry) (span : Span) → ((k : ℕ) (d : Entry) → 0 ≤ k → k < length spans → span.to ≤ (get_or spans k d).0)
     → (met : Span) → value_at spans met.from ≡ Some met.to → ¬ Meets span met
 none_before spans span back met has (before, behind) =
@@ -39,7 +39,7 @@ module _ (spans : List Entry) (rising : IsRising spans) (are : AreSpans spans) (
       let first : (get_or spans last (from, to)).0 ≡ from = ap (λ (e : Entry). e.0) (at (from, to)) in
       (omega (arith, front last (from, to) (omega (arith, is_last)), first), behind)
 
-  -- where the last one in front of the end of another does not meet it, none does
+  -- if the last one before the end of another does not meet it, none does
   pub none_met : to ≤ span.from → (met : Span) → value_at spans met.from ≡ Some met.to → ¬ Meets span met
   none_met ends met has (before, behind) =
       let there = placed spans met.from met.to has in

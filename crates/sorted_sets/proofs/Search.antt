@@ -48,7 +48,7 @@ module _ {V : Type 0} where
       let rest = sets-insert es key i v (λ j d lt within. apart (suc j) d (omega arith) (omega arith)) q in
       grind (arith, nat_tests)
 
-  -- the list behind an entry of that number has no other
+  -- the list after an entry of that number has no other
   removed_first : (key q : ℕ) (x : ℕ × V) (es : List (ℕ × V)) → x.0 ≡ key → value_at es key ≡ None → value_at es q ≡ (if key == q then None else value_at (x ∷ es) q)
   removed_first key q x es is absent =
       elim (key == q) as (λ b. (key == q) ≡ b → value_at es q ≡ (if b then None else value_at (x ∷ es) q)) [

@@ -3,7 +3,7 @@ use Rattle.std.specs.Prelude.{◌&&◌, ◌<◌, ◌≤◌, ◌↔◌, ℕ, List
 use Rattle.std.specs.List.{AllByRecursion}
 use Rattle.sorted_sets.specs.declared.span.Span.{Span}
 
--- 1 where a span has the number, else 0
+-- 1 if a span has the number, else 0
 abbrev pub has : ℕ → Span → ℕ
 has n span = if nat_le span.from n && nat_lt n span.to then 1 else 0
 
@@ -11,11 +11,12 @@ has n span = if nat_le span.from n && nat_lt n span.to then 1 else 0
 abbrev pub counts : List Span → ℕ → ℕ
 counts spans n = sum_by (has n) spans
 
--- it begins where the others do, or behind
+-- it begins where the others do, or after
 abbrev pub IsBehind : Span → List Span → Type 0
 IsBehind span earlier = AllByRecursion (λ other. other.from ≤ span.from) earlier
 
--- from where all of them have begun on, some of them has a number exactly in front of this one
+-- from where all of them have begun on, one of them has a number if and only if it is below this
+-- end
 abbrev pub EndsAt : ℕ → List Span → Type 0
 EndsAt end spans = (n : ℕ) → AllByRecursion (λ span. span.from ≤ n) spans
     → (n < end) ↔ (1 ≤ counts spans n)

@@ -13,6 +13,6 @@ pub record AreSpans (spans : List (ℕ × ℕ)) : Type 0 where
 abbrev pub HasIn : List (ℕ × ℕ) → ℕ → Type 0
 HasIn spans n = (from : ℕ) × (to : ℕ) × (value_at spans from ≡ Some to) × (from ≤ n) × (n < to)
 
--- a span begins in front of the end of another one, and ends behind its beginning
+-- a span begins before the end of another one, and ends after its beginning
 abbrev pub Meets : Span → Span → Type 0
 Meets span met = (met.from < span.to) × (span.from < met.to)

@@ -56,7 +56,7 @@ pages_rewritten home change old new there edits = by_width (nat_lt home.page (2 
     by_width true t some = on_page (fits_of home.page t) _ edits
     by_width false t some = absurd (false≢true some)
 
--- a home is on a list exactly where its number is
+-- a home is on a list if and only if its number is
 pub on_list : (homes : List Home) (home : Home) → home.page < 2 ^ 32 → have_pages homes ≡ true → is_listed homes (number_of home) ≡ is_on homes home
 on_list [] home fits all = refl
 on_list (x ∷ xs) home fits all =

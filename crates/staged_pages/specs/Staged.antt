@@ -44,7 +44,7 @@ pub record AreSlots (entries : List (ℕ × Slot)) (changed : List Home) : Type 
   pub homes : have_pages changed ≡ true
   pub once : length changed + count_same entries ≤ length entries
 
--- there is room for so many slots more, and for all slots on the list
+-- there is room for `spare` more slots, and for all slots on the list
 pub record HaveRoom (slots spare slot_room list_room : ℕ) : Type 0 where
   pub slots_fit : slots + spare ≤ slot_room
   pub list_fits : slots + spare ≤ list_room
@@ -66,7 +66,7 @@ pub record SettlesSlot (which : Slot → Option (List ℕ)) (key : ℕ) (old new
   pub page : option_and_then which (value_at new key) ≡ option_and_then which (value_at old key)
   pub count : count_same new + length old ≤ count_same old + length new + 1
 
--- so of all slots: none has changed now
+-- all slots: each has the page that it had now or before, and none has changed now
 pub record SettlesAll (which : Slot → Option (List ℕ)) (old new : List (ℕ × Slot)) : Type 0 where
   pub pages : (q : ℕ) → option_and_then which (value_at new q)
       ≡ option_and_then which (value_at old q)

@@ -15,8 +15,8 @@ use Rattle.domain_standing.specs.Holders.{Holder, Holds}
 use Rattle.standing_laws.specs.Leads.{StandsBelow}
 
 -- each page that is held for something is one of a member's, where that is neither the log nor the
--- first pages of volumes, which other rules know; a cell behind the first of a file has a record that
--- it may have; and each page of an index is well formed, whosever that is
+-- first pages of volumes, which other rules know; a cell after the first of a file has a record
+-- that it may have; and each page of an index is well formed, whosever that is
 pub record StandsSound (d : DomainNow) (files : Files) (indexes : IndexesAt) : Type 0 where
   pub within : (home : Home) (holder : Holder) → ¬ holder ≡ Holder.of_volume
       → ¬ holder ≡ Holder.of_log → Holds d files indexes holder home → IsWithin d.frame home

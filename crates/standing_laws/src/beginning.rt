@@ -19,8 +19,8 @@ ghost use Rattle.standing_laws.specs.Leads.{StandsBelow, fileset_now};
 ghost use Rattle.standing_laws.specs.NewFileset.{IsPlainRoot, JoinsEmpty, SetsNoLimit, empty_slot, no_chains};
 ghost use Rattle.standing_laws.specs.Slots.{StandsSlot};
 
-/// If an original whose tag directory is one new page joins the table, the domain stands on. Calls
-/// on the original's tags may follow; none of them names a file yet.
+/// If an original whose tag directory is one new page joins the table, the domain still stands.
+/// Calls on the original's tags may follow; none of them names a file yet.
 pub fn an_empty_fileset_begins()
     ensures { (number : ℕ) (entry : FilesetEntry) (d now : DomainNow) (files : Files)
         (indexes : IndexesAt) → StandsBelow d files indexes → JoinsEmpty number entry d now
@@ -28,7 +28,7 @@ pub fn an_empty_fileset_begins()
         × StandsWell number (fileset_now now number no_chains files) }
 {}
 
-/// It also stands on once the original's root is made.
+/// A domain that an original has joined still stands once the original's root is made.
 pub fn a_fileset_begins()
     ensures { (number : ℕ) (entry : FilesetEntry) (d joined now : DomainNow) (chains_now : Chains)
         (files files_now : Files) (indexes : IndexesAt) → StandsBelow d files indexes

@@ -15,8 +15,8 @@ ghost use Rattle.domain_standing.specs.Slots.{StandSlots};
 ghost use Rattle.standing_laws.specs.Leads.{LeadsOn, StandsBelow, fileset_now};
 ghost use Rattle.standing_laws.specs.Left.{LeavesNothing};
 
-/// All of a domain except its filesets stands on after a call that leaves nothing of its file to be
-/// let go of, so the next call may follow.
+/// All of a domain except its filesets still stands after a call that leaves nothing of its file to
+/// be let go of, so the next call may follow.
 pub fn all_below_stands_on()
     ensures { (number : ℕ) (tag : Tag) (d now : DomainNow) (chains chains_now : Chains)
         (files files_now : Files) (indexes : IndexesAt) → StandsBelow d files indexes
@@ -26,7 +26,8 @@ pub fn all_below_stands_on()
         → StandsBelow now files_now indexes }
 {}
 
-/// If the call leaves something, the domain stands on once an entry of the file is put on the list.
+/// If the call leaves something, all of the domain except its filesets still stands once an entry
+/// of the file is put on the list.
 pub fn all_below_stands_on_where_a_file_is_listed()
     ensures { (number : ℕ) (tag : Tag) (d now : DomainNow) (chains chains_now : Chains)
         (files files_now : Files) (indexes : IndexesAt) → StandsBelow d files indexes

@@ -29,14 +29,14 @@ ghost use Rattle.standing_laws.specs.SetsQuota.{SetsQuota, fileset_limited};
 ghost use Rattle.standing_laws.specs.SlotParents.{HasOnlyRoot, HaveParentsIn, StandsForSome};
 ghost use Rattle.standing_laws.specs.SlotsStay.{PutsFileset};
 
-/// Bits say what they said, of whatever free space, if the first pages of volumes stay.
+/// If the first pages of volumes stay, bitmaps say the same of any free space.
 pub fn bits_stay_where_volumes_keep_their_pages()
     ensures { (d now : DomainNow) → StandTables d → now.frame ≡ d.frame → KeepsVolumes d now
         → (space : Spaces) → IsMarkedBut (record d { space = space })
         → IsMarkedBut (record now { space = space }) }
 {}
 
-/// Bits say what they said if a fileset begins.
+/// Bitmaps say what they said if a fileset begins.
 pub fn bits_stay_where_a_fileset_begins()
     ensures { (number : ℕ) (entry : FilesetEntry) (d now : DomainNow) (files : Files)
         (indexes : IndexesAt) → StandsBelow d files indexes → JoinsEmpty number entry d now
@@ -44,7 +44,7 @@ pub fn bits_stay_where_a_fileset_begins()
         → IsMarkedBut (record now { space = space }) }
 {}
 
-/// Bits say what they said if the removal of a fileset begins.
+/// Bitmaps say what they said if the removal of a fileset begins.
 pub fn bits_stay_where_a_fileset_begins_to_go()
     ensures { (number : ℕ) (entry : FilesetEntry) (d now : DomainNow) (files : Files)
         (indexes : IndexesAt) → StandsBelow d files indexes → BeginsToGo number entry d now
@@ -52,7 +52,7 @@ pub fn bits_stay_where_a_fileset_begins_to_go()
         → IsMarkedBut (record now { space = space }) }
 {}
 
-/// Bits say what they said if an owner's limits are set.
+/// Bitmaps say what they said if an owner's limits are set.
 pub fn bits_stay_where_limits_are_set()
     ensures { (number : ℕ) (d now : DomainNow) (files files_now : Files) (indexes : IndexesAt)
         → StandsBelow d files indexes → SetsQuota number d now files files_now
@@ -60,8 +60,8 @@ pub fn bits_stay_where_limits_are_set()
         → IsMarkedBut (record now { space = space }) }
 {}
 
-/// Bits say what they said if tables of cells and the tag directory of one slot change, as when a
-/// root is made.
+/// Bitmaps say what they said if tables of cells and the tag directory of one slot change, as when
+/// a root is made.
 pub fn bits_stay_where_cells_and_tags_change()
     ensures { (number : ℕ) (d now : DomainNow) (files : Files) (indexes : IndexesAt)
         → StandTables d → StandsBelow now files indexes → now.frame ≡ d.frame
@@ -70,7 +70,7 @@ pub fn bits_stay_where_cells_and_tags_change()
         → IsMarkedBut (record now { space = space }) }
 {}
 
-/// Bits say what they said once the root of a fileset that begins is made.
+/// Bitmaps say what they said once the root of a fileset that begins is made.
 pub fn bits_stay_where_a_root_is_made()
     ensures { (number : ℕ) (entry : FilesetEntry) (d joined now : DomainNow) (chains_now : Chains)
         (files files_now : Files) (indexes : IndexesAt) → StandsBelow d files indexes
@@ -107,7 +107,7 @@ pub fn a_root_alone_stands_in_itself()
         → HaveParentsIn number d }
 {}
 
-/// So all directories say those in which they stand once the root of a fileset that begins is made.
+/// All directories say those in which they stand once the root of a fileset that begins is made.
 pub fn parents_stay_where_a_root_is_made()
     ensures { (number : ℕ) (entry : FilesetEntry) (d joined now : DomainNow) (chains_now : Chains)
         (files files_now : Files) (indexes : IndexesAt) (all : FilesetMap)

@@ -20,8 +20,8 @@ ghost use Rattle.standing_laws.specs.BoundedFileset.{BoundsFileset};
 ghost use Rattle.standing_laws.specs.Leads.{StandsBelow};
 ghost use Rattle.standing_laws.specs.SetsQuota.{fileset_limited};
 
-/// If the limits of a whole fileset are set and each unchanged page keeps its bytes, a domain
-/// stands on for its filesets, with these limits in that fileset.
+/// If the limits of a whole fileset are set and each unchanged page keeps its bytes, a domain still
+/// stands for its filesets, with these limits in that fileset.
 pub fn a_domain_stands_on_where_a_fileset_is_bounded()
     ensures { (number : ℕ) (entry : FilesetEntry) (limits : Limits) (d now : DomainNow)
         → BoundsFileset number entry limits d now
@@ -31,14 +31,14 @@ pub fn a_domain_stands_on_where_a_fileset_is_bounded()
         → StandsDomain now (insert all entry.name (fileset_limited owner.Fileset limits fileset)) }
 {}
 
-/// No file starts to be read through another one.
+/// If the limits of a whole fileset are set, no file starts to be read through another one.
 pub fn files_stand_alone_where_a_fileset_is_bounded()
     ensures { (number : ℕ) (entry : FilesetEntry) (limits : Limits) (d now : DomainNow)
         (files : Files) (indexes : IndexesAt) → StandsBelow d files indexes
         → BoundsFileset number entry limits d now → StandAlone d → StandAlone now }
 {}
 
-/// Bits of bitmaps say what they said, of whatever free space.
+/// If the limits of a whole fileset are set, bitmaps say the same of any free space.
 pub fn bits_stay_where_a_fileset_is_bounded()
     ensures { (number : ℕ) (entry : FilesetEntry) (limits : Limits) (d now : DomainNow)
         (files : Files) (indexes : IndexesAt) → StandsBelow d files indexes
@@ -46,7 +46,8 @@ pub fn bits_stay_where_a_fileset_is_bounded()
         → IsMarkedBut (record d { space = space }) → IsMarkedBut (record now { space = space }) }
 {}
 
-/// Each directory still says the one in which its row stands.
+/// If the limits of a whole fileset are set, each directory still says the one in which its row
+/// stands.
 pub fn parents_stay_where_a_fileset_is_bounded()
     ensures { (number : ℕ) (entry : FilesetEntry) (limits : Limits) (d now : DomainNow)
         (files : Files) (indexes : IndexesAt) → StandsBelow d files indexes
@@ -54,7 +55,8 @@ pub fn parents_stay_where_a_fileset_is_bounded()
         → HaveParents d → HaveParents now }
 {}
 
-/// Books are those of their filesets if the book of that fileset has the limits, too.
+/// If the limits of a whole fileset are set, books are those of their filesets if the book of that
+/// fileset has the limits, too.
 pub fn books_stay_where_a_fileset_is_bounded()
     ensures { (number : ℕ) (entry : FilesetEntry) (limits : Limits) (d now : DomainNow)
         (files : Files) (indexes : IndexesAt) → StandsBelow d files indexes

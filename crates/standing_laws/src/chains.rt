@@ -67,8 +67,8 @@ pub fn indexes_stay()
         → AreIndexHomes now.pages (option_and_then index_of (files_now at)) (indexes at) }
 {}
 
-/// The tag directory of each slot stands on: the files that its tags name are among the domain's,
-/// or none of its tags leads to a cell and its pages are on the list.
+/// The tag directory of each slot still stands: the files that its tags name are among the
+/// domain's, or none of its tags leads to a cell and its pages are on the list.
 pub fn slots_stand_on()
     ensures { (number : ℕ) (tag : Tag) (d now : DomainNow) (chains chains_now : Chains)
         (files files_now : Files) (indexes : IndexesAt) → StandsBelow d files indexes
@@ -86,7 +86,7 @@ pub fn quota_cells_stand_on()
         → IsSomeAnd (files_now at) (AreQuotasOf now n at) }
 {}
 
-/// If a call leaves nothing of a file to be let go of, all chains of the domain stand on.
+/// If a call leaves nothing of a file to be let go of, all chains of the domain still stand.
 pub fn chains_stand_on()
     ensures { (number : ℕ) (tag : Tag) (d now : DomainNow) (chains chains_now : Chains)
         (files files_now : Files) (indexes : IndexesAt) → StandsBelow d files indexes
@@ -96,8 +96,9 @@ pub fn chains_stand_on()
         → StandChains now files_now indexes }
 {}
 
-/// If the tag's file has something left to be let go of, the chains stand on once an entry of it is
-/// put on the list. This is the case after a call that drops the file or makes pages of it stale.
+/// If the tag's file has something left to be let go of, the chains still stand once an entry of it
+/// is put on the list. This is the case after a call that drops the file or makes pages of it
+/// stale.
 pub fn chains_stand_on_where_a_file_is_listed()
     ensures { (number : ℕ) (tag : Tag) (d now : DomainNow) (chains chains_now : Chains)
         (files files_now : Files) (indexes : IndexesAt) → StandsBelow d files indexes

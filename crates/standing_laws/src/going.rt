@@ -14,22 +14,24 @@ ghost use Rattle.standing_laws.specs.GoingFileset.{BeginsToGo};
 ghost use Rattle.standing_laws.specs.Leads.{StandsBelow};
 ghost use Rattle.standing_laws.specs.SlotsStay.{OthersStand};
 
-/// All of a domain except its filesets stands on if the slot of an original says that it is being
-/// removed: its tags and quota cells stand where they did.
+/// All of a domain except its filesets still stands if the slot of an original says that it is
+/// being removed: its tags and quota cells stand where they did.
 pub fn all_stands_on_where_a_fileset_begins_to_go()
     ensures { (number : ℕ) (entry : FilesetEntry) (d now : DomainNow) (files : Files)
         (indexes : IndexesAt) → StandsBelow d files indexes → BeginsToGo number entry d now
         → StandsBelow now files indexes }
 {}
 
-/// The original in each other slot stands for the fileset for which it stood.
+/// If the removal of a fileset begins, the original in each other slot stands for the fileset for
+/// which it stood.
 pub fn other_slots_stay_where_a_fileset_begins_to_go()
     ensures { (number : ℕ) (entry : FilesetEntry) (d now : DomainNow) (files : Files)
         (indexes : IndexesAt) → StandsBelow d files indexes → BeginsToGo number entry d now
         → OthersStand number d now }
 {}
 
-/// So the domain stands for all filesets except this one, if each unchanged page keeps its bytes.
+/// If the removal of a fileset begins, the domain stands for all filesets except this one, if each
+/// unchanged page keeps its bytes.
 pub fn filesets_stand_on_where_one_begins_to_go()
     ensures { (number : ℕ) (entry : FilesetEntry) (d now : DomainNow) (files : Files)
         (indexes : IndexesAt) → StandsBelow d files indexes → BeginsToGo number entry d now
@@ -37,7 +39,7 @@ pub fn filesets_stand_on_where_one_begins_to_go()
         → (all : FilesetMap) → StandSlots d all → StandSlots now (remove all entry.name) }
 {}
 
-/// All together: a domain stands for its filesets without this one.
+/// If the removal of a fileset begins, a domain stands for its filesets without this one.
 pub fn a_domain_stands_on_where_a_fileset_begins_to_go()
     ensures { (number : ℕ) (entry : FilesetEntry) (d now : DomainNow)
         → BeginsToGo number entry d now
@@ -45,7 +47,7 @@ pub fn a_domain_stands_on_where_a_fileset_begins_to_go()
         → (all : FilesetMap) → StandsDomain d all → StandsDomain now (remove all entry.name) }
 {}
 
-/// The book of each other slot is still that of its fileset.
+/// If the removal of a fileset begins, the book of each other slot is still that of its fileset.
 pub fn books_stay_where_a_fileset_begins_to_go()
     ensures { (number : ℕ) (entry : FilesetEntry) (d now : DomainNow) (files : Files)
         (indexes : IndexesAt) → StandsBelow d files indexes → BeginsToGo number entry d now

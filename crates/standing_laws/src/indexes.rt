@@ -15,7 +15,7 @@ ghost use Rattle.domain_standing.specs.Domain.{DomainNow};
 ghost use Rattle.standing_laws.specs.IndexCalls.{KeepsTables, NamesFile, with_index_at, with_removed, with_said};
 ghost use Rattle.standing_laws.specs.Leads.{StandsBelow};
 
-/// If a page of a directory's index is put in place of another, the domain stands on: the first
+/// If a page of a directory's index is put in place of another, the domain still stands: the first
 /// cell says how many entries the index then has, and each of its pages is held where it was.
 pub fn all_stands_on_where_an_index_page_is_written()
     ensures { (number : ℕ) (tag : Tag) (start : CellAt) (d now : DomainNow) (chains : Chains)
@@ -27,8 +27,8 @@ pub fn all_stands_on_where_an_index_page_is_written()
         → StandsBelow now (with_said start (says_index (Some writes.says.index)) files) indexes }
 {}
 
-/// It also does if a free page is put into an index, before others, after them or as the first of
-/// all: that page is held for the index from then on.
+/// The domain still stands if a free page is put into an index, before others, after them or as the
+/// first of all: that page is held for the index from then on.
 pub fn all_stands_on_where_an_index_page_is_put_in()
     ensures { (number : ℕ) (tag : Tag) (start : CellAt) (d now : DomainNow) (chains : Chains)
         (files : Files) (indexes : IndexesAt) (place prefer : ℕ) (bytes : List ℕ)
@@ -40,9 +40,9 @@ pub fn all_stands_on_where_an_index_page_is_put_in()
         (with_index_at start (insert (indexes start) place adds.home) indexes) }
 {}
 
-/// It also does if a file or directory is taken away, once an entry of it is put on the list: its
-/// tag names nothing any more, its first cell names no index, and the pages of the index that it
-/// had wait and are held for nothing.
+/// The domain still stands if a file or directory is taken away, once an entry of it is put on the
+/// list: its tag names nothing any more, its first cell names no index, and the pages of the index
+/// that it had wait and are held for nothing.
 pub fn all_stands_on_where_a_file_goes_with_its_index()
     ensures { (number : ℕ) (tag : Tag) (start : CellAt) (d now : DomainNow) (chains : Chains)
         (files : Files) (indexes : IndexesAt) (group : ℕ) → StandsBelow d files indexes

@@ -28,29 +28,30 @@ pub fn tables_stand_on_where_limits_are_set()
         → StandTables now }
 {}
 
-/// Each page is held for one thing alone then, and all that are held for nothing and do not wait
-/// are free.
+/// Once an owner's limits are set, each page is held for one thing alone, and all that are held for
+/// nothing and do not wait are free.
 pub fn held_pages_stand_on_where_limits_are_set()
     ensures { (number : ℕ) (d now : DomainNow) (files files_now : Files) (indexes : IndexesAt)
         → StandsBelow d files indexes → SetsQuota number d now files files_now
         → HoldsOwned now files_now indexes }
 {}
 
-/// Its cells say what is asked of them.
+/// Once an owner's limits are set, the cells of the domain say what is asked of them.
 pub fn rest_stands_on_where_limits_are_set()
     ensures { (number : ℕ) (d now : DomainNow) (files files_now : Files) (indexes : IndexesAt)
         → StandsBelow d files indexes → SetsQuota number d now files files_now
         → SaysTheRest now files_now }
 {}
 
-/// Its chains stand on, with the slot's chain as it is then.
+/// Once an owner's limits are set, the chains of the domain still stand, with the slot's chain as
+/// it is then.
 pub fn chains_stand_on_where_limits_are_set()
     ensures { (number : ℕ) (d now : DomainNow) (files files_now : Files) (indexes : IndexesAt)
         → StandsBelow d files indexes → SetsQuota number d now files files_now
         → StandChains now files_now indexes }
 {}
 
-/// So all of the domain except its filesets stands on.
+/// Once an owner's limits are set, all of the domain except its filesets still stands.
 pub fn all_below_stands_on_where_limits_are_set()
     ensures { (number : ℕ) (d now : DomainNow) (files files_now : Files) (indexes : IndexesAt)
         → StandsBelow d files indexes → SetsQuota number d now files files_now
@@ -80,8 +81,8 @@ pub fn the_slot_has_the_limits_that_are_set()
         (fileset_limited sets.who sets.limits fileset) }
 {}
 
-/// So a domain stands for its filesets, with these limits of the owner in that one, if the bytes of
-/// all files are the same.
+/// Once an owner's limits are set, a domain stands for its filesets, with these limits of the owner
+/// in that one, if the bytes of all files are the same.
 pub fn filesets_stand_on_where_limits_are_set()
     ensures { (number : ℕ) (d now : DomainNow) (files files_now : Files) (indexes : IndexesAt)
         → StandsBelow d files indexes → (sets : SetsQuota number d now files files_now)

@@ -57,8 +57,8 @@ pub fn other_slots_keep_their_bytes()
         → AgreeOnShape d.contents now.contents shape }
 {}
 
-/// So a domain stands for the filesets for which it stood, except for that of the slot of the call,
-/// once that one is known.
+/// A domain stands after a call for the filesets for which it stood, except for that of the slot of
+/// the call, once that one is known.
 pub fn filesets_stand_on()
     ensures { (number : ℕ) (tag : Tag) (d now : DomainNow) (chains chains_now : Chains)
         (files files_now : Files) (indexes : IndexesAt) (all : FilesetMap)

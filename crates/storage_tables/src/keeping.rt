@@ -1,5 +1,5 @@
 //! What free space keeps before a change, and what is taken back. A row has a letter for each
-//! change of a volume with eight pages, of which two are used; a line of the answer has the letter,
+//! change of a volume with eight pages, two of them used; a line of the answer has the letter,
 //! how many pages are free, held and waiting, and which were taken, freed and given back to wait.
 
 use crate::spaces::{one_volume, take, take_and_give_back, take_and_leave};

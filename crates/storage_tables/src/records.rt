@@ -1,5 +1,5 @@
-//! Records and their spellings. A row has the version, bytes in hexadecimal digits, and so many
-//! zeros after them; what is read is the length and the record, or the kind and the place of the
+//! Records and their spellings. A row has the version, bytes in hexadecimal digits, and a number
+//! of zeros after them; what is read is the length and the record, or the kind and the place of the
 //! field that is wrong. What is read is written again, and has to be the same bytes.
 
 use cell_records::from_domain_base::Version;

@@ -1,4 +1,5 @@
--- A set in which one tag names something else: what another tag names stays, where none of its pages changes.
+-- A set in which one tag names something else: what another tag names stays, if none of its pages
+-- changes.
 use Rattle.std.proofs.Common.{◌≡◌, ◌∙◌, ℕ, Bool, true, false, Option, Some, None, List, Contains, refl, sym, ap, subst}
 use Rattle.std.specs.Option.{option_and_then, option_map_or}
 use Rattle.index_pages.specs.domain_base.declared.place.Home.{Home}
@@ -20,7 +21,7 @@ use Rattle.index_pages.proofs.Homes.{kept_same}
 use Rattle.stored_set.proofs.Kept.{index_kept, live_map, page_kept}
 use Rattle.stored_set.specs.Standing.{Indexes, StandsShown}
 
--- what another tag names, of which no page changes
+-- what another tag names, if no page of it changes
 pub shown_still : (old new : Pages) (chains : Chains) (indexes : Indexes) (t : Tag) (file : Option Bitfile) → AreIndexHomes old (option_and_then index_of (chains t)) (indexes t)
     → ((k : ℕ) (h : Home) → place_at chains t k ≡ At h → new h ≡ old h) → ((h : Home) → Contains (indexes t) h → new h ≡ old h) → ShowsAt old (chains t) file → ShowsAt new (chains t) file
 shown_still old new chains indexes t file indexed pages_stay index_stays shows = by_chain (chains t) file refl shows indexed

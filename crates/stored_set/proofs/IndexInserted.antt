@@ -1,4 +1,4 @@
--- An index that gets one page more, of which the directory's first cell then tells.
+-- An index that gets one page more, and the directory's first cell tells of it afterwards.
 use Rattle.std.proofs.Common.{◌≡◌, ◌∙◌, ◌≤◌, ◌⊎◌, ℕ, Bool, true, false, cond, Option, Some, None, IsSomeAnd, List, Contains, inl, inr, refl, sym, ap, subst, ⊎_elim}
 use Rattle.std.proofs.lemmas.Bool.{false_from_ne_true, true≢false}
 use Rattle.std.specs.List.{insert}

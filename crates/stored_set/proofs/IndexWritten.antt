@@ -1,4 +1,4 @@
--- An index of which a page is put in place of another, once it is said how many entries it has then.
+-- An index with one page put in place of another, once it is said how many entries it has then.
 use Rattle.std.proofs.Common.{◌≡◌, ◌∙◌, ◌+◌, ◌-◌, ◌<◌, ◌≤◌, ℕ, Option, Some, None, List, length, refl, sym, ap, subst, arith}
 use Rattle.std.specs.Option.{option_and_then, option_map, option_map_or}
 use Rattle.index_pages.specs.domain_base.declared.place.Home.{Home}

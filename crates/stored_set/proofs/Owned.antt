@@ -1,4 +1,4 @@
--- A file of which the attributes are set.
+-- A file whose attributes are set.
 use Rattle.std.proofs.Common.{◌≡◌, ◌∙◌, ◌≤◌, ℕ, Bool, true, false, cond, nat_eq, Option, Some, None, IfSome, IsSomeAnd, List, [], ◌∷◌, Contains, refl, sym, ap, subst, arith}
 use Rattle.std.specs.Option.{option_and_then, option_map, option_map_or}
 use Rattle.std.proofs.lemmas.Option.{none-some}

@@ -1,4 +1,4 @@
--- An index of which the directory's first cell tells before it gets one page more.
+-- An index that gets one page more, after the directory's first cell tells of it.
 use Rattle.std.proofs.Common.{◌≡◌, ◌∙◌, ◌≤◌, ℕ, Bool, true, false, cond, Option, Some, None, IfSome, List, [], ◌∷◌, Contains, refl, sym, ap, subst, ⊎_elim}
 use Rattle.std.proofs.lemmas.Bool.{false_from_ne_true, true≢false}
 use Rattle.std.specs.List.{insert}

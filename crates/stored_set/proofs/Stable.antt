@@ -1,4 +1,4 @@
--- Types of which one is at hand as soon as it is known that there is one.
+-- Types that have an element at hand as soon as it is known that there is one.
 use Rattle.std.proofs.Common.{◌≡◌, ◌⊎◌, ◌<◌, ◌≤◌, ℕ, zero, suc, nat_eq, Bool, true, false, cond, Option, Some, None, IfSome, IsSome, IsSomeAnd, List, [], ◌∷◌, Contains, drop, get_or, inl, inr, refl, arith, ⊎_elim}
 use Rattle.std.proofs.lemmas.Bool.{eq-eqb, eqb-true, both_ways}
 use Rattle.std.proofs.Math.Logic.{∥∥₁_elim, ∥∥₁_map, ∥∥₁_prop}

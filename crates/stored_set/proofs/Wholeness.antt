@@ -159,7 +159,7 @@ module _ (states : States) (files : Bitfiles) (was : AreWholeDirectories states 
       let more : length file.index + 1 < 2 ^ 32 = subst (λ (o : Option Bitfile). option_map_or (λ (file : Bitfile). length file.index) o 0 + 1 < 2 ^ 32) is fits in
       (directory, λ state whole. record { fits = whole.fits; size = whole.size; keeps = whole.keeps; none = whole.none; index_fits = omega (arith, inserted_length number page file.index, more); entries = total file is }))
 
-  -- it gets a page behind its last one, after its size was said
+  -- it gets a page after its last one, after its size was said
   pub whole_added : (value : Attributes) (number : ℕ) (home : Home) (page : List ℕ) → number ≡ count_pages files tag → number < file_pages → value.size ≡ page_bytes * (number + 1)
       → AreWholeDirectories (with_changed tag (placed number (At home)) (with_changed tag (described value) states)) (with_change tag (put_page number page) files)
   whole_added value number home page last small size = subst (λ (s : States). AreWholeDirectories s (with_change tag (put_page number page) files)) joins

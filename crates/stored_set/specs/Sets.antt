@@ -45,11 +45,11 @@ abbrev pub HasSet : ℕ → List TagPlace → Spaces → Cells → Pages → Typ
 HasSet fileset places space cells pages =
     (files : Bitfiles) × StandsAsSet fileset places space cells pages files
 
--- what a directory is with so many pages
+-- what a directory is with this number of pages
 abbrev pub long : ℕ → Attributes → Attributes
 long count was = record was { size = page_bytes * count }
 
--- the files in which the tag's, which was this, is so long
+-- the files in which the tag's, which was this, has that length
 abbrev pub with_length : ℕ → Attributes → Tag → Chains → Chains
 with_length count was tag chains =
     with_chain tag (with_first (says_attributes (long count was))) chains
@@ -124,12 +124,12 @@ pub record AddsIndexPage (fileset : ℕ) (places : List TagPlace) (cells : Cells
   pub says : SaysIndex fileset places space_now cells tag chains old said
   pub inserts : InsertsIndexPage says.index.first home number bytes said new homes
 
--- the files in which the tag's first cell names no index, where it named one that begins there
+-- the files in which the tag's first cell names no index, if it named one that begins there
 abbrev pub without_index_from : Option Home → Tag → Chains → Chains
 without_index_from None tag chains = chains
 without_index_from (Some first) tag chains = with_chain tag (with_first (says_index None)) chains
 
--- the same, wherever that index begins
+-- the files in which the tag's first cell names no index, wherever that index begins
 abbrev pub without_index : Tag → Chains → Chains
 without_index tag chains =
     without_index_from (option_and_then index_of (chains tag)) tag chains

@@ -39,7 +39,7 @@ pub record StandsShown (fileset : ℕ) (places : List TagPlace) (space : Spaces)
 abbrev pub AreTagsOnVolumes : List TagPlace → Type 0
 AreTagsOnVolumes places = (home : Home) → has_home places home ≡ true → 1 ≤ home.vol
 
--- the same with a tag's index at these homes
+-- the indexes with a tag's index at these homes
 abbrev pub with_index : Tag → List Home → Indexes → Indexes
 with_index tag homes indexes = λ t. if same_tag t tag then homes else indexes t
 

@@ -13,7 +13,7 @@ use Rattle.index_pages.specs.fileset_files.State.{FileState, States}
 abbrev pub entries_on : List ℕ → ℕ
 entries_on page = if nat_le (number_at 4 4 page) 1022 then number_at 4 4 page else 0
 
--- how many the page with a number says; none where there is no such page
+-- how many the page with a number says; none if there is no such page
 abbrev pub entries_at : ℕ → List (List ℕ) → ℕ
 entries_at number pages = option_map_or entries_on (slice_get pages number) 0
 
@@ -23,7 +23,7 @@ total_on [] = 0
 total_on (page ∷ pages) = entries_on page + total_on pages
 
 -- a directory that a set shows: it has as many pages as a file can have at most, is as long as they
--- are, keeps each, and has none behind its last one; and where it has an index, it says how many
+-- are, keeps each, and has none after its last one; and if it has an index, it says how many
 -- entries that has
 pub record IsWholeDirectory (file : Bitfile) (state : FileState) : Type 0 where
   pub fits : length file.pages ≤ file_pages
@@ -33,12 +33,12 @@ pub record IsWholeDirectory (file : Bitfile) (state : FileState) : Type 0 where
   pub index_fits : length file.index < 2 ^ 32
   pub entries : IfSome state.index (λ index. index.entries ≡ total_on file.index)
 
--- what stands at a tag, where a directory is shown there
+-- what stands at a tag, if a directory is shown there
 abbrev pub IsWholeAt : Option FileState → Option Bitfile → Type 0
 IsWholeAt state None = Unit {0}
 IsWholeAt state (Some file) = file.kind ≡ Directory → IsSomeAnd state (IsWholeDirectory file)
 
--- each directory that is shown is so
+-- each directory that is shown is whole
 abbrev pub AreWholeDirectories : States → Bitfiles → Type 0
 AreWholeDirectories states files = (tag : Tag) → IsWholeAt (states tag) (files tag)
 

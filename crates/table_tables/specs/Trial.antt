@@ -9,12 +9,12 @@ use Rattle.fileset_table.specs.page_store.Pages.{Pages, same_home}
 use Rattle.tag_dirs.specs.declared.dir.TagPlace.{TagPlace}
 use Rattle.tag_dirs.specs.Directory.{IsDirectory, cell_of}
 
--- a directory of these pages, of which no tag of a slot above the last one leads anywhere
+-- a directory of these pages; no tag of a slot above `last` leads anywhere
 pub record IsUsedTo (pages : Pages) (places : List TagPlace) (last : ℕ) : Type 0 where
   pub directory : IsDirectory pages places
   pub unused : (t : Tag) → last < t.slot → cell_of pages places t ≡ None
 
--- the same of pages in memory
+-- such a directory of pages in memory
 abbrev pub IsTrial : MemoryPages → List TagPlace → ℕ → Type 0
 IsTrial memory places last = IsUsedTo (pages_of memory.entries.items) places last
 

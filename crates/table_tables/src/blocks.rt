@@ -73,7 +73,7 @@ fn push_below(answers: &mut String, lines: &str) -> Result<(), OutOfMemory> {
     Ok(())
 }
 
-/// Adds an answer: below its line where it has lines of its own, and else after an arrow.
+/// Adds an answer: below its line if it has lines of its own, and else after an arrow.
 fn push_told(answers: &mut String, answer: &str) -> Result<(), OutOfMemory> {
     if answer.contains('\n') {
         return push_below(answers, answer);

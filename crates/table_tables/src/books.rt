@@ -64,7 +64,7 @@ fn push_owners(book: &QuotaBook, out: &mut String) -> Result<(), OutOfMemory> {
     out.push('\n')
 }
 
-/// Makes so many calls, and says what they leave.
+/// Makes `calls` calls, and says what they leave.
 fn push_calls(
     random: &mut Random,
     book: &mut QuotaBook,

@@ -9,7 +9,7 @@ use fileset_table::{Limits, OutOfMemory, Owner, Record, Refusal, Usage};
 use quota_book::{QuotaBook, are_once, read_limits};
 use std::alloc::Global;
 
-/// Whether so much more than an owner uses is below 2^64.
+/// Whether what an owner uses plus `more` is below 2^64.
 fn fits(book: &QuotaBook, who: Owner, more: &Usage) -> bool
     ensures { IsTrue result → IsBelow more.now.files more.now.blocks (used book.now.book who) }
 {
@@ -17,7 +17,7 @@ fn fits(book: &QuotaBook, who: Owner, more: &Usage) -> bool
     more.files <= u64::MAX - usage.files && more.blocks <= u64::MAX - usage.blocks
 }
 
-/// Whether an owner uses so much.
+/// Whether an owner uses at least `part`.
 fn has(book: &QuotaBook, who: Owner, part: &Usage) -> bool
     ensures { IsTrue result → IsWithin part.now (used book.now.book who) }
 {
@@ -41,7 +41,7 @@ fn all_have(book: &QuotaBook, uid: u32, gid: u32, part: &Usage) -> bool
         && has(book, Owner::Fileset, part)
 }
 
-/// Charges, where all whose that is use so much less than 2^64.
+/// Charges, if all owners that it concerns stay below 2^64.
 pub(crate) fn charge(book: &mut QuotaBook, uid: u32, gid: u32, more: &Usage) -> Option<()> {
     if !all_fit(book, uid, gid, more) {
         return None;
@@ -49,7 +49,7 @@ pub(crate) fn charge(book: &mut QuotaBook, uid: u32, gid: u32, more: &Usage) -> 
     book.charge(uid, gid, more.files, more.blocks).ok()
 }
 
-/// Refunds, where all whose that is use so much.
+/// Refunds, if all owners that it concerns use that much.
 pub(crate) fn refund(book: &mut QuotaBook, uid: u32, gid: u32, part: &Usage) -> Option<()> {
     if !all_have(book, uid, gid, part) {
         return None;

@@ -118,7 +118,7 @@ pub fn two_numbers(line: &str) -> Option<(u64, u32)> {
     Some((seed.parse().ok()?, count.parse().ok()?))
 }
 
-/// Puts so many random slots, and says what they leave.
+/// Puts `count` random slots, and says what they leave.
 fn push_steps(
     alloc: Global,
     random: &mut Random,

@@ -52,8 +52,8 @@ fn enter(trial: &mut Trial, list: &mut Vec<Entry>, page: u32) -> Option<bool>
     Some(next)
 }
 
-/// Enters a cell as a tag of a slot that was never used, and tells whether that was done exactly
-/// where there is a page for it.
+/// Enters a cell as a tag of a slot that was never used, and tells whether that was done if
+/// and only if there is a page for it.
 fn enter_as(
     random: &mut Random,
     trial: &mut Trial,

@@ -17,14 +17,14 @@ fn tag_of(word: &str) -> Option<Tag> {
     })
 }
 
-/// What a call is given: a tag, of slot 0 where a line has none, and a number, 0 where it has none.
+/// What a call is given: a tag, of slot 0 if a line has none, and a number, 0 if it has none.
 #[derive(Clone, Copy)]
 struct Given {
     tag: Tag,
     number: u32,
 }
 
-/// The number that a word says, which is 0 where there is none.
+/// The number that a word says, or 0 if there is none.
 fn number_of(word: &str) -> Option<u32> {
     if word.is_empty() {
         return Some(0);
@@ -67,7 +67,7 @@ fn shown(trial: &Trial, page: u32, out: &mut String) -> Option<()> {
     push_bytes(trial.bytes_of(home(page))?, out).ok()
 }
 
-/// Enters so many tags, each in the slot after the one before, and answers the last one.
+/// Enters `count` tags, each in the slot after the one before, and answers the last one.
 fn fill(trial: &mut Trial, count: u32) -> Option<Tag>
     requires { IsTrial trial.old.pages trial.old.dir trial.old.last }
     ensures { IsTrial trial.new.pages trial.new.dir trial.new.last }

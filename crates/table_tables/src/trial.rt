@@ -162,7 +162,7 @@ impl Trial {
         self.dir.tag_on(&self.pages, number)
     }
 
-    /// Makes the page at a home lead to none, where it leads to that one.
+    /// Makes the page at a home lead to none, if it leads to that one.
     pub fn unlink(&mut self, front: &Option<Home>, next: &Home) {
         unlink_page(&mut self.pages, front, next);
     }

@@ -13,7 +13,7 @@ use Rattle.tag_dirs.specs.Directory.{AddsPage, IsDirectory, IsLast, IsPageOf, Le
 use Rattle.tag_dirs.proofs.Places.{get_at, home_pushed}
 use Rattle.tag_dirs.proofs.Slots.{found, same_some}
 
--- ---- places with one more behind them
+-- ---- places with one more after them
 
 get_front : (places : List TagPlace) (p : TagPlace) (k : ℕ) → k < length places → slice_get (places ++ p ∷ []) k ≡ slice_get places k
 get_front [] p k less = absurd (omega (arith, less))
@@ -68,7 +68,7 @@ none_with places k q i there none same = go places k there none
         by_test true is later = some_is (sym (ap (λ b. cond b (Some x.home) (home_with xs i)) is) ∙ none)
         by_test false other later = later (sym (ap (λ b. cond b (Some x.home) (home_with xs i)) other) ∙ none)
 
--- ---- a page is put behind the last one, which leads to it
+-- ---- a page is put after the last one, which leads to it
 
 module _ (old mid new : Pages) (places : List TagPlace) (index : ℕ) (home : Home) (page : List ℕ) (dir : IsDirectory old places) (first : places ≡ [] → index ≡ 0) (unused : home_with places index ≡ None)
     (apart : has_home places home ≡ false) (link : LinksLast places home old mid) (put : new ≡ with_page home page mid) (is : IsNewPage index page) where

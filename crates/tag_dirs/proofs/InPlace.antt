@@ -1,4 +1,4 @@
--- Pages of which eight bytes were written in place.
+-- Pages with eight bytes written in place.
 use Rattle.std.proofs.Common.{◌≡◌, ◌∙◌, ℕ, ◌+◌, ◌*◌, ◌<◌, Bool, false, cond, Option, Some, None, IsSomeAnd, List, length, refl, ap}
 use Rattle.metadata_cells.specs.domain_base.Page.{overwritten}
 use Rattle.metadata_cells.specs.domain_base.declared.place.Home.{Home}

@@ -1,4 +1,4 @@
--- The places of a directory by their indexes, and with one more place behind them.
+-- The places of a directory by their indexes, and with one more place after them.
 use Rattle.std.proofs.Common.{◌≡◌, ◌∙◌, ℕ, zero, suc, ◌+◌, Bool, true, false, cond, nat_eq, Option, Some, None, is_some, List, [], ◌∷◌, ◌++◌, length, slice_get, get_or, ◌<◌, refl, sym, ap, subst, arith}
 use Rattle.std.proofs.lemmas.Bool.{eqb-true, eq-eqb, both_ways, true≢false}
 use Rattle.std.proofs.lemmas.Option.{slice_get_read, slice_get_within}

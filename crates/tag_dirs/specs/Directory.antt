@@ -12,7 +12,7 @@ use Rattle.tag_dirs.specs.declared.dir.TagPlace.{TagPlace}
 use Rattle.tag_dirs.specs.declared.page.TagEntry.{TagEntry}
 use Rattle.tag_dirs.specs.TagPage.{ChangesEntry, EndsPage, IsAllowed, IsNewPage, IsTagPage, LinksPage, entry_of, index_of, is_takeable, next_of, slot_of}
 
--- the home of the page that comes behind the one at a place
+-- the home of the page that comes after the one at a place
 abbrev pub home_behind : List TagPlace → ℕ → Option Home
 home_behind places k = option_map (λ (p : TagPlace). p.home) (slice_get places (k + 1))
 
@@ -122,7 +122,7 @@ abbrev pub IsOnPage : List TagPlace → ℕ → Tag → Type 0
 IsOnPage places number tag =
     IsSomeAnd (slice_get places number) (λ place. tag.slot / 1022 ≡ place.index)
 
--- pages of which one has another entry
+-- one of the pages has another entry
 pub record ChangesAt (home : Home) (place : ℕ) (entry : TagEntry) (old new : Pages) : Type 0 where
   pub page : List ℕ
   pub changed : List ℕ
@@ -156,7 +156,7 @@ pub record SetsTag (tag : Tag) (cell : Option CellAt) (places : List TagPlace) (
       ≡ (if s == tag.slot then Some tag.seq else sequence_of old places s)
   pub elsewhere : (h : Home) → is_page_of_slot places tag.slot h ≡ false → new h ≡ old h
 
--- pages of which one leads to another next page
+-- one of the pages leads to another next page
 pub record LinksAt (last home : Home) (old new : Pages) : Type 0 where
   pub page : List ℕ
   pub changed : List ℕ
@@ -215,7 +215,7 @@ pub record LastPlace (places : List TagPlace) (home : Home) : Type 0 where
   pub last : k + 1 ≡ length places
   pub stands : p.home ≡ home
 
--- the home of the last place, or none where there is no place
+-- the home of the last place, or none if there is no place
 abbrev pub IsLast : List TagPlace → Option Home → Type 0
 IsLast places None = places ≡ []
 IsLast places (Some home) = LastPlace places home
@@ -230,13 +230,13 @@ pub record CanJoin (places : List TagPlace) (page : List ℕ) : Type 0 where
   pub good : IsTagPage page
   pub unused : home_with places (index_of page) ≡ None
 
--- the page at the home stands behind the others, and this is its next page
+-- the page at the home stands after the others, and this is its next page
 pub record JoinsPage (home : Home) (page : List ℕ) (old new : List TagPlace) (next : Option Home)
     : Type 0 where
   pub joined : new ≡ old ++ (record { index = index_of page; home = home }) ∷ []
   pub linked : next ≡ next_of page
 
--- a page whose entries were never used, with this index, is ready to stand at the home behind those
+-- a page whose entries were never used, with this index, is ready to stand at the home after those
 -- at the places
 pub record IsReady (index : ℕ) (home : Home) (places : List TagPlace) (ready : ReadyPage)
     : Type 0 where

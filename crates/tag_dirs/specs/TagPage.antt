@@ -40,7 +40,7 @@ slot_of page e = 1022 * index_of page + e
 abbrev pub IsAllowed : ℕ → TagEntry → Type 0
 IsAllowed slot entry = IfSome entry.at (λ at. (at.cell < 28) × (1 ≤ entry.seq) × (¬ slot ≡ 0))
 
--- the bytes of an entry spell it: where it is used, an address, else zeros
+-- the bytes of an entry spell it: an address if it is used, else zeros
 abbrev pub IsSpelled : List ℕ → ℕ → Type 0
 IsSpelled page e =
     IsAddress (number_at 1 (18 + 8 * e) page) (number_at 1 (19 + 8 * e) page)
@@ -64,7 +64,7 @@ pub record HasIndex (index : ℕ) (page : List ℕ) : Type 0 where
   pub good : IsTagPage page
   pub indexed : index_of page ≡ index
 
--- a page of which one entry was changed: every other entry stays, and the index and next page
+-- one entry of a page was changed: every other entry stays, and so do the index and next page
 pub record ChangesEntry (place : ℕ) (entry : TagEntry) (old new : List ℕ) : Type 0 where
   pub there : entry_of new place ≡ entry
   pub others : (e : ℕ) → ¬ e ≡ place → entry_of new e ≡ entry_of old e

@@ -30,7 +30,7 @@ abbrev pub HasIndexThere : Pages → Home → ℕ → Type 0
 HasIndexThere pages home index =
     (page : List ℕ) × (pages home ≡ Some page) × (index_of page ≡ index)
 
--- so has a page in front of a place
+-- so has a page before a place
 abbrev pub HasIndexBefore : Pages → List Home → ℕ → ℕ → Type 0
 HasIndexBefore pages homes place index = (k : ℕ) × (k < place)
     × ((home : Home) × (slice_get homes k ≡ Some home) × HasIndexThere pages home index)

@@ -1,4 +1,4 @@
-//! Scripts and lines of histories, a row each: below a row stands what is read of it.
+//! Scripts and lines of histories, a row each. What is read of a row follows below it.
 #![tactic(auto)]
 
 mod entries;

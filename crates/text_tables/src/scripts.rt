@@ -37,7 +37,7 @@ fn push_all(alloc: Global, number: u8, commands: Vec<Command>, out: &mut String)
     Some(())
 }
 
-/// Says the commands of a script as a history has them, where all are done, or its first bad line.
+/// Says the commands of a script as a history has them if all are done, or its first bad line.
 pub fn script(alloc: Global, text: &[u8], out: &mut String) -> Option<()> {
     let clients = match read_script(alloc, text) {
         Ok(script) => script.clients.into_vec(),

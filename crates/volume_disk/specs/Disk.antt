@@ -24,7 +24,7 @@ pub record Disk : Type 0 where
   pub kept : Bool
   pub past : ℕ → Moment
 
--- the pages of a volume, and 0 where the rack has no such volume
+-- the pages of a volume, and 0 if the rack has no such volume
 abbrev pub volume_pages : List ℕ → ℕ → ℕ
 volume_pages sizes zero = 0
 volume_pages sizes (suc v) = slice_index sizes v
@@ -98,8 +98,7 @@ remembered disk t =
     let is_now = disk.kept && (t == disk.calls) && nat_lt t (2 ^ 64 - 1) in
     if is_now then disk.now else disk.past t
 
--- one call has been made: it leaves these counts of faults and, where the rack tells it, this
--- moment
+-- one call has been made: it leaves these counts of faults and, if the rack tells it, this moment
 pub record Makes (old new : Disk) (reads writes : ℕ → ℕ) (moment : Moment) : Type 0 where
   pub calls : new.calls ≡ raised old.calls
   pub read_faults : new.read_faults ≡ reads

@@ -42,12 +42,12 @@ pub record Touches (old new : Disk) (places : Places) : Type 0 where
   pub keeps : Tells old → IsTrue old.kept
       → (t : ℕ) (image : Image) → Since old t image → Since new t image
 
--- runs of calls, each of which begins where the one before it ended, and touches these places alone
+-- runs of calls: each begins where the one before it ended, and touches these places alone
 abbrev pub TouchesEach : Places → Disk → List Disk → Type 0
 TouchesEach places disk [] = Unit {0}
 TouchesEach places disk (next ∷ more) = Touches disk next places × TouchesEach places next more
 
--- where they end
+-- the disk at which they end
 abbrev pub end_of : Disk → List Disk → Disk
 end_of disk [] = disk
 end_of disk (next ∷ more) = end_of next more

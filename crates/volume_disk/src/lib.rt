@@ -1,5 +1,5 @@
-//! Racks of volumes that may stop at any moment, the model of what a stop leaves, and gates, which
-//! say whether what follows them counts.
+//! Racks of volumes that may stop at any moment, the model of what a stop leaves, and gates: blocks
+//! that say whether what follows them counts.
 #![tactic(auto)]
 
 mod gate;

@@ -1,4 +1,4 @@
--- What is behind the first of some elements that passes.
+-- What is after the first of some elements that passes.
 use Rattle.std.proofs.Common.{◌≡◌, ℕ, suc, zero, ◌+◌, ◌-◌, List, [], ◌∷◌, length, take, drop, refl, ◌∙◌, arith}
 use Rattle.std.proofs.Math.Seq.{drop-drop}
 use Rattle.std.proofs.lemmas.Grind.{common_steps}

@@ -7,7 +7,7 @@ use Rattle.word_forms.specs.Forms.{each, limited, run_of, runs_of_word}
 use Rattle.word_forms.specs.Runs.{Run, bytes_of_run}
 use Rattle.word_forms.proofs.EachLemmas.{each-cons}
 
--- these bytes and those of the runs, where there are any
+-- these bytes and those of the runs, if there are any
 abbrev pub with_runs : List ℕ → Option (List Run) → Option (List ℕ)
 with_runs front runs = option_map (λ rs. front ++ flat_map bytes_of_run rs) runs
 

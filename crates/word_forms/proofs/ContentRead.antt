@@ -99,7 +99,7 @@ runs_lack c (run ∷ runs) small e =
     let h = both (fits run) (list_all fits runs) e in
     rw (run_lacks c run small h.0, runs_lack c runs small h.1) refl
 
--- the first run and the others, each behind a dot, are cut apart again
+-- the first run and the others, each after a dot, are cut apart again
 runs_cut : (run : Run) (runs : List Run) → list_all fits (run ∷ runs) ≡ true → slice_split (λ b. eqb b 46) (run_text run ++ dotted runs) ≡ map run_text (run ∷ runs)
 unfolding dotted
 runs_cut run runs e =

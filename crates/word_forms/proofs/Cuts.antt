@@ -1,4 +1,4 @@
--- Parts of which none has a byte, cut apart at that byte.
+-- Parts, none of which has a byte, cut apart at that byte.
 use Rattle.std.proofs.Common.{◌≡◌, ℕ, Bool, true, false, ◌&&◌, ◌||◌, not, eqb, List, [], ◌∷◌, ◌++◌, length, drop, take, refl, sym, ap, ◌∙◌, ◌+◌, arith, append_assoc, length-append}
 use Rattle.std.specs.List.{list_all, list_any, flat_map, slice_split, onto_first, join_with_byte, before_first, after_first, position_or_len}
 use Rattle.std.proofs.Math.Seq.{take-length}
@@ -50,7 +50,7 @@ first_at p (x ∷ front) y back e is =
     let h = both (not (p x)) (list_all (λ x. not (p x)) front) e in
     rw (no (p x) h.0) (omega (arith, first_at p front y back h.1 is))
 
--- what stands before the first element that passes, and behind it
+-- what stands before the first element that passes, and after it
 pub before_at : {X : Type 0} (p : X → Bool) (front : List X) (y : X) (back : List X) → list_all (λ x. not (p x)) front ≡ true → p y ≡ true
     → before_first p (front ++ y ∷ back) ≡ front
 before_at p front y back e is = take_at front (y ∷ back) (position_or_len p (front ++ y ∷ back)) (sym (first_at p front y back e is))
@@ -92,7 +92,7 @@ list_any-mid c (b ∷ front) back = at (eqb b c) (list_any-mid c front back)
     at true h = refl
     at false h = h
 
--- the parts of a text are those before and those behind an element at which it is cut
+-- the parts of a text are those before and those after an element at which it is cut
 pub cut_two : {X : Type 0} (p : X → Bool) (xs : List X) (y : X) (ys : List X) → p y ≡ true → slice_split p (xs ++ y ∷ ys) ≡ slice_split p xs ++ slice_split p ys
 cut_two p [] y ys is = rw is refl
 cut_two {X} p (x ∷ xs) y ys is = at (p x) refl (cut_two p xs y ys is)

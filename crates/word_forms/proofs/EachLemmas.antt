@@ -10,7 +10,7 @@ each-cons {A} {B} f x xs y is = rw is (at (each f xs))
     at None = refl
     at (Some ys) = refl
 
--- what these and the rest mean together, where the rest has a meaning
+-- what these and the rest mean together, if the rest has a meaning
 abbrev pub behind : {B : Type 0} → List B → Option (List B) → Option (List B)
 behind front more = option_map (λ ys. front ++ ys) more
 

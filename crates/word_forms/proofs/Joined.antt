@@ -3,7 +3,7 @@ use Rattle.std.proofs.Common.{◌≡◌, ℕ, List, [], ◌∷◌, ◌++◌, map
 use Rattle.std.specs.List.{flat_map, join_with_byte}
 use Rattle.std.proofs.lemmas.List.{append_assoc, append-nil}
 
--- the first part, and each other one behind the byte
+-- the first part, and each other one after the byte
 pub join_with_byte-cons : (c : ℕ) (part : List ℕ) (parts : List (List ℕ)) → join_with_byte c (part ∷ parts) ≡ part ++ flat_map (λ p. c ∷ p) parts
 join_with_byte-cons c part [] = sym (append-nil part)
 join_with_byte-cons c part (next ∷ parts) = ap (λ xs. part ++ (c ∷ xs)) (join_with_byte-cons c next parts)

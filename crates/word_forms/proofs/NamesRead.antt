@@ -93,7 +93,7 @@ names_lack c (name ∷ names) is e =
     let h = both (is_written_name name) (list_all is_written_name names) e in
     rw (name_lacks c name is h.0, names_lack c names is h.1) refl
 
--- the rest of a path, behind its first name
+-- the rest of a path, after its first name
 abbrev behind_slashes : List (List ℕ) → List ℕ
 behind_slashes names = flat_map (λ n. 47 ∷ name_text n) names
 

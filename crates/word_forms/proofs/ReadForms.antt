@@ -69,7 +69,7 @@ byte_small high low b e =
     option_and_then_some _ (hexadecimal_digit low) b more (λ l second last.
     omega (arith, digit_small high h first, digit_small low l second, some_same (h * 16 + l) b last)))
 
--- a value behind a test
+-- a value after a test
 cond_is : {A : Type 0} (t : Bool) (o : Option A) (x : A) (P : Type 0) → cond t o None ≡ Some x → (t ≡ true → o ≡ Some x → P) → P
 cond_is true o x P e k = k refl e
 cond_is false o x P e k = absurd (cc)

@@ -17,7 +17,7 @@ neq-eqb a b ne = grind (arith, nat_tests)
 same_or_not : (a b : ℕ) → (a ≡ b) ⊎ (a ≢ b)
 same_or_not a b = grind (arith, nat_tests)
 
--- a byte in front of a run of the same byte, or of another
+-- a byte before a run of the same byte, or of another
 with_byte-same : (b x n : ℕ) (runs : List Run) → b ≡ x → with_byte b (run x n ∷ runs) ≡ run x (n + 1) ∷ runs
 with_byte-same b x n runs e = rw (eq-eqb b x e) refl
 
@@ -100,7 +100,7 @@ runs_of-form (r ∷ next ∷ runs) h =
 pub runs_of_is_only : (bytes : List ℕ) (runs : List Run) → IsRunLengthForm bytes runs → runs ≡ runs_of bytes
 runs_of_is_only bytes runs h = sym (runs_of-form runs h.0) ∙ ap runs_of h.1
 
--- each run behind a dot
+-- each run after a dot
 unfoldable pub dotted : List Run → List ℕ
 dotted runs = flat_map (λ r. 46 ∷ run_text r) runs
 
@@ -112,7 +112,7 @@ join-dotted : (r : Run) (runs : List Run) → join_with_byte 46 (map run_text (r
 unfolding dotted
 join-dotted r runs = join_with_byte-cons 46 (run_text r) (map run_text runs) ∙ ap (λ xs. run_text r ++ xs) (flat_map-map (λ p. 46 ∷ p) run_text runs)
 
--- bytes are written as their first run, and then each other one behind a dot
+-- bytes are written as their first run, and then each other one after a dot
 pub bytes_text-runs : (bytes : List ℕ) (r : Run) (runs : List Run) → 0 < length bytes → runs_of bytes ≡ r ∷ runs → bytes_text bytes ≡ run_text r ++ dotted runs
 unfolding bytes_text
 bytes_text-runs [] r runs h e = absurd (omega (arith, h))

@@ -13,11 +13,11 @@ infixl 10 ◌>>=◌
 abbrev pub ◌>>=◌ : {A B : Type 0} → Option A → (A → Option B) → Option B
 o >>= f = option_and_then f o
 
--- the value, where the test holds
+-- the value, if the test holds
 abbrev pub passing : {A : Type 0} → Bool → A → Option A
 passing test x = if test then Some x else None
 
--- the meaning of each, where each has one
+-- the meaning of each, if each has one
 abbrev pub each : {A B : Type 0} → (A → Option B) → List A → Option (List B)
 each f [] = Some []
 each f (x ∷ xs) = do
@@ -79,7 +79,7 @@ stands_for_itself b = nat_le 33 b && nat_le b 126 && not (b == 37)
 abbrev pub is_escaped : ℕ → Bool
 is_escaped b = not (stands_for_itself b) && not (b == 0)
 
--- where a byte stands: at the beginning of one's spelling, behind a `%`, or behind a `%` and this
+-- where a byte stands: at the beginning of one's spelling, after a `%`, or after a `%` and this
 -- digit
 pub data Spelling : Type 0 where
   Begins : Spelling
@@ -111,7 +111,7 @@ name_of word = do
   name ← bytes_from Begins word
   passing (is_name name) name
 
--- the path that the word says: `/`, or up to 32 names, each behind a `/`
+-- the path that the word says: `/`, or up to 32 names, each after a `/`
 unfoldable pub path_of : List ℕ → Option (List (List ℕ))
 path_of word =
     if bytes_eq word (codes "/") then Some []
@@ -157,8 +157,8 @@ quoted_of word =
     && list_all is_quotable inner)
     inner
 
--- a byte, by two hexadecimal digits, and how often it stands in a row, behind an `x`, which is once
--- where nothing is said
+-- a byte, by two hexadecimal digits, and after an `x` how often it stands in a row; without that,
+-- once
 unfoldable pub run_of : List ℕ → Option Run
 run_of (high ∷ low ∷ []) = do
   byte ← byte_of high low
@@ -179,7 +179,7 @@ runs_of_word word = do
 abbrev pub limited : Option (List ℕ) → Option (List ℕ)
 limited bytes = bytes >>= λ bs. passing (has_length 1 8_192 bs) bs
 
--- so many bytes, in quotes or in runs
+-- bytes, in quotes or in runs, within the limit on their number
 unfoldable pub bytes_of : List ℕ → Option (List ℕ)
 bytes_of word = limited (if slice_index word 0 == 34 then quoted_of word else runs_of_word word)
 

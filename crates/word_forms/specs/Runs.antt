@@ -3,7 +3,7 @@ use Rattle.std.specs.Prelude.{◌≡◌, ◌≢◌, ℕ, ◌+◌, ◌/◌, ◌%�
 use Rattle.std.specs.List.{flat_map, join_with_byte}
 use Rattle.std.specs.Fmt.{digit_glyph}
 
--- a byte that stands so many times in a row
+-- a byte that stands `count` times in a row
 pub record Run : Type 0 where
   pub byte : ℕ
   pub count : ℕ
@@ -39,7 +39,7 @@ IsRunLengthForm bytes runs = AreMaximal runs × (flat_map bytes_of_run runs ≡ 
 unfoldable pub hexadecimal : ℕ → List ℕ
 hexadecimal b = digit_glyph false (b / 16) ∷ digit_glyph false (b % 16) ∷ []
 
--- a byte, and how often it stands where that is more than once
+-- a byte, and how often it stands if that is more than once
 unfoldable pub run_text : Run → List ℕ
 run_text run =
     hexadecimal run.byte ++ (if nat_lt 1 run.count then codes "x" ++ decimal run.count else [])

@@ -9,7 +9,7 @@ use Rattle.word_forms.specs.Runs.{hexadecimal}
 abbrev pub spaced : List (List ℕ) → List ℕ
 spaced words = join_with_byte 32 words
 
--- each word behind a space
+-- each word after a space
 abbrev pub behind_spaces : List (List ℕ) → List ℕ
 behind_spaces words = flat_map (λ word. 32 ∷ word) words
 
@@ -21,7 +21,7 @@ name_byte_text b = if stands_for_itself b then b ∷ [] else codes "%" ++ hexade
 unfoldable pub name_text : List ℕ → List ℕ
 name_text name = flat_map name_byte_text name
 
--- each name behind a `/`; the root is `/` alone
+-- each name after a `/`; the root is `/` alone
 unfoldable pub path_text : List (List ℕ) → List ℕ
 path_text [] = codes "/"
 path_text (name ∷ names) = flat_map (λ n. codes "/" ++ name_text n) (name ∷ names)

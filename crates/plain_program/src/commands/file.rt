@@ -71,7 +71,7 @@ pub(crate) fn read(
     Ok(reply)
 }
 
-/// The bytes of the file at a path from the offset on, at most so many.
+/// The bytes of the file at a path from the offset on, at most `count` of them.
 pub(crate) fn read_file(
     alloc: Global,
     tree: &FilesetTree,
@@ -92,8 +92,8 @@ pub(crate) fn read_file(
     }
 }
 
-/// Sets the size of a file. What was written behind the new size is lost: where the file grows
-/// again, zeros are read there.
+/// Sets the size of a file. Bytes after the new size are lost: if the file grows again, they read
+/// as zeros.
 pub(crate) fn truncate(
     alloc: Global,
     filesets: &mut Filesets,

@@ -27,7 +27,7 @@ pub(crate) fn mkdir(
 }
 
 /// Moves a file or directory, and what stands below it, to another path of its fileset; what stands
-/// there is replaced. Where both paths lead to one file, nothing changes.
+/// there is replaced. If both paths lead to one file, nothing changes.
 pub(crate) fn rename(
     alloc: Global,
     filesets: &mut Filesets,

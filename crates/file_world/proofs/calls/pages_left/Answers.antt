@@ -4,7 +4,7 @@ use Rattle.index_pages.specs.tag_dirs.declared.dir.TagPlace.{TagPlace}
 use Rattle.index_pages.specs.tag_dirs.Directory.{home_with}
 use Rattle.file_world.proofs.calls.pages_left.Goals as goal
 
--- no page is in front of the only one
+-- no page is before the only one
 only_one : (places : List TagPlace) (one last : TagPlace) → one ∷ [] ≡ places ++ last ∷ [] → home_with places last.index ≡ None
 only_one [] one last is = refl
 only_one (p ∷ ps) one last is = absurd (omega (arith, ap length is, length-append ps (last ∷ [])))

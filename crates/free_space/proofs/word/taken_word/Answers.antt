@@ -23,7 +23,7 @@ masked word passed i small =
     ∙ sym (ap (λ b. b || nat_eq (bit_at word i) 1) (le-ltb i passed above)))
     (cases_lt i passed)
 
--- the page of bit i comes before `from` exactly where the bit is below `passed`
+-- the page of bit i comes before `from` if and only if the bit is below `passed`
 shifted : (k from i passed : ℕ) → passed ≡ from - 64 * k → nat_lt i passed ≡ nat_lt (64 * k + i) from
 shifted k from i passed is =
     ⊎_elim (λ below. lt-ltb i passed below ∙ sym (lt-ltb (64 * k + i) from (omega arith)))

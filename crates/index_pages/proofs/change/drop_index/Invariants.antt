@@ -2,7 +2,7 @@ use Rattle.std.proofs.Common.{◌≡◌, ◌≤◌}
 use Rattle.index_pages.proofs.Dropped.{AreLeft}
 use Rattle.index_pages.proofs.change.drop_index.Given as goal
 
--- what is left of the index begins at the home, and the pages in front of that wait
+-- what is left of the index begins at the home, and the pages before that wait
 abbrev pub invariant-loop : goal.invariant-loop
 invariant-loop g l =
     let pages = g.M.MetaPages.pages in

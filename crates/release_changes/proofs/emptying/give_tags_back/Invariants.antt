@@ -3,7 +3,7 @@ use Rattle.domain_changes.specs.release_steps.Links.{homes_of}
 use Rattle.release_changes.proofs.TagsBack.{TagsLeft}
 use Rattle.release_changes.proofs.emptying.give_tags_back.Given as goal
 
--- the pages behind the place are left
+-- the pages after the place are left
 abbrev pub invariant-loop-place : goal.invariant-loop-place
 invariant-loop-place g l =
     let pages = g.M.MetaPages.pages in

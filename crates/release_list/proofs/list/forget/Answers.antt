@@ -6,7 +6,7 @@ use Rattle.release_list.specs.declared.list.Entry.{Entry}
 use Rattle.release_list.specs.Listing.{clone_but, without}
 use Rattle.release_list.proofs.list.forget.Goals as goal
 
--- so many elements are left where those in front of a place are mapped
+-- the number of elements stays if those before a place are mapped
 as_long : (f : Entry → Entry) (xs : List Entry) (i : ℕ) → i < length xs → length (map f (take i xs) ++ drop i xs) ≡ length xs
 as_long f (x ∷ xs) zero less = refl
 as_long f (x ∷ xs) (suc i) less = ap suc (as_long f xs i (omega (arith, less)))

@@ -5,7 +5,7 @@ use Rattle.free_space.proofs.Mapping.{volume_read}
 use Rattle.free_space.proofs.spaces.FreeSpace.allocate_run.Goals as goal
 use Rattle.free_space.proofs.spaces.FreeSpace.allocate_run.Goals.{in-Some, in-None}
 
--- no run of the volume that was looked at is free, where the look gave None
+-- no run of the volume that was looked at is free, if the look gave None
 no_run : (v : VolumeSpace) (count : ℕ) (r : Option ℕ) → r ≡ None → IfNone r ((p : ℕ) → v.is_open ≡ true → ¬ AreFreePages v p count) →
     (p : ℕ) → v.is_open ≡ true → ¬ AreFreePages v p count
 no_run v count r none is = subst (λ o. IfNone o ((p : ℕ) → v.is_open ≡ true → ¬ AreFreePages v p count)) none is
