@@ -4,8 +4,8 @@ use Rattle.std.proofs.lemmas.Bool.{cases_Bool, or_left, or_parts, or_right}
 use Rattle.std.specs.List.{find, list_any}
 use Rattle.std.specs.Prelude.{filter}
 use Rattle.std.specs.Option.{option_map}
-use Rattle.log_ring.specs.domain_base.declared.place.Home.{Home}
-use Rattle.log_ring.specs.page_store.Pages.{Pages, same_home, with_page}
+use Rattle.log_recovery.specs.domain_base.declared.place.Home.{Home}
+use Rattle.log_recovery.specs.page_store.Pages.{Pages, same_home, with_page}
 use Rattle.member_moves.specs.declared.page_move.Move.{Move}
 use Rattle.member_moves.specs.declared.page_move.Phase.{Phase}
 use Rattle.member_moves.specs.declared.page_move.Phase.TheVariants.{Copied, Reserved, Switched}

@@ -2,8 +2,8 @@
 use Rattle.std.proofs.Common.{◌≡◌, true, false, nat_eq, List, ◌∷◌, refl, sym, subst}
 use Rattle.std.proofs.lemmas.Bool.{and_from, and_parts, both_ways, eq-eqb, eqb-true, false_from_ne_true, or_left, or_parts, or_right}
 use Rattle.std.specs.List.{list_any}
-use Rattle.log_ring.specs.domain_base.declared.place.Home.{Home}
-use Rattle.log_ring.specs.page_store.Pages.{same_home}
+use Rattle.log_recovery.specs.domain_base.declared.place.Home.{Home}
+use Rattle.log_recovery.specs.page_store.Pages.{same_home}
 use Rattle.member_moves.specs.declared.page_move.Move.{Move}
 use Rattle.member_moves.specs.Moves.{IsInNone, has_home, is_from}
 

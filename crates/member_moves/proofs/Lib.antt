@@ -5,6 +5,7 @@ mod StayApart
 mod Stepping
 mod PartChanged
 mod Writing
+mod StillGood
 pub mod Even
 pub mod Exists
 pub mod Falls

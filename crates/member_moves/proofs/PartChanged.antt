@@ -1,7 +1,7 @@
 -- A loop that changes each move.
 use Rattle.std.proofs.Common.{◌≡◌, ℕ, ◌<◌, ◌≤◌, List, length, get_or, map, sym, ◌∙◌, arith}
 use Rattle.std.proofs.lemmas.List.{length-map, get_or-map, ext_get_or}
-use Rattle.log_ring.specs.domain_base.declared.place.Home.{Home}
+use Rattle.log_recovery.specs.domain_base.declared.place.Home.{Home}
 use Rattle.member_moves.specs.declared.page_move.Move.{Move}
 use Rattle.member_moves.specs.Moves.{reserved}
 

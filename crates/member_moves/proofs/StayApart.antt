@@ -4,8 +4,8 @@ use Rattle.std.proofs.lemmas.Bool.{or_from}
 use Rattle.std.proofs.lemmas.List.Folds.{list_any-append}
 use Rattle.std.specs.List.{list_any}
 use Rattle.std.specs.Prelude.{filter}
-use Rattle.log_ring.specs.domain_base.declared.place.Home.{Home}
-use Rattle.log_ring.specs.page_store.Pages.{same_home}
+use Rattle.log_recovery.specs.domain_base.declared.place.Home.{Home}
+use Rattle.log_recovery.specs.page_store.Pages.{same_home}
 use Rattle.member_moves.specs.declared.page_move.Move.{Move}
 use Rattle.member_moves.specs.declared.page_move.Phase.{Phase}
 use Rattle.member_moves.specs.Moves.{AreApart, IsInNone, has_home, is_from, rephased, reserved, started, with_phase}

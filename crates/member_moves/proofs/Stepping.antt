@@ -1,6 +1,6 @@
 -- What holds of moves and pages, over any number of steps.
 use Rattle.std.proofs.Common.{◌≡◌, [], not, sym, subst, Some}
-use Rattle.log_ring.specs.domain_base.declared.place.Home.{Home}
+use Rattle.log_recovery.specs.domain_base.declared.place.Home.{Home}
 use Rattle.member_moves.specs.declared.page_move.Move.{Move}
 use Rattle.member_moves.specs.declared.page_move.Phase.TheVariants.{Copied, Reserved, Switched}
 use Rattle.member_moves.specs.Copies.{AreAlike, Holds, Now, Step, Steps, abandon, copy, finish, finish_switched, none, one_more, start, switch, write}

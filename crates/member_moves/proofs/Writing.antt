@@ -4,8 +4,8 @@ use Rattle.std.proofs.lemmas.Bool.{cases_Bool, or_from, or_parts}
 use Rattle.std.proofs.lemmas.List.Folds.{list_any_at}
 use Rattle.std.specs.List.{find, list_any}
 use Rattle.std.specs.Option.{option_map}
-use Rattle.log_ring.specs.domain_base.declared.place.Home.{Home}
-use Rattle.log_ring.specs.page_store.Pages.{same_home}
+use Rattle.log_recovery.specs.domain_base.declared.place.Home.{Home}
+use Rattle.log_recovery.specs.page_store.Pages.{same_home}
 use Rattle.member_moves.specs.declared.page_move.Move.{Move}
 use Rattle.member_moves.specs.Moves.{AreApart, IsInNone, has_home, is_from, other_home, writes_of}
 use Rattle.member_moves.proofs.HomeTests.{has_from, has_to, homes_same, not_the_home, other_swapped, same_itself}

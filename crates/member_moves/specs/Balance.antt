@@ -1,7 +1,7 @@
 -- How full the volumes of a domain are, one beside the other. A volume's used share is its used
 -- pages over its pages; shares are compared by cross products.
 use Rattle.std.specs.Prelude.{◌≡◌, ◌≢◌, ◌+◌, ◌-◌, ◌*◌, ◌<◌, ◌≤◌, ℕ, false, List, length, All, AllPairs, Contains, Some, slice_get}
-use Rattle.log_ring.specs.domain_base.declared.place.Home.{Home}
+use Rattle.log_recovery.specs.domain_base.declared.place.Home.{Home}
 use Rattle.member_moves.specs.declared.balance.End.{End}
 use Rattle.member_moves.specs.declared.balance.End.TheVariants.{Fullest, Emptiest}
 use Rattle.member_moves.specs.declared.counts.VolCount.{VolCount}

@@ -1,8 +1,8 @@
 -- What a change of members makes of an anchor.
 use Rattle.std.specs.Prelude.{◌≡◌, ◌≢◌, ◌-◌, ◌≤◌, ℕ, IsSomeAnd, length, slice_set}
-use Rattle.log_ring.specs.disk_label.declared.anchor.Anchor.{Anchor}
-use Rattle.log_ring.specs.disk_label.declared.anchor.Member.{Member}
-use Rattle.log_ring.specs.Homes.{member_of}
+use Rattle.log_recovery.specs.disk_label.declared.anchor.Anchor.{Anchor}
+use Rattle.log_recovery.specs.disk_label.declared.anchor.Member.{Member}
+use Rattle.log_recovery.specs.log_ring.Homes.{member_of}
 
 -- the anchor with this entry for a volume
 abbrev pub with_entry : ℕ → Member → Anchor → Anchor

@@ -1,8 +1,8 @@
 -- What stands at homes while pages move: each write of a page goes to all its homes.
 use Rattle.std.specs.Prelude.{◌≡◌, ◌∷◌, [], false, List, Option, Some, if◌then◌else◌, ℕ}
 use Rattle.std.specs.Option.{option_map_or}
-use Rattle.log_ring.specs.domain_base.declared.place.Home.{Home}
-use Rattle.log_ring.specs.page_store.Pages.{Pages, same_home, with_page}
+use Rattle.log_recovery.specs.domain_base.declared.place.Home.{Home}
+use Rattle.log_recovery.specs.page_store.Pages.{Pages, same_home, with_page}
 use Rattle.member_moves.specs.declared.page_move.Move.{Move}
 use Rattle.member_moves.specs.declared.page_move.Phase.TheVariants.{Copied, Reserved, Switched}
 use Rattle.member_moves.specs.Moves.{AreApart, IsInNone, IsNotSwitched, move_of, phase_of, started, unswitched, with_phase, without, writes_of}

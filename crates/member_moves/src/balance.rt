@@ -12,7 +12,7 @@ ghost use Rattle.member_moves.specs.Balance.{
 };
 
 use crate::counts::VolCount;
-use log_ring::VolIx;
+use log_recovery::VolIx;
 
 /// From which end the open volumes are taken by their used shares.
 #[derive(Clone, Copy)]

@@ -4,7 +4,7 @@ ghost use Rattle.std.specs.Prelude.{◌≡◌, ◌≤◌};
 
 use crate::page_move::is_same;
 use crate::{Moves, Phase};
-use log_ring::{Home, VolIx};
+use log_recovery::{Home, VolIx};
 
 /// A volume and a page of it.
 pub type Place = (u32, u32);

@@ -1,6 +1,6 @@
 //! The page counts of a volume.
 
-use log_ring::VolIx;
+use log_recovery::VolIx;
 
 /// How full a volume is, in pages of 8,192 bytes. Its used share is `used` over `pages`.
 #[derive(Clone, Copy, Debug, PartialEq, Eq)]

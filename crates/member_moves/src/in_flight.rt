@@ -1,12 +1,12 @@
 //! The moves that are in flight.
 ghost use Rattle.std.specs.Prelude.{◌≡◌, ◌<◌, ◌≤◌, ◌↔◌, [], false, IfOk, IsSomeAnd, IsTrue, length, option_copied};
 ghost use Rattle.std.specs.List.{list_any};
-ghost use Rattle.log_ring.specs.page_store.Pages.{same_home};
+ghost use Rattle.log_recovery.specs.page_store.Pages.{same_home};
 ghost use Rattle.member_moves.specs.declared.page_move.Phase.TheVariants.{Copied, Switched};
 ghost use Rattle.member_moves.specs.Moves.{AreApart, IsInNone, IsNotSwitched, has_home, move_of, phase_of, started, unswitched, with_phase, without, writes_of};
 
 use crate::{Move, Phase};
-use log_ring::{Home, OutOfMemory};
+use log_recovery::{Home, OutOfMemory};
 use std::alloc::Global;
 use std::marker::Model;
 

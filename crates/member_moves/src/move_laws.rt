@@ -2,8 +2,8 @@
 //! without a body.
 ghost use Rattle.std.specs.Prelude.{◌≡◌, [], Contains, List, None, Some, if◌then◌else◌};
 ghost use Rattle.std.specs.Option.{option_map};
-ghost use Rattle.log_ring.specs.domain_base.declared.place.Home.{Home};
-ghost use Rattle.log_ring.specs.page_store.Pages.{same_home};
+ghost use Rattle.log_recovery.specs.domain_base.declared.place.Home.{Home};
+ghost use Rattle.log_recovery.specs.page_store.Pages.{same_home};
 ghost use Rattle.member_moves.specs.declared.page_move.Move.{Move};
 ghost use Rattle.member_moves.specs.declared.page_move.Phase.{Phase};
 ghost use Rattle.member_moves.specs.declared.page_move.Phase.TheVariants.{Reserved};

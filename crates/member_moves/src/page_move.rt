@@ -1,9 +1,9 @@
 //! One move of a page.
 ghost use Rattle.std.specs.Prelude.{◌≡◌};
-ghost use Rattle.log_ring.specs.page_store.Pages.{same_home};
+ghost use Rattle.log_recovery.specs.page_store.Pages.{same_home};
 ghost use Rattle.member_moves.specs.Moves.{has_home, is_from, is_unswitched, other_home, rephased};
 
-use log_ring::Home;
+use log_recovery::Home;
 
 /// How far a move is.
 #[derive(Clone, Copy, Debug, PartialEq, Eq)]

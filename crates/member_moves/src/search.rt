@@ -2,7 +2,7 @@
 ghost use Rattle.std.specs.Prelude.{◌≢◌, ◌↔◌, All, IsNone, IfSome};
 ghost use Rattle.member_moves.specs.Balance.{IsFirstOn};
 
-use log_ring::{Home, VolIx};
+use log_recovery::{Home, VolIx};
 
 /// The first index of a home on this volume. Returns None if and only if there is none.
 pub fn first_on(vol: VolIx, homes: &[Home]) -> Option<usize>

@@ -1,6 +1,10 @@
 //! The anchors by which members change.
 
-use member_moves::{Anchor, Home, Member, VolIx, VolumeTable, in_state, is_member};
+use member_moves::limits::{LOG_PAGES, MAX_VOLUME_PAGES_4, MIN_VOLUME_PAGES};
+use member_moves::{
+    Anchor, Home, Member, Version, VolIx, has_log, has_table, in_state, is_member, member_of,
+    with_log, with_member, with_table, with_version,
+};
 use std::test::Fail;
 
 const NONE: Member = Member { pages: 0, state: 0 };
@@ -35,29 +39,30 @@ fn anchor() -> Anchor {
     }
 }
 
-/// The anchor by which a volume becomes a member, if it is none.
-fn joined(table: &VolumeTable, vol: VolIx, pages: u32) -> Option<Anchor> {
-    if is_member(table.anchor_now(), vol) {
+/// The anchor by which a volume becomes a member, if it is none and may have so few or many pages.
+fn joined(anchor: &Anchor, vol: VolIx, pages: u32) -> Option<Anchor> {
+    if is_member(anchor, vol) || !(MIN_VOLUME_PAGES..=MAX_VOLUME_PAGES_4).contains(&pages) {
         return None;
     }
-    Some(table.with_member(vol, pages))
+    Some(with_member(anchor, vol, pages))
 }
 
-/// The anchor by which the log begins on a member.
-fn with_log(table: &VolumeTable, vol: VolIx, first: u32) -> Option<Anchor> {
-    if !is_member(table.anchor_now(), vol) {
+/// The anchor by which the log begins on a member, if its 128 pages lie inside it after page 1.
+fn log_at(anchor: &Anchor, vol: VolIx, first: u32) -> Option<Anchor> {
+    let pages = member_of(anchor, vol).pages;
+    if !is_member(anchor, vol) || first < 2 || pages < LOG_PAGES || first > pages - LOG_PAGES {
         return None;
     }
-    Some(table.with_log(vol, first))
+    Some(with_log(anchor, vol, first))
 }
 
-/// The anchor by which the table stands on a member.
-fn with_table(table: &VolumeTable, home: &Home) -> Option<Anchor> {
-    if !is_member(table.anchor_now(), home.vol) {
+/// The anchor by which the table stands on a page of a member.
+fn table_at(anchor: &Anchor, home: &Home) -> Option<Anchor> {
+    if !is_member(anchor, home.vol) || home.page >= member_of(anchor, home.vol).pages {
         return None;
     }
     let to = *home;
-    Some(table.with_table(to))
+    Some(with_table(anchor, to))
 }
 
 /// The anchor with another second and third member.
@@ -70,37 +75,34 @@ fn with_members(second: Member, third: Member) -> Anchor {
 
 #[test]
 fn a_new_member_is_open(rt: HostRuntime) -> Result<(), Fail> {
-    let table = VolumeTable::new(&anchor());
+    let old = anchor();
     let two = VolIx::new(2).ok_or("a volume")?;
     let three = VolIx::new(3).ok_or("a volume")?;
-    let want = with_members(
-        SECOND,
-        Member {
-            pages: 96,
-            state: 1,
-        },
-    );
-    let seen = [joined(&table, three, 96), joined(&table, two, 96)];
-    assert_eq!(rt; seen, [Some(want), None]);
+    let want = with_members(SECOND, member(96, 1));
+    let seen = [
+        joined(&old, three, 96),
+        joined(&old, two, 96),
+        joined(&old, three, 63),
+    ];
+    assert_eq!(rt; seen, [Some(want), None, None]);
     Ok(())
 }
 
 #[test]
 fn a_member_is_opened_closed_and_taken_off(rt: HostRuntime) -> Result<(), Fail> {
-    let table = VolumeTable::new(&anchor());
+    let old = anchor();
     let one = VolIx::new(1).ok_or("a volume")?;
     let two = VolIx::new(2).ok_or("a volume")?;
     let seen = [
-        in_state(&table, two, 1),
-        in_state(&table, two, 0),
-        in_state(&table, one, 0),
-        in_state(&table, one, 2),
+        in_state(&old, two, 1),
+        in_state(&old, two, 0),
+        in_state(&old, one, 0),
+        in_state(&old, one, 2),
     ];
     let opened = with_members(member(64, 1), NONE);
     let off = with_members(member(64, 0), NONE);
-    let first = member(512, 2);
     let closed = Anchor {
-        members: [first, SECOND, NONE, NONE, NONE, NONE, NONE, NONE],
+        members: [member(512, 2), SECOND, NONE, NONE, NONE, NONE, NONE, NONE],
         ..anchor()
     };
     assert_eq!(rt; seen, [Some(opened), Some(off), None, Some(closed)]);
@@ -110,57 +112,64 @@ fn a_member_is_opened_closed_and_taken_off(rt: HostRuntime) -> Result<(), Fail> 
 #[test]
 fn the_member_with_the_table_is_not_taken_off(rt: HostRuntime) -> Result<(), Fail> {
     let two = VolIx::new(2).ok_or("a volume")?;
-    let table = VolumeTable::new(&Anchor {
+    let old = Anchor {
         table: Some(Home { vol: two, page: 33 }),
         ..anchor()
-    });
-    let off = in_state(&table, two, 0);
-    let opened = in_state(&table, two, 1).is_some();
-    assert_eq!(rt; (off, opened), (None, true));
+    };
+    let off = in_state(&old, two, 0);
+    let opened = in_state(&old, two, 1).is_some();
+    assert_eq!(rt; (off, opened, has_table(&old, two)), (None, true, true));
     Ok(())
 }
 
 #[test]
-fn log_and_table_go_to_a_member(rt: HostRuntime) -> Result<(), Fail> {
-    let table = VolumeTable::new(&anchor());
+fn the_log_goes_to_a_member_that_it_fits(rt: HostRuntime) -> Result<(), Fail> {
+    let old = with_members(member(169, 1), member(127, 1));
     let two = VolIx::new(2).ok_or("a volume")?;
     let three = VolIx::new(3).ok_or("a volume")?;
-    let home = Home { vol: two, page: 33 };
+    let four = VolIx::new(4).ok_or("a volume")?;
     let seen = [
-        with_log(&table, two, 40),
-        with_table(&table, &home),
-        with_log(&table, three, 40),
+        log_at(&old, two, 41),
+        log_at(&old, two, 42),
+        log_at(&old, three, 2),
+        log_at(&old, four, 2),
     ];
-    let log = Anchor {
-        log_vol: 2,
-        log_page: 40,
-        ..anchor()
-    };
     let moved = Anchor {
-        table: Some(home),
-        ..anchor()
+        log_vol: 2,
+        log_page: 41,
+        ..old
     };
-    assert_eq!(rt; seen, [Some(log), Some(moved), None]);
+    assert_eq!(rt; seen, [Some(moved), None, None, None]);
+    assert_eq!(rt; (has_log(&old, two), has_log(&moved, two)), (false, true));
     Ok(())
 }
 
 #[test]
-fn the_anchor_that_was_written_is_the_one_now(rt: HostRuntime) -> Result<(), Fail> {
-    let mut table = VolumeTable::new(&anchor());
-    let before = *table.anchor_now();
-    let one = VolIx::new(1).ok_or("a volume")?;
-    let three = VolIx::new(3).ok_or("a volume")?;
-    let next = joined(&table, three, 64).ok_or("a member")?;
-    let written = Anchor {
-        number: 6,
-        slot: 0,
-        ..next
+fn the_table_goes_to_a_page_of_a_member(rt: HostRuntime) -> Result<(), Fail> {
+    let old = anchor();
+    let two = VolIx::new(2).ok_or("a volume")?;
+    let last = Home { vol: two, page: 63 };
+    let beyond = Home { vol: two, page: 64 };
+    let moved = Anchor {
+        table: Some(last),
+        ..anchor()
     };
-    table.written(&written);
-    let has_log = (table.has_log(one), table.has_log(three));
-    assert_eq!(rt;
-        (before, *table.anchor_now(), has_log),
-        (anchor(), written, (true, false))
-    );
+    let seen = [table_at(&old, &last), table_at(&old, &beyond)];
+    assert_eq!(rt; seen, [Some(moved), None]);
+    Ok(())
+}
+
+#[test]
+fn a_domain_goes_to_another_version(rt: HostRuntime) -> Result<(), Fail> {
+    let old = anchor();
+    let new = Anchor {
+        version: 4,
+        ..anchor()
+    };
+    let seen = [
+        with_version(&old, Version::Four),
+        with_version(&old, Version::Three),
+    ];
+    assert_eq!(rt; seen, [new, old]);
     Ok(())
 }
