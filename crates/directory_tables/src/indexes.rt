@@ -10,8 +10,8 @@ use crate::index_steps::{
 use crate::names::name_or_none;
 use crate::text::push_digits;
 use directory_rows::{BitfileSet, IndexEntry, MemoryBitfiles, StoreFault, name_hash};
-use page_looks::Looks;
 use std::alloc::Global;
+use table_words::Looks;
 
 /// Says the hash of a name; a dash is the empty one.
 pub fn hash(alloc: Global, text: &str, out: &mut String) -> Option<()> {

@@ -3,8 +3,8 @@
 
 use crate::row_steps::{long_name, wide_name};
 use directory_rows::is_row_name;
-use hex::decode;
 use std::alloc::Global;
+use table_words::decode;
 
 /// Adds bytes `times` times.
 fn push_often(name: &mut Vec<u8>, times: u32, part: &[u8]) -> Option<()> {

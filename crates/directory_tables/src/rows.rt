@@ -11,8 +11,8 @@ use crate::row_steps::{
     listed_in_place, remove, remove_odd, slot_of,
 };
 use directory_rows::{BitfileSet, MemoryBitfiles, OutOfMemory, StoreFault, is_empty, row_count};
-use page_looks::Looks;
 use std::alloc::Global;
+use table_words::Looks;
 
 /// Says how many pages a directory has, and whether it has an index.
 fn push_shape<S: BitfileSet>(set: &S, out: &mut String) -> Result<(), OutOfMemory> {

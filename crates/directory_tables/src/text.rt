@@ -5,8 +5,8 @@
 use directory_rows::from_directory_pages::read_rows;
 use directory_rows::limits::PAGE_BYTES;
 use directory_rows::{Kind, OutOfMemory, Page, Row, RowsFault};
-use hex::decode;
 use std::alloc::Global;
+use table_words::decode;
 
 /// Puts the bytes of a word on a page, and tells where they end.
 fn put_word(alloc: Global, page: &mut Page, at: usize, word: &str) -> Option<usize> {

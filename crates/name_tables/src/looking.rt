@@ -7,9 +7,9 @@ use crate::reading::{number_of, path};
 use crate::runs::said_all;
 use crate::steps::{empty_set, is_good};
 use fileset_lending::{BitfileSet, MemoryBitfiles, OutOfMemory, Path, target, walk};
-use page_looks::Looks;
 use std::alloc::Global;
 use std::test::Fail;
+use table_words::Looks;
 
 /// How many pages of directories and of indexes are looked at for the directory of a path's last
 /// name, and for what stands at the path.

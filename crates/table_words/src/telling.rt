@@ -1,6 +1,6 @@
 //! What is told, one word after another.
-use domain_base::Home;
 use hex::encode;
+use page_store::Home;
 use std::alloc::Global;
 use std::fmt::Display;
 use std::process::ExitCode;

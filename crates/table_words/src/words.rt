@@ -1,5 +1,5 @@
 //! The words of a line.
-use domain_base::VolIx;
+use page_store::VolIx;
 
 /// What is left to read of a line. After a word that is missing or is no number where one is
 /// wanted, which is read as 0, the words are not right any more.

@@ -1,6 +1,0 @@
-//! For tests: a set of files and directories that counts the pages that are looked at.
-#![tactic(auto)]
-
-mod looks;
-
-pub use looks::Looks;
