@@ -44,12 +44,11 @@ fn push_below(answers: &mut String, lines: &str) -> Result<(), AllocError> {
     Ok(())
 }
 
-/// Adds a row, and below it what comes of it. A comment and an empty row stand for themselves.
-pub fn push_row(alloc: Global, answers: &mut String, row: &str) -> Result<(), AllocError> {
-    answers.push_str(row)?;
-    answers.push('\n')?;
-    if row.is_empty() || row.starts_with('#') {
-        return Ok(());
-    }
-    push_below(answers, row_answer(alloc, row)?.as_str())
+/// A row, and below it what comes of it.
+pub fn row_lines(alloc: Global, row: &str) -> Result<String, AllocError> {
+    let mut lines = String::new(alloc);
+    lines.push_str(row)?;
+    lines.push('\n')?;
+    push_below(&mut lines, row_answer(alloc, row)?.as_str())?;
+    Ok(lines)
 }

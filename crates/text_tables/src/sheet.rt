@@ -1,5 +1,7 @@
 //! The lines of a table, by their first words.
 //!
+//! - `script TEXT`, `read TEXT`, `sections TEXT`: what is read of a script.
+//! - `line TEXT`, `command TEXT`, `reply TEXT`: what is read of a line of a history.
 //! - `# TEXT`: a heading, at which filesets begin anew.
 //! - `c1 COMMAND`: a command of a client over the filesets.
 //! - `mark CLONE ORIGINAL PATHS`: marks what stands at these paths of a clone as out of sync.
@@ -9,7 +11,9 @@
 //! - `log VOLUME`: whether a domain with its log there may show these members.
 //! - `extents RUNS`: whether these, as `showfile` shows them, are a file with the pages 0, 1 and 5.
 //!
-//! Headings and settings are printed, and commands with their replies.
+//! Headings, settings and empty lines are printed, texts with what is read of them below, and
+//! commands with their replies.
+use crate::rows::row_lines;
 use crate::{filesets, volumes};
 use plain_program::{Filesets, VolumeItem};
 use std::alloc::{AllocError, Global};
@@ -35,6 +39,11 @@ fn numbers(alloc: Global, words: &str) -> Result<Vec<u32>, AllocError> {
 /// The answer to a question, as it is printed after its line.
 fn said(answer: bool) -> &'static str {
     if answer { " -> yes" } else { " -> no" }
+}
+
+/// A text that is read, and below it what comes of it.
+fn text_lines(alloc: Global, line: &str) -> Option<Vec<u8>> {
+    Some(row_lines(alloc, line).ok()?.into_bytes())
 }
 
 /// A line with its answer.
@@ -107,9 +116,13 @@ impl Desk {
 
     /// Does what a line says, and gives the line with its answer, if it has one.
     fn told(&mut self, alloc: Global, line: &str) -> Option<Vec<u8>> {
-        let (word, words) = line.split_once(' ')?;
+        let (word, words) = line.split_once(' ').unwrap_or((line, ""));
         match word {
+            "" => line_with(alloc, line, ""),
             "#" => self.begin(alloc, line),
+            "script" | "read" | "sections" | "line" | "command" | "reply" => {
+                text_lines(alloc, line)
+            }
             "c1" => filesets::answered(alloc, &mut self.filesets, words),
             "m" => volumes::answered(alloc, &self.sizes, &self.members, words),
             "log" => self.log_line(alloc, line, words),
@@ -123,9 +136,6 @@ impl Desk {
 
     /// Reads a line; a line that cannot be read is reported.
     pub fn read(&mut self, alloc: Global, line: &str) -> Result<(), AllocError> {
-        if line.is_empty() {
-            return Ok(());
-        }
         match self.told(alloc, line) {
             Some(text) => self.text.extend_from_slice(text.as_slice()),
             None => self.text.extend_from_slice(b"a line that is not read\n"),
