@@ -1,5 +1,0 @@
-use Rattle.layout_tests.proofs.OneMeans.{means_one}
-use Rattle.layout_tests.proofs.meanings.one_fileset_means_itself.Goals as goal
-
-pub returns : goal.returns
-returns c = means_one
