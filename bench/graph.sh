@@ -1,11 +1,12 @@
 #!/bin/sh
 # Prints the figures of the graph of crates in crates.txt (or in the file that is named), and ends
-# with 1 if the graph passes one of three limits. At its start rt walks every path that leads from a
+# with 1 if the graph passes one of four limits. At its start rt walks every path that leads from a
 # crate down to another, so a library that is listed without need slows every command down: it may
-# double the paths of all crates above. The limits: a crate lists at most six libraries, and none
-# that another library of its list reaches; and all crates together have at most 100,000 paths.
+# double the paths of all crates above. The limits: there are at most 100 crates; a crate lists at
+# most six libraries, and none that another library of its list reaches; and all crates together
+# have at most 100,000 paths.
 list=${1:-$(dirname "$0")/../crates.txt}
-awk -F: -v most_listed=6 -v most_paths=100000 '
+awk -F: -v most_crates=100 -v most_listed=6 -v most_paths=100000 '
     # the libraries of this repository that a crate lists, as an array; and how many they are
     function libraries_of(crate, found, words, count, i, own) {
         count = split(listed[crate], words, " ")
@@ -66,6 +67,7 @@ awk -F: -v most_listed=6 -v most_paths=100000 '
             if (paths(names[n]) > most) { most = paths(names[n]); heaviest = names[n] }
             if (depth(names[n]) > deepest) deepest = depth(names[n])
         }
+        if (crates > most_crates) fail(crates " crates, more than " most_crates)
         if (sum > most_paths) fail(sum " paths, more than " most_paths)
         printf "graph: %d crates, %d deep, ", crates, deepest
         printf "none with more than %d libraries\n", longest
