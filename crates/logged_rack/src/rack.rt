@@ -213,8 +213,8 @@ impl<R: Rack> LoggedRack<R> {
     /// Brings the images of the log home, and moves its start past them, by its own anchor with
     /// another number, slot, start and group. Nothing may be pending in the log, and the anchor of
     /// the rack's contents must be the log's. The contract says what a stop may leave if the log
-    /// stands and the next anchor's slot is ready (`MayCheckpoint`). Each home is written once,
-    /// each volume of a home is synced once, and the anchor takes six calls. Returns the anchor's
+    /// stands and the next anchor's slot is ready (`MayCheckpoint`). It makes at most one call for
+    /// each image, one for each of eight volumes, and six for the anchor. Returns the anchor's
     /// number. The error is the volume, if its write or sync failed.
     pub fn checkpoint(&mut self) -> Result<u64, VolIx>
         requires passed { self.old.failed ≡ None }

@@ -288,11 +288,11 @@ impl MetaLog {
 
     /// Makes what is pending durable: as one group after a gate, which is opened once the group and
     /// all else of the log's volume are synced. If something was pending, nothing is unsynced on
-    /// that volume then. It makes five calls more than there are images, and none with nothing
-    /// pending. Returns the number of the last durable group, or 0 if there is none. That can only
-    /// be if nothing was pending, and `last_durable` tells it from group 0. The ring must lie in
-    /// the rack. The error is the volume, if its write or sync failed. The log must not be used
-    /// again then.
+    /// that volume then. It makes at most five calls more than there are images, and none with
+    /// nothing pending. Returns the number of the last durable group, or 0 if there is none. That
+    /// can only be if nothing was pending, and `last_durable` tells it from group 0. The ring must
+    /// lie in the rack. The error is the volume, if its write or sync failed. The log must not be
+    /// used again then.
     pub fn force<R: Rack>(&mut self, rack: &mut R) -> Result<u64, VolIx>
         requires { IsRing (R.disk rack.old).sizes self.old.anchor }
         ensures forces { Forces (R.disk rack.old) (R.disk rack.new) self.old }
@@ -357,9 +357,10 @@ impl MetaLog {
     }
 
     /// Brings the images of the durable groups home and moves the log's start past them, by the
-    /// given anchor with another number, slot, start and group. Each home is written once, and each
-    /// volume of a home is synced once before the anchor. Nothing is unsynced on these volumes and
-    /// on the anchor's then. The anchor takes six calls. Returns the anchor's number.
+    /// given anchor with another number, slot, start and group. It makes at most one call for each
+    /// image, one for each of eight volumes, and six for the anchor. The volumes of the homes are
+    /// synced before the anchor. Nothing is unsynced on these volumes and on the anchor's then.
+    /// Returns the anchor's number.
     ///
     /// Nothing may be pending. The members of the old anchor and the ring of the new one must lie
     /// in the rack, no durable image may have a page of the new ring as its home, and the anchor of
