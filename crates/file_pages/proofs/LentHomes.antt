@@ -1,6 +1,6 @@
 -- Homes that are lent, and their frames.
-use Rattle.std.proofs.Common.{◌≡◌, ◌≢◌, ◌==◌, ◌⊎◌, ◌||◌, ◌&&◌, ℕ, ◌+◌, ◌<◌, ◌≤◌, Bool, true, false, cond, nat_eq, List, [], ◌∷◌, ◌++◌, length, length-append, Option, None, Some, IsNone, IsSome, is_none, is_some, refl, sym, ◌∙◌, ap, subst, inl, inr, arith}
-use Rattle.std.proofs.lemmas.Bool.{and_from, and_parts, both_ways, eq-eqb, eqb-true, false_from_ne_true, ne_eqb}
+use Rattle.std.proofs.Common.{◌≡◌, ◌≢◌, ◌==◌, ◌⊎◌, ◌||◌, ℕ, ◌+◌, ◌<◌, ◌≤◌, Bool, true, false, cond, List, [], ◌∷◌, ◌++◌, length, length-append, Option, None, Some, IsNone, IsSome, is_none, is_some, refl, sym, ◌∙◌, ap, subst, inl, inr, arith}
+use Rattle.std.proofs.lemmas.Bool.{both_ways, false_from_ne_true, ne_eqb}
 use Rattle.std.specs.Option.{option_map}
 use Rattle.page_cache.specs.domain_base.declared.place.Home.{Home}
 use Rattle.page_cache.specs.page_store.Pages.{same_home}
@@ -10,20 +10,12 @@ use Rattle.page_cache.specs.declared.frame.Frame.{Frame}
 use Rattle.page_cache.specs.Cache.{Changes, KeepsAll, Replaces, dirty_of, frames_of, kept_of, order_of}
 use Rattle.page_cache.specs.Entries.{one_for}
 use Rattle.page_cache.specs.Frames.{Frames, cleaned, group_of, groups, is_clean, placed, with_frame, without_number}
-use Rattle.file_pages.specs.Lent.{AreKept, ComesWithin, Displaces, KeepsFrames, Sets, is_among}
+use Rattle.file_pages.specs.Lent.{Adds, AreKept, ComesWithin, Displaces, KeepsFrames, clean_of, is_among, used_each, with_home, without_homes}
+use Rattle.file_pages.proofs.LeastUsed.{free_of, used_all, used_one_more, without_both}
+use Rattle.file_pages.proofs.SameHomes.{homes_same, same_itself}
 use Rattle.file_pages.proofs.UseOrder.{not_last, used_another, used_itself}
 
 -- Homes.
-
-pub homes_same : (a b : Home) → same_home a b ≡ true → a ≡ b
-homes_same a b same =
-    let both = and_parts (nat_eq a.vol b.vol) (nat_eq a.page b.page) same in
-    let vol = eqb-true a.vol b.vol both.0 in
-    let page = eqb-true a.page b.page both.1 in
-    λ i. record { vol = vol i; page = page i }
-
-pub same_itself : (a : Home) → same_home a a ≡ true
-same_itself a = and_from (nat_eq a.vol a.vol) (nat_eq a.page a.page) (eq-eqb a.vol a.vol refl) (eq-eqb a.page a.page refl)
 
 -- a home that is among others and one more is one of them, or that one
 pub among_one_more : (homes : List Home) (one home : Home) → is_among (homes ++ one ∷ []) home ≡ true → (is_among homes home ≡ true) ⊎ (home ≡ one)
@@ -70,22 +62,29 @@ keeps_used home old new changes = record {
   dirty = same_count _ _ _ changes.dirty;
 }
 
-pub sets : (home : Home) (frame : Option Frame) (old new : PageCache) → Changes home frame old new → Sets home frame old new
-sets home frame old new changes = record { frames = changes.frames; kept = changes.kept; dirty = changes.dirty }
+-- a count to which none is added
+count_new : {X : Type 0} (n m : ℕ) (o : Option X) → IsNone o → n + one_for o ≡ m → n ≡ m
+count_new n m None none is = omega (arith, is)
+count_new n m (Some x) none is = absurd (both_ways true none refl)
 
--- a use and then a change are that change
-pub sets_after : (home : Home) (frame : Option Frame) (first next last : PageCache) → KeepsFrames first next → Changes home frame next last → Sets home frame first last
-sets_after home frame first next last keeps changes = record {
-  frames = changes.frames ∙ ap (with_frame home frame) keeps.frames;
-  kept =
-      ap (λ (n : ℕ). kept_of last + n) (sym (ap (λ (f : Frames). one_for (f home)) keeps.frames))
-      ∙ changes.kept
-      ∙ ap (λ (n : ℕ). n + one_for frame) keeps.kept;
+none_waits : (frame : Option Frame) → IsNone frame → IsNone (group_of frame)
+none_waits None none = none
+none_waits (Some frame) none = absurd (both_ways true none refl)
+
+-- uses of frames, and then a clean one for a home that has none
+pub adds : (lent : List Home) (home : Home) (page : List ℕ) (first used last : PageCache) → KeepsFrames first used → order_of used ≡ used_each (frames_of first) lent (order_of first) → IsNone (frames_of first home) → Changes home (Some (clean_of page)) used last → Adds lent home page first last
+adds lent home page first used last keeps order none changes = record {
+  frames = changes.frames ∙ ap (with_frame home (Some (clean_of page))) keeps.frames;
+  order = changes.order ∙ ap (placed (number_of home) (Some (clean_of page))) order;
+  kept = count_new (kept_of last) (kept_of used + 1) (frames_of used home) none_used changes.kept ∙ ap (λ (n : ℕ). n + 1) keeps.kept;
   dirty =
-      ap (λ (n : ℕ). dirty_of last + n) (sym (ap (λ (f : Frames). one_for (groups f home)) keeps.frames))
-      ∙ changes.dirty
-      ∙ ap (λ (n : ℕ). n + one_for (group_of frame)) keeps.dirty;
+      let same = keeps.dirty in
+      let now : dirty_of last ≡ dirty_of used + 0 = count_new (dirty_of last) (dirty_of used + 0) (groups (frames_of used) home) (none_waits (frames_of used home) none_used) changes.dirty in
+      omega (arith, same, now);
 }
+  where
+    none_used : IsNone (frames_of used home)
+    none_used = subst (λ (f : Frames). IsNone (f home)) (sym keeps.frames) none
 
 -- Lent homes and their frames.
 
@@ -149,8 +148,16 @@ one_more_used k homes one first old new keeps changes so_far home among clean =
           (used_itself k (number_of one) (frames_of old one) (order_of old) (ap (λ (f : Frames). is_clean (f one)) keeps.frames ∙ subst (λ (h : Home). is_clean (frames_of first h) ≡ true) is clean))
     ])
 
+-- the order after one more use
+pub order_once_more : (homes : List Home) (one : Home) (first old new : PageCache) → KeepsFrames first old → Changes one (frames_of old one) old new → order_of old ≡ used_each (frames_of first) homes (order_of first) → order_of new ≡ used_each (frames_of first) (homes ++ one ∷ []) (order_of first)
+order_once_more homes one first old new keeps changes so_far =
+    changes.order
+    ∙ ap (λ (f : Frames). placed (number_of one) (f one) (order_of old)) keeps.frames
+    ∙ ap (placed (number_of one) (frames_of first one)) so_far
+    ∙ sym (used_one_more (frames_of first) homes one (order_of first))
+
 -- A frame that goes as another one is kept.
-module _ (lent : List Home) (home : Home) (page : List ℕ) (first used last : PageCache) (keeps : KeepsFrames first used) (within : ComeWithin (length lent) lent (frames_of first) (order_of used)) (kept : AreKept (frames_of first) lent) (few : length lent < 4) (clean : dirty_of first ≤ 1020) (counted : length (order_of used) + dirty_of used ≡ kept_of used) (full : kept_of first ≡ 1024) (replaces : Replaces home (record { page = page; waits = None }) used last) where
+module _ (lent : List Home) (home : Home) (page : List ℕ) (first used last : PageCache) (keeps : KeepsFrames first used) (order : order_of used ≡ used_each (frames_of first) lent (order_of first)) (within : ComeWithin (length lent) lent (frames_of first) (order_of used)) (kept : AreKept (frames_of first) lent) (few : length lent < 4) (clean : dirty_of first ≤ 1020) (counted : length (order_of used) + dirty_of used ≡ kept_of used) (full : kept_of first ≡ 1024) (replaces : Replaces home (clean_of page) used last) where
   few_before : length lent ≤ length replaces.earlier
   few_before =
       let size = ap (λ (l : List ℕ). length l) replaces.last ∙ length-append replaces.earlier (replaces.goes ∷ []) in
@@ -167,15 +174,28 @@ module _ (lent : List Home) (home : Home) (page : List ℕ) (first used last : P
       (subst (λ (order : List ℕ). ComesWithin (length lent) (number_of other) order) replaces.last
       (within other among (clean_frame (frames_of first other) (kept other among) (was_clean other is)))) is
 
-  frames_are : frames_of last ≡ with_frame home (Some (record { page = page; waits = None })) (without_number replaces.goes (frames_of first))
-  frames_are = replaces.frames ∙ ap (λ (f : Frames). with_frame home (Some (record { page = page; waits = None })) (without_number replaces.goes f)) keeps.frames
+  frames_are : frames_of last ≡ with_frame home (Some (clean_of page)) (without_number replaces.goes (frames_of first))
+  frames_are = replaces.frames ∙ ap (λ (f : Frames). with_frame home (Some (clean_of page)) (without_number replaces.goes f)) keeps.frames
+
+  last_used : used_each (frames_of first) lent (order_of first) ≡ replaces.earlier ++ replaces.goes ∷ []
+  last_used = sym order ∙ replaces.last
+
+  least_used : without_homes lent (order_of first) ≡ without_homes lent replaces.earlier ++ replaces.goes ∷ []
+  least_used =
+      sym (used_all lent (frames_of first) (order_of first))
+      ∙ ap (without_homes lent) last_used
+      ∙ without_both lent replaces.goes replaces.earlier (free_of lent replaces.goes stays)
 
   pub displaces : Displaces lent home page first last
   displaces = record {
     goes = replaces.goes;
+    earlier = replaces.earlier;
+    last = last_used;
+    least = least_used;
     was_clean = was_clean;
     was_free = λ other is. false_from_ne_true (is_among lent other) (λ among. stays other among is);
     frames = frames_are;
+    order = replaces.order;
     kept = replaces.kept ∙ keeps.kept;
     dirty = replaces.dirty ∙ keeps.dirty;
   }
@@ -187,19 +207,27 @@ module _ (lent : List Home) (home : Home) (page : List ℕ) (first used last : P
 
   pub kept_all : AreKept (frames_of last) (lent ++ home ∷ [])
   kept_all =
-      kept_along (with_frame home (Some (record { page = page; waits = None })) (without_number replaces.goes (frames_of first))) (frames_of last) (lent ++ home ∷ []) frames_are
+      kept_along (with_frame home (Some (clean_of page)) (without_number replaces.goes (frames_of first))) (frames_of last) (lent ++ home ∷ []) frames_are
       (kept_one_more _ lent home (kept_with _ lent home _ kept_others refl) (its_own (same_home home home) (same_itself home)))
     where
-      its_own : (b : Bool) → b ≡ true → IsSome (cond b (Some (record { page = page; waits = None })) (without_number replaces.goes (frames_of first) home))
+      its_own : (b : Bool) → b ≡ true → IsSome (cond b (Some (clean_of page)) (without_number replaces.goes (frames_of first) home))
       its_own true is = refl
       its_own false is = cc
 
 -- No frame goes.
-pub kept_added : (lent : List Home) (home : Home) (frame : Frame) (first last : PageCache) → AreKept (frames_of first) lent → Sets home (Some frame) first last → AreKept (frames_of last) (lent ++ home ∷ [])
-kept_added lent home frame first last kept sets =
-    kept_along (with_frame home (Some frame) (frames_of first)) (frames_of last) (lent ++ home ∷ []) sets.frames
+pub kept_added : (lent : List Home) (home : Home) (frame : Frame) (first last : PageCache) → AreKept (frames_of first) lent → frames_of last ≡ with_frame home (Some frame) (frames_of first) → AreKept (frames_of last) (lent ++ home ∷ [])
+kept_added lent home frame first last kept frames =
+    kept_along (with_frame home (Some frame) (frames_of first)) (frames_of last) (lent ++ home ∷ []) frames
     (kept_one_more _ lent home (kept_with _ lent home _ kept refl) (its_own (same_home home home) (same_itself home)))
   where
     its_own : (b : Bool) → b ≡ true → IsSome (cond b (Some frame) (frames_of first home))
     its_own true is = refl
     its_own false is = cc
+
+-- One that was not lent is among those that are.
+pub with_new : (homes : List Home) (home : Home) → is_among homes home ≡ false → homes ++ home ∷ [] ≡ with_home homes home
+with_new homes home free = sym (ap (λ (b : Bool). cond b homes (homes ++ home ∷ [])) free)
+
+-- One that was changes nothing.
+pub with_old : (homes : List Home) (home : Home) → is_among homes home ≡ true → homes ≡ with_home homes home
+with_old homes home among = sym (ap (λ (b : Bool). cond b homes (homes ++ home ∷ [])) among)

@@ -1,4 +1,6 @@
 mod Brought
+mod LeastUsed
 mod LentHomes
 pub mod OfMetaLog
+mod SameHomes
 mod UseOrder

@@ -1,5 +1,5 @@
 -- Pages in place that are brought into frames, and written home from them.
-use Rattle.std.specs.Prelude.{◌≡◌, ◌⊎◌, ◌<◌, ℕ, List, Option, Some, None, Result, Ok, Err}
+use Rattle.std.specs.Prelude.{◌≡◌, ◌⊎◌, ◌<◌, ℕ, List, Option, Some, Result, Ok, Err}
 use Rattle.logged_rack.specs.domain_base.declared.place.Home.{Home}
 use Rattle.logged_rack.specs.volume_disk.Disk.{Disk, Tells, raised_at}
 use Rattle.logged_rack.specs.volume_disk.Image.{page_at}
@@ -8,7 +8,7 @@ use Rattle.page_cache.specs.declared.cache.PageCache.{PageCache}
 use Rattle.page_cache.specs.declared.frame.Frame.{Frame}
 use Rattle.page_cache.specs.Cache.{kept_of}
 use Rattle.page_cache.specs.Frames.{Frames}
-use Rattle.file_pages.specs.Lent.{Displaces, Sets}
+use Rattle.file_pages.specs.Lent.{Adds, Displaces}
 use Rattle.file_pages.specs.declared.fault.FrameFault.{FrameFault}
 use Rattle.file_pages.specs.declared.fault.FrameFault.TheVariants.{OutOfMemory, Read}
 
@@ -17,8 +17,7 @@ pub record HasBrought (disk : Disk) (home : Home) (lent : List Home) (old new : 
     : Type 0 where
   pub page : List ℕ
   pub read : Tells disk → page ≡ page_at disk.now.contents home.vol home.page
-  pub adds : kept_of old < 1024
-      → Sets home (Some (record { page = page; waits = None })) old new
+  pub adds : kept_of old < 1024 → Adds lent home page old new
   pub displaces : kept_of old ≡ 1024 → Displaces lent home page old new
 
 -- a read has failed only if a fault of it is answered, and then one of the volume that it names

@@ -26,12 +26,13 @@ ghost use Rattle.std.specs.Option.{option_copied, option_map};
 ghost use Rattle.page_cache.specs.Cache.{Changes, dirty_of, frames_of, kept_of};
 ghost use Rattle.page_cache.specs.Frames.{IsFirst, cleaned, groups, later_of, no_frames};
 ghost use Rattle.file_pages.specs.Lent.{
+  Adds,
   AreKept,
   Displaces,
   KeepsFrames,
-  Sets,
   is_among,
   lent_pages,
+  with_home,
 };
 
 use crate::homes::{contains, touch_each};
@@ -98,18 +99,20 @@ impl FilePages {
         self.cache.next_flush(durable)
     }
 
-    /// The law that at most 1,024 frames are kept, no fewer than are dirty, and that none is dirty if
-    /// none is counted.
+    /// The law that at most 1,024 frames are kept, no fewer than are dirty, that none is dirty if
+    /// none is counted, and that each of at most four lent pages has a frame.
     pub fn frames_are_counted(&self)
         ensures kept { kept_of self.now.cache ≤ 1024 }
         ensures dirty { dirty_of self.now.cache ≤ kept_of self.now.cache }
         ensures none { dirty_of self.now.cache ≡ 0
             → (home : Home) → groups (frames_of self.now.cache) home ≡ None }
+        ensures lent { AreKept (frames_of self.now.cache) self.now.lent.items }
+        ensures few { vec_len self.now.lent ≤ 4 }
     {
         self.cache.frames_are_counted();
     }
 
-    /// How many pages are lent.
+    /// How many pages are lent. One that is lent once more counts once.
     pub fn lent(&self) -> usize
         ensures { result ≡ vec_len self.now.lent }
     {
@@ -134,15 +137,19 @@ impl FilePages {
         }
     }
 
-    /// Lends the page of a home that has a frame, which counts as a use.
+    /// Lends the page of a home that has a frame, which counts as a use. At most four pages are
+    /// lent at once. To lend one that is lent already changes nothing but the order of use.
     pub fn lend(&mut self, home: Home)
         requires kept { IsSome (frames_of self.old.cache home) }
-        requires few { vec_len self.old.lent < 4 }
+        requires few { is_among self.old.lent.items home ≡ false → vec_len self.old.lent < 4 }
         ensures keeps { KeepsFrames self.old.cache self.new.cache }
         ensures used { Changes home (frames_of self.old.cache home) self.old.cache self.new.cache }
-        ensures lent { self.new.lent.items ≡ self.old.lent.items ++ home ∷ [] }
+        ensures lent { self.new.lent.items ≡ with_home self.old.lent.items home }
     {
         self.cache.touch(&home);
+        if contains(self.lent.as_slice(), &home) {
+            return;
+        }
         self.lent.push_reserved(home);
     }
 
@@ -155,15 +162,15 @@ impl FilePages {
     }
 
     /// Keeps a clean frame for a home that has none, and lends its page. If 1,024 frames are kept,
-    /// a clean one that is not lent goes. If memory runs out no frame has changed, nothing more is
-    /// lent, and the page is handed back.
+    /// one goes: of those that are clean and not lent, the one that was used least recently. For
+    /// this the frames of all that is lent are used first. If memory runs out no frame has changed,
+    /// nothing more is lent, and the page is handed back.
     pub fn keep(&mut self, home: Home, page: Page) -> Result<(), (Page, OutOfMemory)>
         requires new { IsNone (frames_of self.old.cache home) }
         requires few { vec_len self.old.lent < 4 }
         requires clean { dirty_of self.old.cache ≤ 1020 }
         ensures adds { OnOk result (kept_of self.old.cache < 1024
-            → Sets home (Some (record { page = page; waits = None })) self.old.cache
-            self.new.cache) }
+            → Adds self.old.lent.items home page self.old.cache self.new.cache) }
         ensures displaces { OnOk result (kept_of self.old.cache ≡ 1024
             → Displaces self.old.lent.items home page self.old.cache self.new.cache) }
         ensures lent { OnOk result (self.new.lent.items ≡ self.old.lent.items ++ home ∷ []) }
@@ -188,7 +195,7 @@ impl FilePages {
     pub fn put(&mut self, home: Home, page: Page, group: u64)
         requires { IsSome (frames_of self.old.cache home) }
         ensures sets { let waits = later_of (groups (frames_of self.old.cache) home) group in
-            Sets home (Some (record { page = page; waits = Some waits })) self.old.cache
+            Changes home (Some (record { page = page; waits = Some waits })) self.old.cache
             self.new.cache }
         ensures lent { self.new.lent ≡ self.old.lent }
     {
@@ -196,9 +203,9 @@ impl FilePages {
     }
 
     /// Makes the frame of a home clean: its bytes were written home.
-    pub fn written(&mut self, home: Home)
+    pub(crate) fn written(&mut self, home: Home)
         requires { IsSome (frames_of self.old.cache home) }
-        ensures sets { Sets home (option_map cleaned (frames_of self.old.cache home))
+        ensures sets { Changes home (option_map cleaned (frames_of self.old.cache home))
             self.old.cache self.new.cache }
         ensures lent { self.new.lent ≡ self.old.lent }
     {
@@ -209,7 +216,7 @@ impl FilePages {
     pub fn drop_frame(&mut self, home: Home) -> Page
         requires kept { IsSome (frames_of self.old.cache home) }
         requires free { is_among self.old.lent.items home ≡ false }
-        ensures sets { Sets home None self.old.cache self.new.cache }
+        ensures sets { Changes home None self.old.cache self.new.cache }
         ensures page { Some result
             ≡ option_map (λ (f : Frame). f.page) (frames_of self.old.cache home) }
         ensures lent { self.new.lent ≡ self.old.lent }

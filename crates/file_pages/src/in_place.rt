@@ -14,6 +14,7 @@ ghost use Rattle.std.specs.Prelude.{
   OnErr,
   OnOk,
   Some,
+  false,
   vec_len,
 };
 ghost use Rattle.std.specs.Option.{option_map};
@@ -30,7 +31,7 @@ ghost use Rattle.logged_rack.specs.Pending.{MayWriteHome};
 ghost use Rattle.page_cache.specs.Cache.{Changes, dirty_of, frames_of, kept_of};
 ghost use Rattle.page_cache.specs.Frames.{cleaned, groups};
 ghost use Rattle.file_pages.specs.declared.fault.FrameFault.TheVariants.{OutOfMemory};
-ghost use Rattle.file_pages.specs.Lent.{Displaces, KeepsFrames, Sets};
+ghost use Rattle.file_pages.specs.Lent.{Adds, Displaces, KeepsFrames, is_among, with_home};
 ghost use Rattle.file_pages.specs.InPlace.{HasBrought, HasPageOf, IsDurable, NamesFrameFault};
 
 use crate::{FilePages, FrameFault};
@@ -51,8 +52,8 @@ impl FilePages {
         requires passed { rack.old.failed ≡ None }
         requires home { IsHomeOf (R.disk rack.old.rack).sizes home }
         requires unlogged { ¬ HasHome (rack.old.log.logged ++ rack.old.log.pending) home }
-        requires few { vec_len self.old.lent < 4 }
-        requires clean { dirty_of self.old.cache ≤ 1020 }
+        requires few { is_among self.old.lent.items home ≡ false → vec_len self.old.lent < 4 }
+        requires clean { IsNone (frames_of self.old.cache home) → dirty_of self.old.cache ≤ 1020 }
         ensures at_hand { IsSome (frames_of self.old.cache home) → IsOk result }
         ensures idle { IsSome (frames_of self.old.cache home)
             → R.disk rack.new.rack ≡ R.disk rack.old.rack }
@@ -63,7 +64,7 @@ impl FilePages {
         ensures brought { OnOk result (IsNone (frames_of self.old.cache home)
             → HasBrought (R.disk rack.old.rack) home self.old.lent.items self.old.cache
             self.new.cache) }
-        ensures lent { OnOk result (self.new.lent.items ≡ self.old.lent.items ++ home ∷ []) }
+        ensures lent { OnOk result (self.new.lent.items ≡ with_home self.old.lent.items home) }
         ensures keeps { OnErr result (KeepsFrames self.old.cache self.new.cache) }
         ensures err { OnErr result (self.new.lent ≡ self.old.lent) }
         ensures reads { OnlyReads (R.disk rack.old.rack) (R.disk rack.new.rack) }
@@ -118,8 +119,7 @@ impl FilePages {
         requires few { vec_len self.old.lent < 4 }
         requires clean { dirty_of self.old.cache ≤ 1020 }
         ensures adds { OnOk result (kept_of self.old.cache < 1024
-            → Sets home.now (Some (record { page = page; waits = None })) self.old.cache
-            self.new.cache) }
+            → Adds self.old.lent.items home.now page self.old.cache self.new.cache) }
         ensures displaces { OnOk result (kept_of self.old.cache ≡ 1024
             → Displaces self.old.lent.items home.now page self.old.cache self.new.cache) }
         ensures lent { OnOk result (self.new.lent.items ≡ self.old.lent.items ++ home.now ∷ []) }
@@ -144,8 +144,8 @@ impl FilePages {
         ensures writes { OnlyWrites (R.disk rack.old.rack) (R.disk rack.new.rack) (IsOnPage home) }
         ensures written { OnOk result (Tells (R.disk rack.old.rack)
             → HasPageOf (frames_of self.old.cache) home (R.disk rack.new.rack)) }
-        ensures sets { OnOk result (Sets home (option_map cleaned (frames_of self.old.cache home))
-            self.old.cache self.new.cache) }
+        ensures sets { OnOk result (Changes home
+            (option_map cleaned (frames_of self.old.cache home)) self.old.cache self.new.cache) }
         ensures err { OnErr result (self.new.cache ≡ self.old.cache) }
         ensures lent { self.new.lent ≡ self.old.lent }
         ensures once { IsAtMost 1 (R.disk rack.old.rack) (R.disk rack.new.rack) }
