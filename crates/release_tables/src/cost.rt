@@ -1,4 +1,5 @@
-//! What letting go costs, counted in looks at pages of metadata and in changes of them.
+//! What letting go costs, and what finding a page costs, counted in looks at pages of metadata and
+//! in changes of them.
 ghost use Rattle.std.specs.Prelude.{◌≤◌, IfOk};
 ghost use Rattle.file_world.specs.Worlds.{IsWorld};
 ghost use Rattle.release_tables.specs.Going.{HasWell, HasWellBy};
@@ -9,7 +10,7 @@ use crate::looks::Counted;
 use crate::making::{Way, cut_or_remove, make_by};
 use file_world::reading::small;
 use file_world::world::{World, new_world};
-use release_steps::{Deferred, FreeCells, FreeSpace, MetaPages, StoreFault, Version};
+use release_steps::{Deferred, FreeCells, FreeSpace, MetaPages, StoreFault, Tag, Version};
 use std::alloc::Global;
 use std::test::Fail;
 
@@ -164,4 +165,35 @@ pub fn cost_of_line(alloc: Global, word: &str, numbers: &[u64]) -> Result<Cost, 
     let mut world = new_world(alloc, 4_096)?;
     let list = listed_by(alloc, &mut world, word, numbers)?;
     cost_of(alloc, world, list)
+}
+
+/// What it takes to find where a page of a file stands, as a write does before it changes the page.
+fn cost_of_page(world: World, tag: Tag, page: u32) -> Result<Cost, Fail>
+    requires { IsWorld world }
+{
+    let World { pages, files, .. } = world;
+    let counted = Counted::new(pages);
+    if files.page_home(&counted, tag, page).home().is_none() {
+        return Err(Fail::from("a page that is there"));
+    }
+    let [looks, changes] = counted.told();
+    Ok(Cost {
+        steps: 0,
+        looks,
+        changes,
+    })
+}
+
+/// What it takes to find where the last page of a file stands that has so many pages, each one or
+/// each second one from the first on, on a volume of 131,072 pages.
+pub fn cost_of_look(alloc: Global, word: &str, numbers: &[u64]) -> Result<Cost, Fail> {
+    let count = small(numbers, 0).min(65_536);
+    let (way, each) = if word == "found" {
+        (Way::First, 1)
+    } else {
+        (Way::Second, 2)
+    };
+    let mut world = new_world(alloc, 131_072)?;
+    let tag = make_by(alloc, &mut world, way, count, Version::Four)?;
+    cost_of_page(world, tag, each * count.saturating_sub(1))
 }

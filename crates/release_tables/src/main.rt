@@ -23,7 +23,7 @@ mod seen;
 use crate::again::say_rewritten;
 use crate::beside::made_in_both;
 use crate::clones::{say_handed, say_unrelated};
-use crate::cost::{Cost, cost_of_line};
+use crate::cost::{Cost, cost_of_line, cost_of_look};
 use crate::onward::say_nine_files;
 use crate::removing::say_removed_fileset;
 use crate::room::last_of_three;
@@ -70,6 +70,7 @@ fn answer_of_costs(
         "removed" | "trimmed-up" | "trimmed-down" | "trimmed-mixed" | "removed-beside" => {
             Ok(costs.push(cost_of_line(alloc, word, numbers)?)?)
         }
+        "found" | "found-apart" => Ok(costs.push(cost_of_look(alloc, word, numbers)?)?),
         _ => answer_of_steps(alloc, word, numbers, out),
     }
 }

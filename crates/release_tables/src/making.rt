@@ -133,7 +133,7 @@ pub enum Way {
 /// The page that comes at a place among `count`.
 fn page_at(way: Way, place: u32, count: u32) -> u32
     requires there { place < count }
-    requires few { count ≤ 2000 }
+    requires few { count ≤ 65536 }
 {
     match way {
         Way::First => place,
@@ -145,7 +145,7 @@ fn page_at(way: Way, place: u32, count: u32) -> u32
 
 /// The `count` pages in their order.
 fn pages_by(alloc: Global, way: Way, count: u32) -> Result<Vec<u32>, Fail>
-    requires { count ≤ 2000 }
+    requires { count ≤ 65536 }
 {
     let mut pages = Vec::new(alloc);
     for place in 0..count {
@@ -163,7 +163,7 @@ pub fn make_by(
     version: Version,
 ) -> Result<Tag, Fail>
     requires world { IsWorld world.old }
-    requires few { count ≤ 2000 }
+    requires few { count ≤ 65536 }
     ensures { IfOk result (λ _. IsWorld world.new) }
 {
     let pages = pages_by(alloc, way, count)?;
