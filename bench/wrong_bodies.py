@@ -2,26 +2,42 @@
 """Tries all wrong bodies, outside the gate: those of bench/wrong_bodies/CRATE and those of
 crates/CRATE/must-fail. Each changes lines of the code, and the prover has to refuse it.
 
-usage: python3 bench/wrong_bodies.py [--at FOLDER] [--table FILE] [CRATE..]
+usage: python3 bench/wrong_bodies.py [--at FOLDER] [--built FOLDER] [--jobs N] [--table FILE]
+                                     [CRATE..]
 
-It works on a copy of the repository in FOLDER (a new one below /tmp if none is named), one crate
-at a time, by `rt ci CRATE`, which tries edits side by side and keeps what passed. A crate whose
-bodies have their verdicts in FOLDER/verdicts is passed over, so a run that was cut off goes on
-there. At the end it prints the counts and each body that was not refused, and writes all verdicts
-as a table to FILE.
+It works on a copy of the repository in FOLDER (a new one below /tmp if none is named), for which
+`rt ci` first gives the libraries; or those are taken that stand below crates/ of the folder named
+by --built. N crates are tried side by side.
+
+Since a function is proved from the contracts of those that it calls, bodies of functions that do
+not call each other are laid over one copy of their crate, and one check tells of each whether its
+function is still proved. A body that its function's contract lets through is tried again alone,
+with the whole crate.
+
+What each comes to is added to FOLDER/verdicts at once, with a sum of the crate's text and of the
+body, so a run that was cut off goes on there. At the end it prints the counts and each body that
+was not refused, and writes all verdicts as a table to FILE.
 """
-import argparse, collections, os, pathlib, re, shutil, subprocess, sys, tempfile
+import argparse, collections, concurrent.futures, functools, hashlib, os, pathlib, re, shutil
+import subprocess, sys, tempfile, threading
 
 TOP = pathlib.Path(__file__).resolve().parent.parent
-FUNCTION = re.compile(r"^\s*(?:pub(?:\([a-z]+\))?\s+)?(?:unsafe\s+)?fn\s+(\w+)")
-TOLD = re.compile(r"rt: must-fail (\w+)/(\S+)\.edit: (.*)")
+FUNCTION = re.compile(r"^( *)(?:pub(?:\([a-z]+\))? )?(?:const )?(?:unsafe )?fn (\w+)", re.M)
+BLOCK = re.compile(r"^(?:impl|(?:pub(?:\([a-z]+\))? )?trait)\b([^{]*)", re.M)
+TOLD = re.compile(r"^fn (\S+?)(?:: (proved|not proved|no proof|could not tell)\b(.*)|$)", re.M)
+# What the check says of an error that is of the code itself, so that nothing was asked of a contract.
+UNREAD = re.compile(r"error\[[\w-]+\]|^(?:\./)?src/\S+: error:.*(?:is not in scope|has no field)", re.M)
+GOAL = re.compile(r"`([\w.+-]+)`")
+REFUSED_GOAL = re.compile(r"^(?:\./)?proofs/(\S+?)/\w+\.antt:\S* error: `([\w.+-]+)`", re.M)
 VERDICTS = {
     "clause": "refused by a clause of its function",
+    "inside": "refused within its function",
     "elsewhere": "refused elsewhere",
     "limit": "refused by a limit of the prover",
     "missed": "not refused",
     "unfit": "does not apply",
 }
+Body = collections.namedtuple("Body", "crate name changes function sum")
 
 
 def crates_in_order():
@@ -29,128 +45,286 @@ def crates_in_order():
     return [line.split(":")[0] for line in lines if ":" in line and not line.startswith("#")]
 
 
-def bodies_of(crate):
-    """The files of a crate's wrong bodies, by their names without the ending."""
-    folders = [TOP / "crates" / crate / "must-fail", TOP / "bench" / "wrong_bodies" / crate]
-    return {file.stem: file for folder in folders for file in sorted(folder.glob("*.edit"))}
-
-
-def function_at(file, line):
-    """The name of the function that has this line of a file of the code."""
-    for text in reversed(file.read_text().splitlines()[:line]):
-        found = FUNCTION.match(text)
-        if found:
-            return found[1]
-    return ""
-
-
-def function_of(crate, body):
-    """The name of the function that a body changes."""
-    lines = body.read_text().splitlines()
-    path = next(line[6:].strip() for line in lines if line.startswith("file: "))
-    old = next(line[5:] for line in lines if line.startswith("old: "))
-    file = TOP / "crates" / crate / path
-    text = file.read_text() if file.is_file() else ""
-    at = text.find(old)
-    return function_at(file, text.count("\n", 0, at) + 1) if at >= 0 else ""
-
-
-def function_told(crate, text):
-    """The name of the function at which the prover stopped, by the first line that it told."""
-    code = re.search(r"(src/\S+?\.rt):(\d+):", text)
-    if code:
-        return function_at(TOP / "crates" / crate / code[1], int(code[2]))
-    proof = re.search(r"proofs/(\S+)/(?:Answers|Invariants|Proof)\.antt:", text)
-    return proof[1].split("/")[-1].lstrip("+") if proof else ""
-
-
-def verdict(crate, body, text):
-    """What a line of the gate says of a body: a word of VERDICTS, and where it was refused."""
-    if text.startswith("NOT REFUSED"):
-        return "missed", ""
-    if text.startswith("BAD EDIT"):
-        return "unfit", ""
-    if not text.startswith("refused"):
-        return None
-    told = function_told(crate, text)
-    if "only by a limit" in text:
-        return "limit", told
-    here = told and told == function_of(crate, body) and "only because" not in text
-    return ("clause" if here else "elsewhere"), told
-
-
-def copy_of(crate, bodies, room):
-    """Lays the crates over the copy, with the wrong bodies of this crate and no others."""
-    for name in ("crates.txt", "HANDLES"):
-        shutil.copy(TOP / name, room / name)
-    files = subprocess.run(["tar", "-C", TOP, "--exclude=out", "-cf", "-", "crates"], stdout=subprocess.PIPE, check=True)
-    subprocess.run(["tar", "-C", room, "-xf", "-"], input=files.stdout, check=True)
-    for folder in (room / "crates").glob("*/must-fail"):
-        shutil.rmtree(folder)
-    (room / "crates" / crate / "must-fail").mkdir()
-    for name, body in bodies.items():
-        shutil.copy(body, room / "crates" / crate / "must-fail" / f"{name}.edit")
-
-
-def tried(crate, bodies, room):
-    """Tries a crate's bodies, and returns the verdicts by name."""
-    copy_of(crate, bodies, room)
-    gate = os.environ.get("RT", "rt").split()
-    out = subprocess.run([*gate, "ci", crate], cwd=room, stdout=subprocess.PIPE, stderr=subprocess.STDOUT, text=True).stdout
-    (room / f"{crate}.log").write_text(out)
-    found = {}
-    for line in out.splitlines():
-        told = TOLD.search(line)
-        if told and told[1] == crate and told[2] in bodies:
-            one = verdict(crate, bodies[told[2]], told[3])
-            if one:
-                found[told[2]] = one
+def changes_of(text):
+    """The changes that a body's file tells: the file, the old text and the new one."""
+    path, old, found = "", "", []
+    for line in text.splitlines():
+        if line.startswith("file: "):
+            path = line[len("file: ") :].strip()
+        elif line.startswith("old: "):
+            old = line[len("old: ") :]
+        elif line.startswith("new:"):
+            found.append((path, old, line[len("new:") :].removeprefix(" ")))
     return found
 
 
-def read_verdicts(file):
-    rows = [line.split("\t") for line in file.read_text().splitlines()] if file.is_file() else []
-    return {(crate, name): (word, where) for crate, name, word, where in rows}
+def changed(texts, body):
+    """Texts by their paths with a body's changes, or None if an old text does not stand there once."""
+    texts = dict(texts)
+    for path, old, new in body.changes:
+        if texts.get(path, "").count(old) != 1:
+            return None
+        texts[path] = texts[path].replace(old, new)
+    return texts
+
+
+def without_brackets(text):
+    """A text without what stands in pointed brackets."""
+    while re.search(r"<[^<>]*>", text):
+        text = re.sub(r"<[^<>]*>", "", text)
+    return text
+
+
+def holder_of(head):
+    """The name by which a check calls what a block of functions belongs to."""
+    words = without_brackets(head).split(" where ")[0].split(" for ")
+    return "".join(re.sub(r"\W", "", word.split("::")[-1].split(":")[0]) for word in [words[-1], *words[:-1]])
+
+
+def function_at(path, text, place):
+    """The name by which a check asks for the function that has this place of a file, and its own
+    text: a method is named by its type, and any other function by its path in the crate."""
+    found = [it for it in FUNCTION.finditer(text) if it.start() <= place]
+    if not found:
+        return "", ""
+    indent, name = found[-1].groups()
+    after = FUNCTION.search(text, found[-1].end())
+    blocks = [it for it in BLOCK.finditer(text) if it.start() <= place]
+    if indent and blocks:
+        parts = [holder_of(blocks[-1][1])]
+    else:
+        parts = [it for it in path.removesuffix(".rt").split("/")[1:] if it not in ("lib", "main", "mod")]
+    return "::".join([*parts, name]), text[found[-1].start() : after.start() if after else len(text)]
+
+
+def texts_of(crate):
+    """The files of a crate that a check reads, by their paths."""
+    folder = TOP / "crates" / crate
+    files = [it for part in ("src", "specs", "proofs") for it in sorted((folder / part).rglob("*")) if it.is_file()]
+    return {str(it.relative_to(folder)): it.read_text() for it in files}
+
+
+def bodies_of(crate, texts):
+    """The wrong bodies of a crate; one that does not apply has no function."""
+    folders = [TOP / "crates" / crate / "must-fail", TOP / "bench" / "wrong_bodies" / crate]
+    own, found = hashlib.sha256(repr(sorted(texts.items())).encode()).hexdigest(), []
+    for file in sorted((it for folder in folders for it in folder.glob("*.edit")), key=lambda it: it.stem):
+        text = file.read_text()
+        changes = changes_of(text)
+        places = {function_at(path, texts.get(path, ""), max(texts.get(path, "").find(old), 0))[0] for path, old, _ in changes}
+        function = places.pop() if len(places) == 1 else ""
+        found.append(Body(crate, file.stem, changes, function, hashlib.sha256((own + text).encode()).hexdigest()[:16]))
+    return found
+
+
+def calls(texts, body, other):
+    """Whether the function of a body seems to call that of another one."""
+    path, old, _ = body.changes[0]
+    own = function_at(path, texts[path], texts[path].find(old))[1]
+    *above, name = other.function.split("::")
+    before = "[.:]" if above and above[-1][0].isupper() else r"(?<![.\w])"
+    return re.search(rf"{before}{name}\b", own[own.find("(") :]) is not None
+
+
+def groups_of(texts, bodies):
+    """Bodies that are tried together: their functions differ, and none calls another one."""
+    groups = []
+    for body in bodies:
+        fits = lambda group: all(
+            it.function and body.function and it.function != body.function
+            and not calls(texts, it, body) and not calls(texts, body, it)
+            for it in group
+        ) and changed(functools.reduce(changed, group, texts), body)
+        group = next((it for it in groups if fits(it)), None)
+        if group is None:
+            groups.append([body])
+        else:
+            group.append(body)
+    return groups
+
+
+class Room:
+    """A copy of the repository, what its checks keep, and the verdicts so far."""
+
+    def __init__(self, folder, built):
+        self.folder, self.built, self.lock = folder, built or folder, threading.Lock()
+        self.rows = {}
+        file = folder / "verdicts"
+        for line in file.read_text().splitlines() if file.is_file() else []:
+            crate, name, sum, word, where = line.split("\t")
+            self.rows[crate, name] = (sum, word, where)
+
+    def has(self, body):
+        return self.rows.get((body.crate, body.name), ("",))[0] == body.sum
+
+    def add(self, body, word, where):
+        with self.lock:
+            self.rows[body.crate, body.name] = (body.sum, word, where)
+            with open(self.folder / "verdicts", "a") as file:
+                file.write("\t".join([body.crate, body.name, body.sum, word, where]) + "\n")
+
+    def words(self, crate):
+        """The words of a check of a crate."""
+        sys.path.insert(0, os.path.dirname(os.path.realpath(shutil.which("rt"))))
+        import rtlib
+        with self.lock:
+            made = rtlib.Crate(str(self.folder / "crates" / crate), str(self.folder), {})
+            made.out = open(os.devnull, "w")
+            words = made.words(["--jobs", "1"])
+        return [rtlib.RATTLE, "check", *[it.replace(f"{self.folder}/", f"{self.built}/") for it in words]]
+
+    def check(self, crate, texts, flags):
+        """Checks a crate with these texts: the status, and what is said."""
+        with tempfile.TemporaryDirectory(prefix="wrong_body_") as copy:
+            for path, text in texts.items():
+                (pathlib.Path(copy) / path).parent.mkdir(parents=True, exist_ok=True)
+                (pathlib.Path(copy) / path).write_text(text)
+            kept = self.folder / "kept" / crate
+            kept.mkdir(parents=True, exist_ok=True)
+            command = [*self.words(crate), "--incremental", str(kept), *flags]
+            ran = subprocess.run(command, cwd=copy, stdin=subprocess.DEVNULL, stdout=subprocess.PIPE, stderr=subprocess.STDOUT, text=True, errors="replace")
+        with open(self.folder / f"{crate}.log", "a") as log:
+            log.write(f"== {' '.join(flags)}\n{ran.stdout}\n")
+        return ran.returncode, ran.stdout
+
+
+def told(crate, said):
+    """What a check told of each function, closures among them with the function that has them."""
+    found = collections.defaultdict(list)
+    for function, word, more in TOLD.findall(said):
+        name = function.removeprefix(f"{crate}::").replace("fn::", "", 1)
+        found[name].append((word, more))
+    return found
+
+
+def is_in(function, name):
+    """Whether a name is that of a function, or of a closure in it."""
+    return f"::{function}::" in f"::{name}::"
+
+
+def own_word(function, found):
+    """What was told of a function and of the closures in it: refused, not asked since what it calls
+    is refused, a limit, proved, or nothing."""
+    lines = [it for name, its in found.items() if is_in(function, name) for it in its]
+    refused = [more for word, more in lines if word in ("no proof", "not proved")]
+    if refused:
+        return "above" if all("it calls" in more for more in refused) else "refused"
+    words = {word for word, _ in lines}
+    return "limit" if "could not tell" in words else "proved" if words else ""
+
+
+def refusal(function, found, said):
+    """Whether a function that is refused is so by a clause, and the names of its clauses at fault."""
+    lines = [more for name, its in found.items() if is_in(function, name) for _, more in its]
+    goals = [goal for more in lines if "did not prove" in more for goal in GOAL.findall(more.split("did not prove")[1])]
+    goals += [goal for path, goal in REFUSED_GOAL.findall(said) if is_in(function, path.replace("/", "::"))]
+    at_end = [goal for goal in goals if goal.startswith("returns")]
+    clauses = dict.fromkeys(it[1] for it in map(re.compile(r"clause-([\w-]+)$").search, at_end) if it)
+    return "clause" if at_end else "inside", function + (f" ({', '.join(clauses)})" if clauses else "")
+
+
+def try_alone(room, texts, body):
+    """Tries a body with the whole crate."""
+    status, said = room.check(body.crate, changed(texts, body), [])
+    found = told(body.crate, said)
+    if status == 0:
+        return "missed", ""
+    if UNREAD.search(said):
+        return "unfit", ""
+    refused = [name for name in found if own_word(name, found) == "refused"]
+    if status == 1 and refused:
+        is_own = body.function and own_word(body.function, found) == "refused"
+        return refusal(body.function, found, said) if is_own else ("elsewhere", refused[0])
+    limit = [name for name in found if own_word(name, found) == "limit"]
+    return ("limit", limit[0]) if status == 3 and limit else None
+
+
+def try_group(room, texts, group):
+    """Tries bodies together, and gives those that are not refused in their functions."""
+    only = [word for it in group for word in ("--only", it.function)]
+    status, said = room.check(group[0].crate, functools.reduce(changed, group, texts), only)
+    if len(group) > 1 and (status not in (0, 1, 3) or UNREAD.search(said)):
+        half = len(group) // 2
+        return try_group(room, texts, group[:half]) + try_group(room, texts, group[half:])
+    found, left = told(group[0].crate, said), []
+    for body in group:
+        word = own_word(body.function, found)
+        if word == "refused":
+            room.add(body, *refusal(body.function, found, said))
+        elif word == "limit":
+            room.add(body, word, body.function)
+        else:
+            left += try_group(room, texts, [body]) if word == "above" and len(group) > 1 else [body]
+    return left
+
+
+def try_crate(room, crate):
+    """Tries those bodies of a crate that have no verdict yet."""
+    texts = texts_of(crate)
+    bodies = [it for it in bodies_of(crate, texts) if not room.has(it)]
+    fitting = [it for it in bodies if it.changes and changed(texts, it)]
+    for body in bodies:
+        if body not in fitting:
+            room.add(body, "unfit", "")
+    left = []
+    for group in groups_of(texts, fitting):
+        left += try_group(room, texts, group) if group[0].function else group
+    for body in left:
+        verdict = try_alone(room, texts, body)
+        if verdict:
+            room.add(body, *verdict)
+    return len(bodies)
+
+
+def copied(room):
+    """Lays the crates over the copy, without their edits, and has the libraries built if none are."""
+    for name in ("crates.txt", "HANDLES"):
+        shutil.copy(TOP / name, room.folder / name)
+    files = subprocess.run(["tar", "-C", TOP, "--exclude=out", "--exclude=must-fail", "-cf", "-", "crates"], stdout=subprocess.PIPE, check=True)
+    subprocess.run(["tar", "-C", room.folder, "-xf", "-"], input=files.stdout, check=True)
+    if room.built == room.folder:
+        subprocess.run([*os.environ.get("RT", "rt").split(), "ci"], cwd=room.folder, check=True)
 
 
 def write_table(file, rows):
     commit = subprocess.run(["git", "-C", TOP, "rev-parse", "--short", "HEAD"], stdout=subprocess.PIPE, text=True).stdout.strip()
-    counts = collections.Counter(word for word, _ in rows.values())
+    counts = collections.Counter(word for _, word, _ in rows.values())
     lines = ["# Wrong bodies, and what the prover says of each", "",
         "Each is a change of a line or two of the code, by which a function would no longer do what it",
         "promises. `bench/wrong_bodies.py` tries them all and writes this page; the changes themselves are",
         f"in `bench/wrong_bodies` and in `must-fail` of each crate. Tried at commit {commit}:", ""]
     lines += [f"- {VERDICTS[word]}: {counts[word]}" for word in VERDICTS]
     for crate in dict.fromkeys(crate for crate, _ in rows):
-        lines += ["", f"## {crate}", "", "| Body | Verdict | Function that refused it |", "|---|---|---|"]
-        lines += [f"| {name.replace('_', ' ')} | {VERDICTS[word]} | {where} |" for (of, name), (word, where) in sorted(rows.items()) if of == crate]
+        lines += ["", f"## {crate}", "", "| Body | Verdict | Function that refused it, and its clauses |", "|---|---|---|"]
+        lines += [f"| {name.replace('_', ' ')} | {VERDICTS[word]} | {where} |" for (of, name), (_, word, where) in sorted(rows.items()) if of == crate]
     pathlib.Path(file).write_text("\n".join(lines) + "\n")
 
 
 def main():
     words = argparse.ArgumentParser(description=__doc__, formatter_class=argparse.RawDescriptionHelpFormatter)
     words.add_argument("--at", metavar="FOLDER")
+    words.add_argument("--built", metavar="FOLDER", type=pathlib.Path)
+    words.add_argument("--jobs", metavar="N", type=int, default=1)
     words.add_argument("--table", metavar="FILE")
     words.add_argument("crates", metavar="CRATE", nargs="*")
     given = words.parse_args()
-    room = pathlib.Path(given.at or tempfile.mkdtemp(prefix="advfs_bodies_")).resolve()
-    room.mkdir(parents=True, exist_ok=True)
-    (room / ".git").mkdir(exist_ok=True)
-    rows = read_verdicts(room / "verdicts")
-    for crate in given.crates or crates_in_order():
-        bodies = bodies_of(crate)
-        if not bodies or all((crate, name) in rows for name in bodies):
-            continue
-        found = tried(crate, bodies, room)
-        rows.update({(crate, name): one for name, one in found.items()})
-        (room / "verdicts").write_text("".join("\t".join((*key, *one)) + "\n" for key, one in rows.items()))
-        print(f"{crate}: {len(bodies)} bodies, {sum(word != 'missed' for word, _ in found.values())} refused or unfit", flush=True)
-    for (crate, name), (word, _) in rows.items():
+    folder = pathlib.Path(given.at or tempfile.mkdtemp(prefix="advfs_bodies_")).resolve()
+    folder.mkdir(parents=True, exist_ok=True)
+    (folder / ".git").mkdir(exist_ok=True)
+    room = Room(folder, given.built and given.built.resolve())
+    copied(room)
+    every = crates_in_order()
+    with concurrent.futures.ThreadPoolExecutor(given.jobs) as pool:
+        for crate, count in zip(given.crates or every, pool.map(functools.partial(try_crate, room), given.crates or every)):
+            if count:
+                print(f"{crate}: {count} bodies tried", flush=True)
+    rows = {(it.crate, it.name): room.rows[it.crate, it.name] for crate in every for it in bodies_of(crate, texts_of(crate)) if room.has(it)}
+    for (crate, name), (_, word, _) in rows.items():
         if word in ("missed", "unfit"):
             print(f"{VERDICTS[word]}: {crate}/{name}")
     if given.table:
         write_table(given.table, rows)
-    return 1 if any(word == "missed" for word, _ in rows.values()) else 0
+    return 1 if any(word == "missed" for _, word, _ in rows.values()) else 0
 
 
 if __name__ == "__main__":
