@@ -286,17 +286,24 @@ def copied(room):
         subprocess.run([*os.environ.get("RT", "rt").split(), "ci"], cwd=room.folder, check=True)
 
 
-def write_table(file, rows):
-    commit = subprocess.run(["git", "-C", TOP, "rev-parse", "--short", "HEAD"], stdout=subprocess.PIPE, text=True).stdout.strip()
+def write_table(file, rows, untried):
+    git = ["git", "-C", TOP, "rev-parse", "--short", "HEAD"]
+    commit = subprocess.run(git, stdout=subprocess.PIPE, text=True).stdout.strip()
     counts = collections.Counter(word for _, word, _ in rows.values())
     lines = ["# Wrong bodies, and what the prover says of each", "",
         "Each is a change of a line or two of the code, by which a function would no longer do what it",
         "promises. `bench/wrong_bodies.py` tries them all and writes this page; the changes themselves are",
-        f"in `bench/wrong_bodies` and in `must-fail` of each crate. Tried at commit {commit}:", ""]
+        "in `bench/wrong_bodies` and in `must-fail` of each crate. Refused within its function means that",
+        "the proof ends before a clause: at a loop, at what a call asks for, or at the safety of a step.",
+        f"Tried at commit {commit}:", ""]
     lines += [f"- {VERDICTS[word]}: {counts[word]}" for word in VERDICTS]
+    if untried:
+        lines += [f"- not tried yet: {sum(untried.values())}, which are those of "
+            + ", ".join(f"`{crate}` ({count})" for crate, count in untried.items())]
     for crate in dict.fromkeys(crate for crate, _ in rows):
         lines += ["", f"## {crate}", "", "| Body | Verdict | Function that refused it, and its clauses |", "|---|---|---|"]
-        lines += [f"| {name.replace('_', ' ')} | {VERDICTS[word]} | {where} |" for (of, name), (_, word, where) in sorted(rows.items()) if of == crate]
+        own = sorted((name, word, where) for (of, name), (_, word, where) in rows.items() if of == crate)
+        lines += [f"| {name.replace('_', ' ')} | {VERDICTS[word]} | {where} |" for name, word, where in own]
     pathlib.Path(file).write_text("\n".join(lines) + "\n")
 
 
@@ -318,12 +325,13 @@ def main():
         for crate, count in zip(given.crates or every, pool.map(functools.partial(try_crate, room), given.crates or every)):
             if count:
                 print(f"{crate}: {count} bodies tried", flush=True)
-    rows = {(it.crate, it.name): room.rows[it.crate, it.name] for crate in every for it in bodies_of(crate, texts_of(crate)) if room.has(it)}
+    bodies = [it for crate in every for it in bodies_of(crate, texts_of(crate))]
+    rows = {(it.crate, it.name): room.rows[it.crate, it.name] for it in bodies if room.has(it)}
     for (crate, name), (_, word, _) in rows.items():
         if word in ("missed", "unfit"):
             print(f"{VERDICTS[word]}: {crate}/{name}")
     if given.table:
-        write_table(given.table, rows)
+        write_table(given.table, rows, collections.Counter(it.crate for it in bodies if not room.has(it)))
     return 1 if any(word == "missed" for _, word, _ in rows.values()) else 0
 
 
