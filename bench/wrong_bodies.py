@@ -259,7 +259,8 @@ def try_group(room, texts, group):
 
 
 def try_crate(room, crate):
-    """Tries those bodies of a crate that have no verdict yet."""
+    """Tries together those bodies of a crate that have no verdict yet, and gives those that are
+    left to be tried alone."""
     texts = texts_of(crate)
     bodies = [it for it in bodies_of(crate, texts) if not room.has(it)]
     fitting = [it for it in bodies if it.changes and changed(texts, it)]
@@ -269,11 +270,18 @@ def try_crate(room, crate):
     left = []
     for group in groups_of(texts, fitting):
         left += try_group(room, texts, group) if group[0].function else group
-    for body in left:
-        verdict = try_alone(room, texts, body)
+    if bodies:
+        names = ", ".join(it.name for it in left) or "none"
+        print(f"{crate}: {len(bodies)} bodies; to be tried alone: {names}", flush=True)
+    return left
+
+
+def try_left(room, bodies):
+    """Tries bodies of a crate alone, one after the other."""
+    for body in bodies:
+        verdict = try_alone(room, texts_of(body.crate), body)
         if verdict:
             room.add(body, *verdict)
-    return len(bodies)
 
 
 def copied(room):
@@ -322,9 +330,8 @@ def main():
     copied(room)
     every = crates_in_order()
     with concurrent.futures.ThreadPoolExecutor(given.jobs) as pool:
-        for crate, count in zip(given.crates or every, pool.map(functools.partial(try_crate, room), given.crates or every)):
-            if count:
-                print(f"{crate}: {count} bodies tried", flush=True)
+        left = list(pool.map(functools.partial(try_crate, room), given.crates or every))
+        list(pool.map(functools.partial(try_left, room), left))
     bodies = [it for crate in every for it in bodies_of(crate, texts_of(crate))]
     rows = {(it.crate, it.name): room.rows[it.crate, it.name] for it in bodies if room.has(it)}
     for (crate, name), (_, word, _) in rows.items():
