@@ -1,5 +1,5 @@
 -- Pages in place that are brought into frames, and written home from them.
-use Rattle.std.specs.Prelude.{◌≡◌, ◌⊎◌, ◌<◌, ℕ, List, Option, Some, Result, Ok, Err}
+use Rattle.std.specs.Prelude.{◌≡◌, ◌⊎◌, ◌<◌, ℕ, List, [], Option, Some, Result, Ok, Err}
 use Rattle.logged_rack.specs.domain_base.declared.place.Home.{Home}
 use Rattle.logged_rack.specs.volume_disk.Disk.{Disk, Tells, raised_at}
 use Rattle.logged_rack.specs.volume_disk.Image.{page_at}
@@ -27,9 +27,16 @@ NamesFrameFault old new (Err (Read vol)) = new.read_faults ≡ raised_at old.rea
 NamesFrameFault old new (Err OutOfMemory) = new.read_faults ≡ old.read_faults
 
 -- the group that a frame waits for is durable in the log; one that waits for group 0 waits for none
+-- if nothing is pending
 abbrev pub IsDurable : Option ℕ → Log → Type 0
 IsDurable waits log = (group : ℕ) → waits ≡ Some group
-    → (group ≡ 0) ⊎ (group < next_number log)
+    → (group < next_number log) ⊎ ((group ≡ 0) × (log.pending ≡ []))
+
+-- after a read that failed the cache is as it was
+abbrev pub KeepsUnread : {T : Type 0} → Result T FrameFault → PageCache → PageCache → Type 0
+KeepsUnread (Ok _) old new = Unit {0}
+KeepsUnread (Err (Read vol)) old new = new ≡ old
+KeepsUnread (Err OutOfMemory) old new = Unit {0}
 
 -- the page that the frame of a home has stands there
 abbrev pub HasPageOf : Frames → Home → Disk → Type 0

@@ -163,8 +163,9 @@ impl FilePages {
 
     /// Keeps a clean frame for a home that has none, and lends its page. If 1,024 frames are kept,
     /// one goes: of those that are clean and not lent, the one that was used least recently. For
-    /// this the frames of all that is lent are used first. If memory runs out no frame has changed,
-    /// nothing more is lent, and the page is handed back.
+    /// this the frames of all that is lent are used first. The page must be the one that stands
+    /// there, or be put next: no condition says so. If memory runs out no frame has changed, nothing
+    /// more is lent, and the page is handed back.
     pub fn keep(&mut self, home: Home, page: Page) -> Result<(), (Page, OutOfMemory)>
         requires new { IsNone (frames_of self.old.cache home) }
         requires few { vec_len self.old.lent < 4 }

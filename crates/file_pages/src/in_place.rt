@@ -15,10 +15,11 @@ ghost use Rattle.std.specs.Prelude.{
   OnOk,
   Some,
   false,
+  true,
   vec_len,
 };
 ghost use Rattle.std.specs.Option.{option_map};
-ghost use Rattle.logged_rack.specs.volume_disk.Disk.{Tells};
+ghost use Rattle.logged_rack.specs.volume_disk.Disk.{Tells, put_at};
 ghost use Rattle.logged_rack.specs.volume_disk.Run.{
   IsAtMost,
   NamesWriteFault,
@@ -27,12 +28,18 @@ ghost use Rattle.logged_rack.specs.volume_disk.Run.{
 };
 ghost use Rattle.logged_rack.specs.log_ring.Homes.{IsHomeOf};
 ghost use Rattle.logged_rack.specs.log_ring.Settling.{HasHome, IsOnPage};
-ghost use Rattle.logged_rack.specs.Pending.{MayWriteHome};
+ghost use Rattle.logged_rack.specs.Pending.{MayWriteHome, marks_of};
 ghost use Rattle.page_cache.specs.Cache.{Changes, dirty_of, frames_of, kept_of};
 ghost use Rattle.page_cache.specs.Frames.{cleaned, groups};
 ghost use Rattle.file_pages.specs.declared.fault.FrameFault.TheVariants.{OutOfMemory};
 ghost use Rattle.file_pages.specs.Lent.{Adds, Displaces, KeepsFrames, is_among, with_home};
-ghost use Rattle.file_pages.specs.InPlace.{HasBrought, HasPageOf, IsDurable, NamesFrameFault};
+ghost use Rattle.file_pages.specs.InPlace.{
+  HasBrought,
+  HasPageOf,
+  IsDurable,
+  KeepsUnread,
+  NamesFrameFault,
+};
 
 use crate::{FilePages, FrameFault};
 use logged_rack::{Home, LoggedRack, Page, Rack, VolIx};
@@ -42,7 +49,7 @@ impl FilePages {
     /// Lends the page in place of a home. If it has no frame, it is read and kept in a clean one,
     /// for which a clean one that is not lent goes if 1,024 are kept. The log must have no image of
     /// the home, since what stands there is not its page then. After an error no frame has changed,
-    /// and nothing more is lent.
+    /// and nothing more is lent; if a read failed, the order of use has not changed either.
     pub fn bring<R: Rack>(
         &mut self,
         rack: &mut LoggedRack<R>,
@@ -70,6 +77,8 @@ impl FilePages {
         ensures reads { OnlyReads (R.disk rack.old.rack) (R.disk rack.new.rack) }
         ensures once { IsAtMost 1 (R.disk rack.old.rack) (R.disk rack.new.rack) }
         ensures fault { NamesFrameFault (R.disk rack.old.rack) (R.disk rack.new.rack) result }
+        ensures unread { KeepsUnread result self.old.cache self.new.cache }
+        ensures marks { rack.new.marked ≡ rack.old.marked }
         ensures log { rack.new.log ≡ rack.old.log }
         ensures passed { rack.new.failed ≡ None }
     {
@@ -101,6 +110,8 @@ impl FilePages {
         ensures reads { OnlyReads (R.disk rack.old.rack) (R.disk rack.new.rack) }
         ensures once { IsAtMost 1 (R.disk rack.old.rack) (R.disk rack.new.rack) }
         ensures fault { NamesFrameFault (R.disk rack.old.rack) (R.disk rack.new.rack) result }
+        ensures unread { KeepsUnread result self.old.cache self.new.cache }
+        ensures marks { rack.new.marked ≡ rack.old.marked }
         ensures log { rack.new.log ≡ rack.old.log }
         ensures passed { rack.new.failed ≡ None }
     {
@@ -133,9 +144,9 @@ impl FilePages {
         }
     }
 
-    /// Writes the dirty frame of a home there, and makes it clean. Its group must be durable, and
-    /// its page one that may be written in place. The error is the volume, if the write failed.
-    /// Then the frame is dirty still.
+    /// Writes the dirty frame of a home there, which marks its volume, and makes it clean. Its group
+    /// must be durable, and its page one that may be written in place. The error is the volume, if
+    /// the write failed. Then the frame is dirty still.
     pub fn flush<R: Rack>(&mut self, rack: &mut LoggedRack<R>, home: Home) -> Result<(), VolIx>
         requires passed { rack.old.failed ≡ None }
         requires dirty { IsSome (groups (frames_of self.old.cache) home) }
@@ -148,6 +159,8 @@ impl FilePages {
             (option_map cleaned (frames_of self.old.cache home)) self.old.cache self.new.cache) }
         ensures err { OnErr result (self.new.cache ≡ self.old.cache) }
         ensures lent { self.new.lent ≡ self.old.lent }
+        ensures marks { marks_of rack.new.marked
+            ≡ put_at (marks_of rack.old.marked) home.vol true }
         ensures once { IsAtMost 1 (R.disk rack.old.rack) (R.disk rack.new.rack) }
         ensures fault { NamesWriteFault (R.disk rack.old.rack) (R.disk rack.new.rack) result }
         ensures log { rack.new.log ≡ rack.old.log }

@@ -63,9 +63,9 @@ use crate::pages::{read_page, sync_there, write_page};
 use meta_log::limits::MAX_VOLUMES;
 use meta_log::{Home, MetaLog, MetaPages, Page, Rack, VolIx};
 
-/// A rack, the log of the domain on it, and the volumes on which something may be pending, which are
-/// marked. Once a write or a sync has failed it has failed with that volume, and no call that changes
-/// the log or reaches the rack may be made any more.
+/// A rack, the log of the domain on it, and the volumes on which something may be pending, which
+/// are marked. Once a write or a sync has failed it has failed with that volume, and no call that
+/// changes the log or reaches the rack may be made any more.
 #[derive(Drop)]
 pub struct LoggedRack<R: Rack> {
     rack: R,
@@ -78,7 +78,9 @@ pub struct LoggedRack<R: Rack> {
 
 impl<R: Rack> LoggedRack<R> {
     /// A rack with the log of its domain. The log's ring and members must lie in the rack, and
-    /// nothing may be pending.
+    /// nothing may be pending. A checkpoint wants the slot of the next anchor ready besides:
+    /// settling a log leaves both so, and whoever did not settle it syncs all volumes and makes
+    /// that slot ready first.
     pub fn new(rack: R, log: MetaLog) -> LoggedRack<R>
         requires ring { IsRing (R.disk rack).sizes log.anchor }
         requires members { HasMembers (R.disk rack).sizes log.anchor }
