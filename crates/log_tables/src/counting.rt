@@ -2,13 +2,13 @@
 ghost use Rattle.std.specs.Prelude.{◌≡◌, ◌+◌, ◌*◌, ◌%◌, ◌<◌, ◌≤◌};
 
 use log_recovery::limits::{BLOCK_BYTES, BLOCKS_PER_PAGE, PAGE_BYTES};
-use log_recovery::{Failed, OutOfMemory, Rack, VolIx};
+use log_recovery::{Failed, Rack, VolIx};
 use memory_disk::MemoryRack;
 use std::alloc::Global;
 
 /// How often a rack was called: writes of more than a block, writes of a block, and syncs of
 /// volumes 1 and 2.
-#[derive(Clone, Copy, Debug, PartialEq, Eq)]
+#[derive(Clone, Copy)]
 pub struct Counts {
     pub pages: u32,
     pub gates: u32,
@@ -79,43 +79,42 @@ pub struct CountRack {
 }
 
 impl CountRack {
-    /// A rack of volumes of these sizes, on which these calls fail.
-    pub fn new(
-        alloc: Global,
-        sizes: &[u32],
-        fold: u32,
-        fails: &[u64],
-    ) -> Result<CountRack, OutOfMemory> {
+    /// A rack of volumes of these sizes, 0 for one that it does not have, of which each page in
+    /// memory holds `fold`, and on which these calls fail.
+    pub fn new(alloc: Global, sizes: &[u32; 3], fold: u32, fails: &[u64]) -> Option<CountRack> {
         let fold = fold.max(1);
-        let mut held = Vec::new(alloc);
-        for pages in sizes {
-            held.push(*pages / fold)?;
+        let all = [sizes[0] / fold, sizes[1] / fold, sizes[2] / fold];
+        let made = if all[2] == 0 {
+            MemoryRack::new(alloc, &all[..2], fails, true)
+        } else {
+            MemoryRack::new(alloc, &all, fails, true)
+        };
+        match made {
+            Ok(rack) => Some(CountRack {
+                rack,
+                fold,
+                counts: NO_CALLS,
+                changes: Vec::new(alloc),
+            }),
+            Err(_) => None,
         }
-        Ok(CountRack {
-            rack: MemoryRack::new(alloc, held.as_slice(), fails, true)?,
-            fold,
-            counts: NO_CALLS,
-            changes: Vec::new(alloc),
-        })
     }
 
-    /// A rack that starts again on what a stop right after a call leaves. None where that call was
-    /// not made.
-    pub fn image(
-        &self,
-        alloc: Global,
-        call: u64,
-        pick: u64,
-    ) -> Result<Option<CountRack>, OutOfMemory> {
+    /// A rack that starts again on what a stop right after a call leaves. None if that call was not
+    /// made, or memory ran out.
+    pub fn image(&self, alloc: Global, call: u64, pick: u64) -> Option<CountRack> {
         if !self.rack.keeps_calls() || call > self.rack.calls() {
-            return Ok(None);
+            return None;
         }
-        Ok(Some(CountRack {
-            rack: self.rack.image(alloc, call, pick)?,
-            fold: self.fold,
-            counts: NO_CALLS,
-            changes: Vec::new(alloc),
-        }))
+        match self.rack.image(alloc, call, pick) {
+            Ok(rack) => Some(CountRack {
+                rack,
+                fold: self.fold,
+                counts: NO_CALLS,
+                changes: Vec::new(alloc),
+            }),
+            Err(_) => None,
+        }
     }
 
     /// Whether a call was a write or a sync. A stop right after a read leaves what one before it

@@ -1,40 +1,32 @@
 //! Lines of pages in place in frames.
 
+use crate::answers::{is_done, say_answer};
 use crate::counting::CountRack;
-use crate::frames::{bring, drop_frame, flush, lent_byte, put};
-use crate::logged::Answer;
-use crate::logged_lines::say_answer;
-use crate::reading::{at, byte, say_numbers, small};
-use crate::stores::home_at;
+use crate::frames::{
+    bring, drop_frame, flush, flush_run, keep, keep_run, lend, lent_byte, put, put_run,
+};
+use crate::reading::{at, byte, home_at, say_numbers, say_whether, small};
 use file_pages::{FilePages, LoggedRack};
 use log_recovery::Home;
 use std::alloc::Global;
-use std::test::Fail;
+use table_words::Told;
 
 /// Says a number, or that there is none.
-fn say_found(out: &mut String, found: Option<u64>) -> Result<(), Fail> {
+fn say_found(told: &mut Told, found: Option<u64>) {
     match found {
-        Some(number) => say_numbers(out, &[number]),
-        None => {
-            out.push_str(": none")?;
-            Ok(())
-        }
+        Some(number) => say_numbers(told, &[number]),
+        None => told.push(": none"),
     }
 }
 
-/// Says the byte that a page is full of, or that there is none.
-fn say_byte(out: &mut String, byte: Option<u8>) -> Result<(), Fail> {
-    say_found(out, byte.map(u64::from))
-}
-
 /// Says the home of the next frame that is flushed, or that there is none.
-fn say_next(out: &mut String, home: Option<Home>) -> Result<(), Fail> {
+fn say_next(told: &mut Told, home: Option<Home>) {
     match home {
         Some(home) => {
-            let numbers = [home.vol.number(), home.page];
-            say_numbers(out, &numbers.map(u64::from))
+            let numbers = [u64::from(home.vol.number()), u64::from(home.page)];
+            say_numbers(told, &numbers);
         }
-        None => say_found(out, None),
+        None => say_found(told, None),
     }
 }
 
@@ -44,11 +36,26 @@ fn say_brought(
     held: &mut FilePages,
     rack: &mut LoggedRack<CountRack>,
     home: &Home,
-    out: &mut String,
-) -> Result<(), Fail> {
-    match bring(held, rack, alloc, home)? {
-        Answer::Done(_) => say_byte(out, lent_byte(held, home)),
-        answer => say_answer(out, answer),
+    told: &mut Told,
+) {
+    let answer = bring(held, rack, alloc, home);
+    if is_done(answer) {
+        say_found(told, lent_byte(held, home));
+    } else {
+        say_answer(told, answer);
+    }
+}
+
+/// Says of pages, by volumes and numbers by turns, whether they have frames.
+fn say_kept(held: &FilePages, numbers: &[u64], told: &mut Told) {
+    told.push(":");
+    for pair in 0..numbers.len() / 2 {
+        let home = home_at(small(numbers, 2 * pair), small(numbers, 2 * pair + 1));
+        let is_kept = match home {
+            Some(home) => held.is_kept(home),
+            None => false,
+        };
+        told.push(if is_kept { " yes" } else { " no" });
     }
 }
 
@@ -57,26 +64,26 @@ fn answer_of_frame(
     alloc: Global,
     held: &mut FilePages,
     rack: &mut LoggedRack<CountRack>,
+    told: &mut Told,
     word: &str,
     numbers: &[u64],
-    out: &mut String,
-) -> Result<bool, Fail> {
+) -> bool {
     let Some(home) = home_at(small(numbers, 0), small(numbers, 1)) else {
-        return Ok(false);
+        return false;
     };
+    let (mark, group) = (byte(numbers, 2), at(numbers, 3));
     match word {
-        "bring" => say_brought(alloc, held, rack, &home, out)?,
-        "lent" => say_byte(out, lent_byte(held, &home))?,
-        "put" => {
-            let answer = put(held, alloc, &home, byte(numbers, 2), at(numbers, 3))?;
-            say_answer(out, answer)?;
-        }
-        "waits" => say_found(out, held.waits(home))?,
-        "flush" => say_answer(out, flush(held, rack, &home))?,
-        "drop" => say_byte(out, drop_frame(held, &home))?,
-        _ => return Ok(false),
+        "bring" => say_brought(alloc, held, rack, &home, told),
+        "lend" => say_answer(told, lend(held, &home)),
+        "keep" => say_answer(told, keep(held, alloc, &home, mark)),
+        "lent" => say_found(told, lent_byte(held, &home)),
+        "put" => say_answer(told, put(held, alloc, &home, mark, group)),
+        "waits" => say_found(told, held.waits(home)),
+        "flush" => say_answer(told, flush(held, rack, &home)),
+        "drop" => say_found(told, drop_frame(held, &home)),
+        _ => return false,
     }
-    Ok(true)
+    true
 }
 
 /// Answers a line of frames: whether it is one.
@@ -84,15 +91,20 @@ pub fn answer_of_frames(
     alloc: Global,
     held: &mut FilePages,
     rack: &mut LoggedRack<CountRack>,
+    told: &mut Told,
     word: &str,
     numbers: &[u64],
-    out: &mut String,
-) -> Result<bool, Fail> {
+) -> bool {
     match word {
         "hand-back" => held.hand_back(),
-        "dirty" => say_numbers(out, &[u64::from(held.dirty())])?,
-        "next-flush" => say_next(out, held.next_flush(at(numbers, 0)))?,
-        _ => return answer_of_frame(alloc, held, rack, word, numbers, out),
+        "dirty" => say_numbers(told, &[u64::from(held.dirty())]),
+        "lent-count" => say_numbers(told, &[held.lent() as u64]),
+        "next-flush" => say_next(told, held.next_flush(at(numbers, 0))),
+        "kept" => say_kept(held, numbers, told),
+        "keep-run" => say_numbers(told, &[keep_run(held, alloc, numbers)]),
+        "put-run" => say_numbers(told, &[put_run(held, alloc, numbers)]),
+        "flush-run" => say_numbers(told, &[flush_run(held, rack, numbers)]),
+        _ => return answer_of_frame(alloc, held, rack, told, word, numbers),
     }
-    Ok(true)
+    true
 }

@@ -1,32 +1,61 @@
 //! A rack with its log, by plain numbers: pages of a store are logged, and others are read and
-//! written in place. Its calls are made where their conditions hold, so none once one has failed.
+//! written in place. Its calls are made if their conditions hold, so none once one has failed.
 ghost use Rattle.std.specs.Prelude.{◌≡◌, IsTrue, None};
 ghost use Rattle.log_recovery.specs.log_ring.Homes.{IsHomeOf};
 
+use crate::answers::Answer;
+use crate::changes::full_page;
 use crate::counting::CountRack;
-use crate::logs::{Appended, full_page, has_members, has_number_left, has_ring};
+use crate::logs::{has_members, has_number_left, has_ring};
 use crate::racks::started;
+use crate::reading::{Filled, home_at};
 use crate::seen::full_of;
-use crate::stores::{home_at, store_of};
+use crate::stores::{are_distinct, has_all, may_be_logged, set_homes, store_of};
 use file_pages::LoggedRack;
 use log_recovery::limits::MAX_VOLUME_PAGES_4;
-use log_recovery::{Home, MetaPages, OutOfMemory, Page, Rack, is_loggable, is_whole};
+use log_recovery::{Home, MetaPages, Page, Rack, VolIx, is_loggable, is_whole};
 use std::alloc::Global;
 
 /// A rack with its log, on volumes of these sizes, of which each page in memory holds `fold`, whose
-/// log begins at a place and on which these calls fail. None where the log does not lie in it.
+/// log begins at a place and on which these calls fail. None if the log does not lie in it, or
+/// memory ran out.
 pub fn logged(
     alloc: Global,
-    sizes: &[u32],
+    sizes: &[u32; 3],
     fold: u32,
     start: u32,
     fails: &[u64],
-) -> Result<Option<LoggedRack<CountRack>>, OutOfMemory> {
-    let (rack, log) = started(alloc, sizes, fold, start, fails)?;
-    if !has_ring(&rack, log.anchor()) || !has_members(&rack, log.anchor()) {
-        return Ok(None);
+) -> Option<LoggedRack<CountRack>> {
+    match started(alloc, sizes, fold, start, fails) {
+        Some((rack, log)) => {
+            if has_ring(&rack, log.anchor()) && has_members(&rack, log.anchor()) {
+                Some(LoggedRack::new(rack, log))
+            } else {
+                None
+            }
+        }
+        None => None,
     }
-    Ok(Some(LoggedRack::new(rack, log)))
+}
+
+/// How many calls such a rack has made at first.
+fn calls_at_first(alloc: Global, sizes: &[u32; 3], fold: u32, start: u32) -> u64 {
+    match logged(alloc, sizes, fold, start, &[]) {
+        Some(rack) => rack.rack().calls(),
+        None => 0,
+    }
+}
+
+/// Such a rack, of which the call of that number fails, counted from 1 and from now on.
+pub fn logged_with_fault(
+    alloc: Global,
+    sizes: &[u32; 3],
+    fold: u32,
+    start: u32,
+    number: u64,
+) -> Option<LoggedRack<CountRack>> {
+    let call = calls_at_first(alloc, sizes, fold, start).saturating_add(number);
+    logged(alloc, sizes, fold, start, &[call])
 }
 
 /// Whether no call has failed.
@@ -39,49 +68,45 @@ pub fn has_passed(rack: &LoggedRack<CountRack>) -> bool
     }
 }
 
-/// Appends the page that stands at a home in a store.
-fn append_at<M: MetaPages>(rack: &mut LoggedRack<CountRack>, store: &M, home: &Home) -> Appended {
-    if !has_passed(rack) || store.get(*home).is_none() {
-        return Appended::Unfit;
+/// Appends the pages that stand at homes in a store.
+fn append_at<M: MetaPages>(rack: &mut LoggedRack<CountRack>, store: &M, homes: &[Home]) -> Answer {
+    if !has_passed(rack) || homes.is_empty() || homes.len() > 32 || !are_distinct(homes) {
+        return Answer::Unfit;
     }
-    if !is_loggable(rack.log().anchor(), home) || !has_number_left(rack.log()) {
-        return Appended::Unfit;
+    let may = may_be_logged(rack.log().anchor(), homes) && has_number_left(rack.log());
+    if !may || !has_all(store, homes) {
+        return Answer::Unfit;
     }
-    if !rack.takes(&[*home]) {
-        return Appended::Full;
+    if !rack.takes(homes) {
+        return Answer::Full;
     }
-    Appended::Group(rack.append(store, &[*home]))
+    Answer::Group(rack.append(store, homes))
 }
 
-/// Appends a page of volume 2 of a store, where it is full of a byte.
-pub fn append(
-    rack: &mut LoggedRack<CountRack>,
-    alloc: Global,
-    page: u32,
-    byte: u8,
-) -> Result<Appended, OutOfMemory> {
-    let store = store_of(alloc, page, byte)?;
-    Ok(match home_at(2, page) {
-        Some(home) => append_at(rack, &store, &home),
-        None => Appended::Unfit,
-    })
-}
-
-/// Whether the log takes a change of one page of volume 2.
-pub fn takes(rack: &LoggedRack<CountRack>, page: u32) -> bool {
-    match home_at(2, page) {
-        Some(home) => rack.takes(&[home]),
-        None => false,
+/// Appends pages of volume 2 of a store that are full of bytes, pages and bytes by turns, 32 at
+/// most.
+pub fn append(rack: &mut LoggedRack<CountRack>, alloc: Global, pairs: &[u64]) -> Answer {
+    let Some(vol) = VolIx::new(2) else {
+        return Answer::Unfit;
+    };
+    let mut homes = [Home { vol, page: 0 }; 32];
+    set_homes(&mut homes, vol, pairs);
+    let count = (pairs.len() / 2).min(32);
+    match store_of(alloc, pairs) {
+        Some(store) => append_at(rack, &store, &homes[..count]),
+        None => Answer::NoMemory,
     }
 }
 
-/// What a call answers: what it gives, the volume of which a call failed, or nothing, since it may
-/// not be called.
-#[derive(Clone, Copy, Debug, PartialEq, Eq)]
-pub enum Answer {
-    Done(u64),
-    Failed(u32),
-    Unfit,
+/// Whether the log takes a change of these pages of volume 2: pages and bytes by turns, 32 at most.
+pub fn takes(rack: &LoggedRack<CountRack>, pairs: &[u64]) -> bool {
+    let Some(vol) = VolIx::new(2) else {
+        return false;
+    };
+    let mut homes = [Home { vol, page: 0 }; 32];
+    set_homes(&mut homes, vol, pairs);
+    let homes = &homes[..(pairs.len() / 2).min(32)];
+    are_distinct(homes) && rack.takes(homes)
 }
 
 /// Forces the log: the number of the last durable group.
@@ -118,25 +143,30 @@ pub fn is_home<R: Rack>(rack: &R, home: &Home) -> bool
         && home.page < MAX_VOLUME_PAGES_4
 }
 
-/// Reads a page: the byte that it is full of, 255 where it is not full of a byte. A read that fails
-/// leaves 9 there, of which the page is full before.
-pub fn read_home(
-    rack: &mut LoggedRack<CountRack>,
-    alloc: Global,
-    home: &Home,
-) -> Result<(Answer, u8), OutOfMemory> {
-    let mut page = full_page(alloc, 9)?;
+/// Reads a page into one that is given.
+fn read_into(rack: &mut LoggedRack<CountRack>, home: &Home, page: &mut Page) -> Answer {
     if !has_passed(rack) || !is_home(rack.rack(), home) {
-        return Ok((Answer::Unfit, 0));
+        return Answer::Unfit;
     }
-    let answer = match rack.read_home(*home, &mut page) {
+    match rack.read_home(*home, page) {
         Ok(()) => Answer::Done(0),
         Err(vol) => Answer::Failed(vol.number()),
-    };
-    Ok((answer, full_of(page.bytes())))
+    }
 }
 
-/// Writes a page in place, where the log has no image of it.
+/// Reads a page: the byte that it is full of, 255 if it is not full of a byte. A read that fails
+/// leaves 9 there, of which the page is full before.
+pub fn read_home(rack: &mut LoggedRack<CountRack>, alloc: Global, home: &Home) -> (Answer, u8) {
+    match full_page(alloc, 9) {
+        Some(mut page) => {
+            let answer = read_into(rack, home, &mut page);
+            (answer, full_of(page.bytes()))
+        }
+        None => (Answer::NoMemory, 0),
+    }
+}
+
+/// Writes a page in place, if the log has no image of it.
 fn write_page(rack: &mut LoggedRack<CountRack>, home: &Home, page: &Page) -> Answer {
     if !has_passed(rack) || !is_loggable(rack.log().anchor(), home) || rack.has_image(*home) {
         return Answer::Unfit;
@@ -148,14 +178,14 @@ fn write_page(rack: &mut LoggedRack<CountRack>, home: &Home, page: &Page) -> Ans
 }
 
 /// Writes a page full of a byte in place.
-pub fn write_home(
-    rack: &mut LoggedRack<CountRack>,
-    alloc: Global,
-    home: &Home,
-    byte: u8,
-) -> Result<Answer, OutOfMemory> {
-    let page = full_page(alloc, byte)?;
-    Ok(write_page(rack, home, &page))
+pub fn write_home(rack: &mut LoggedRack<CountRack>, alloc: Global, filled: &Filled) -> Answer {
+    match (
+        full_page(alloc, filled.byte),
+        home_at(filled.vol, filled.page),
+    ) {
+        (Some(page), Some(home)) => write_page(rack, &home, &page),
+        _ => Answer::Unfit,
+    }
 }
 
 /// Syncs the volumes that were written.

@@ -1,15 +1,15 @@
 //! Each call of a rack with its log that fails in turn.
 
+use crate::answers::{Answer, is_done, volume_of};
 use crate::counting::CountRack;
-use crate::failing::FOLD;
-use crate::logged::{
-    Answer, append, checkpoint, force, has_passed, logged, read_home, sync_written, write_home,
-};
+use crate::failing::{FOLD, is_named};
+use crate::logged::{append, checkpoint, force, logged, sync_written, write_home};
 use crate::racks::SIZES;
-use crate::seen::{Seen, faults_of, leaves};
-use crate::stores::home_at;
+use crate::reading::Filled;
+use crate::seen::{Seen, leaves};
+use crate::stops::{lasts, settles_again};
 use file_pages::LoggedRack;
-use log_recovery::{OutOfMemory, Rack};
+use log_recovery::Rack;
 use std::alloc::Global;
 
 /// What is seen at first, and once each step is done: a group of two pages and one of two more,
@@ -37,120 +37,130 @@ static STAGES: [Seen; 5] = [
     },
 ];
 
-/// Logs two pages of volume 2, each by its number and its byte, as one group.
-fn log_two(
-    rack: &mut LoggedRack<CountRack>,
-    alloc: Global,
-    first: (u32, u8),
-    second: (u32, u8),
-) -> Result<Answer, OutOfMemory> {
-    append(rack, alloc, first.0, first.1)?;
-    append(rack, alloc, second.0, second.1)?;
-    Ok(force(rack))
+/// Pages of both volumes that are written in place.
+static IN_PLACE: [Filled; 2] = [
+    Filled {
+        vol: 1,
+        page: 140,
+        byte: 7,
+    },
+    Filled {
+        vol: 2,
+        page: 40,
+        byte: 7,
+    },
+];
+
+/// Logs two pages of volume 2, pages and bytes by turns, as one group.
+fn log_two(rack: &mut LoggedRack<CountRack>, alloc: Global, pairs: &[u64]) -> Answer {
+    let _ = append(rack, alloc, pairs);
+    force(rack)
 }
 
 /// Writes a page of each volume in place, and syncs both.
-fn write_two(rack: &mut LoggedRack<CountRack>, alloc: Global) -> Result<Answer, OutOfMemory> {
-    for vol in 1..3 {
-        let Some(home) = home_at(vol, 40 + 100 * (2 - vol)) else {
-            return Ok(Answer::Unfit);
+fn write_two(rack: &mut LoggedRack<CountRack>, alloc: Global) -> Answer {
+    for filled in IN_PLACE.iter() {
+        let answer = write_home(rack, alloc, filled);
+        if !is_done(answer) {
+            return answer;
+        }
+    }
+    sync_written(rack)
+}
+
+/// Makes the four steps up to the first call that fails: how many passed, and the volume of the
+/// failed call, 0 if none failed.
+fn run_until_fault(rack: &mut LoggedRack<CountRack>, alloc: Global) -> (usize, u32) {
+    for number in 0..4 {
+        let answer = match number {
+            0 => log_two(rack, alloc, &[10, 1, 11, 2]),
+            1 => log_two(rack, alloc, &[11, 3, 12, 4]),
+            2 => write_two(rack, alloc),
+            _ => checkpoint(rack),
         };
-        let answer = write_home(rack, alloc, &home, 7)?;
-        if answer != Answer::Done(0) {
-            return Ok(answer);
+        if !is_done(answer) {
+            return (number, volume_of(answer));
         }
     }
-    Ok(sync_written(rack))
+    (4, 0)
 }
 
-/// Makes a step.
-fn step(
-    rack: &mut LoggedRack<CountRack>,
-    alloc: Global,
-    number: usize,
-) -> Result<Answer, OutOfMemory> {
-    match number {
-        0 => log_two(rack, alloc, (10, 1), (11, 2)),
-        1 => log_two(rack, alloc, (11, 3), (12, 4)),
-        2 => write_two(rack, alloc),
-        _ => Ok(checkpoint(rack)),
+/// The volume that has failed, 0 if none has.
+pub fn failed(rack: &LoggedRack<CountRack>) -> u32 {
+    match rack.failed() {
+        Some(vol) => vol.number(),
+        None => 0,
     }
 }
 
-/// How many of the four steps are done, and the volume of the call that failed, 0 where none did.
-fn run_until_fault(
-    rack: &mut LoggedRack<CountRack>,
-    alloc: Global,
-) -> Result<(usize, u32), OutOfMemory> {
-    for number in 0..4 {
-        match step(rack, alloc, number)? {
-            Answer::Done(_) => {}
-            Answer::Failed(vol) => return Ok((number, vol)),
-            Answer::Unfit => return Ok((number, 0)),
-        }
+/// Whether stops after the last call leave so many of the pages in place, from the first on.
+fn in_place_lasts(rack: &CountRack, alloc: Global, count: usize) -> bool {
+    let mut all = true;
+    for filled in &IN_PLACE[..count.min(2)] {
+        all = all && lasts((0, 8), rack, alloc, rack.calls(), 0, filled);
     }
-    Ok((4, 0))
+    all
 }
 
-/// Whether no step goes on after a failed one: none makes a call.
-fn stays_failed(rack: &mut LoggedRack<CountRack>, alloc: Global) -> Result<bool, OutOfMemory> {
-    let calls = rack.rack().calls();
-    let mut all = !has_passed(rack);
-    for number in 0..4 {
-        all = step(rack, alloc, number)? == Answer::Unfit && all;
+/// How many of the pages in place are synced: both after the step that syncs them, and the first
+/// once that has come to the sync of the second.
+fn synced_after(rack: &CountRack, done: usize) -> usize {
+    let [_, of_second] = rack.counts.syncs;
+    if done > 2 {
+        2
+    } else if done == 2 && of_second > 0 {
+        1
+    } else {
+        0
     }
-    Ok(all && rack.rack().calls() == calls)
 }
 
-/// Whether the failed call is named by its volume, none is made after it, and what is left then is
-/// what was done, or one step more.
-fn fails_well(alloc: Global, call: u64) -> Result<bool, OutOfMemory> {
-    let Some(mut rack) = logged(alloc, &SIZES, FOLD, 126, &[call])? else {
-        return Ok(false);
-    };
-    let (done, vol) = run_until_fault(&mut rack, alloc)?;
+/// Whether what is left after the last call is what was done, or one step more, the log may be
+/// settled then, and pages in place that were synced have their bytes.
+fn is_left_well(rack: &CountRack, alloc: Global, done: usize) -> bool {
     if done > 3 {
-        return Ok(false);
+        return false;
     }
-    let named = faults_of(rack.rack(), vol) == 1 && faults_of(rack.rack(), 3 - vol.min(2)) == 0;
-    let stays = stays_failed(&mut rack, alloc)?;
-    let end = rack.rack().calls();
+    let end = rack.calls();
     let last = (end, end.saturating_add(1));
-    let is_left = leaves(
-        8,
-        rack.rack(),
-        alloc,
-        last,
-        (STAGES[done], STAGES[done + 1]),
-    )?;
-    Ok([named, stays, is_left] == [true; 3])
+    let allowed = (STAGES[done], STAGES[done + 1]);
+    let count = synced_after(rack, done);
+    let synced = if count > 0 { Some(IN_PLACE[0]) } else { None };
+    leaves((0, 8), rack, alloc, last, allowed)
+        && settles_again(2, rack, alloc, last, allowed, synced)
+        && in_place_lasts(rack, alloc, count)
+}
+
+/// Whether the failed call is named by its volume, also by the rack, and what is left then is what
+/// it is to be.
+fn fails_well(rack: &mut LoggedRack<CountRack>, alloc: Global) -> bool {
+    let (done, vol) = run_until_fault(rack, alloc);
+    failed(rack) == vol && is_named(rack.rack(), vol) && is_left_well(rack.rack(), alloc, done)
+}
+
+/// Whether that is so of each call from one on and up to another.
+fn each_fails_well(alloc: Global, start: u64, end: u64) -> bool {
+    let mut all = true;
+    for call in start..end {
+        let is_well = match logged(alloc, &SIZES, FOLD, 126, &[call.saturating_add(1)]) {
+            Some(mut rack) => fails_well(&mut rack, alloc),
+            None => false,
+        };
+        all = all && is_well;
+    }
+    all
 }
 
 /// How many calls the four steps take, and whether each of them is told when it fails.
-pub fn each_logged_call_fails(alloc: Global) -> Result<(u64, bool), OutOfMemory> {
-    let Some(mut rack) = logged(alloc, &SIZES, FOLD, 126, &[])? else {
-        return Ok((0, false));
-    };
-    let start = rack.rack().calls();
-    let mut all = run_until_fault(&mut rack, alloc)? == (4, 0);
-    let end = rack.rack().calls();
-    for call in start..end {
-        all = fails_well(alloc, call.saturating_add(1))? && all;
+pub fn each_logged_call_fails(alloc: Global) -> (u64, bool) {
+    match logged(alloc, &SIZES, FOLD, 126, &[]) {
+        Some(mut rack) => {
+            let start = rack.rack().calls();
+            let passed = run_until_fault(&mut rack, alloc) == (4, 0);
+            let end = rack.rack().calls();
+            let all = passed && each_fails_well(alloc, start, end);
+            (end.saturating_sub(start), all)
+        }
+        None => (0, false),
     }
-    Ok((end.saturating_sub(start), all))
-}
-
-/// Whether a read that fails is named by its volume and leaves the page as it was, and the next one
-/// passes.
-pub fn read_fails_well(alloc: Global) -> Result<bool, OutOfMemory> {
-    let (Some(passed), Some(home)) = (logged(alloc, &SIZES, FOLD, 0, &[])?, home_at(2, 40)) else {
-        return Ok(false);
-    };
-    let call = passed.rack().calls().saturating_add(1);
-    let Some(mut rack) = logged(alloc, &SIZES, FOLD, 0, &[call])? else {
-        return Ok(false);
-    };
-    let first = read_home(&mut rack, alloc, &home)?;
-    let second = read_home(&mut rack, alloc, &home)?;
-    Ok(first == (Answer::Failed(2), 9) && second == (Answer::Done(0), 0) && has_passed(&rack))
 }

@@ -1,19 +1,18 @@
 //! Logs by plain numbers, on racks in memory, whose calls are made where their conditions hold.
-ghost use Rattle.std.specs.Prelude.{◌+◌, ◌^◌, ◌<◌, IsTrue};
+ghost use Rattle.std.specs.Prelude.{◌≡◌, ◌+◌, ◌^◌, ◌<◌, [], IsTrue};
 ghost use Rattle.log_recovery.specs.log_ring.Homes.{AreLoggable, HasMembers};
 ghost use Rattle.log_recovery.specs.log_ring.Ring.{IsRing};
 ghost use Rattle.file_pages.specs.meta_log.Log.{next_number};
 ghost use Rattle.log_tables.specs.Calls.{HasMember, MayAppend, MayBringHome};
 ghost use Rattle.log_tables.specs.Moves.{MayMoveTo};
 
+use crate::answers::{Answer, answer_of};
+use crate::changes::change_of;
 use crate::counting::CountRack;
 use file_pages::{LogFull, MetaLog};
-use log_recovery::limits::{LOG_PAGES, MAX_VOLUME_PAGES_4, MAX_VOLUMES, PAGE_BYTES};
-use log_recovery::{
-    Anchor, Change, Home, Member, OutOfMemory, Page, PageImage, Rack, VolIx, is_loggable, is_whole,
-};
+use log_recovery::limits::{LOG_PAGES, MAX_VOLUME_PAGES_4, MAX_VOLUMES};
+use log_recovery::{Anchor, Change, Member, PageImage, Rack, VolIx, is_loggable, is_whole};
 use std::alloc::Global;
-use std::test::Fail;
 
 pub const NONE: Member = Member { pages: 0, state: 0 };
 
@@ -96,96 +95,40 @@ fn may_bring_home<R: Rack>(log: &MetaLog, rack: &R) -> bool
 
 // Calls.
 
-/// What an append answers: the number of a group, that the log is full, or nothing, since the
-/// change may not be appended.
-#[derive(Clone, Copy)]
-pub enum Appended {
-    Group(u64),
-    Full,
-    Unfit,
-}
-
-/// Says what an append answered.
-pub fn say_appended(out: &mut String, appended: Appended) -> Result<(), Fail> {
-    match appended {
-        Appended::Group(number) => write!(out, ": group {number}")?,
-        Appended::Full => out.push_str(": full")?,
-        Appended::Unfit => out.push_str(": unfit")?,
+/// Appends a change.
+fn append_change(log: &mut MetaLog, change: &Change) -> Answer {
+    if !may_append(log, change) {
+        return Answer::Unfit;
     }
-    Ok(())
-}
-
-/// A page that is full of a byte.
-pub fn full_page(alloc: Global, byte: u8) -> Result<Page, OutOfMemory> {
-    let mut page = Page::zeros(alloc)?;
-    page.set(0, &[byte; PAGE_BYTES]);
-    Ok(page)
-}
-
-/// A change that puts pages full of a byte at pages of a volume.
-pub fn change_of(alloc: Global, vol: u32, pages: &[(u32, u8)]) -> Result<Change, OutOfMemory> {
-    let mut change = Change::new(alloc)?;
-    let Some(vol) = VolIx::new(vol) else {
-        return Ok(change);
-    };
-    for (page, byte) in pages {
-        let content = full_page(alloc, *byte)?;
-        if change.len() < 32 {
-            change.put(Home { vol, page: *page }, content);
-        }
+    match log.append(change) {
+        Ok(number) => Answer::Group(number),
+        Err(LogFull) => Answer::Full,
     }
-    Ok(change)
 }
 
-/// Appends pages of a volume that are full of a byte.
-pub fn append(
-    log: &mut MetaLog,
-    alloc: Global,
-    vol: u32,
-    pages: &[(u32, u8)],
-) -> Result<Appended, OutOfMemory> {
-    let change = change_of(alloc, vol, pages)?;
-    if !may_append(log, &change) {
-        return Ok(Appended::Unfit);
+/// Appends pages of a volume that are full of a byte: pages and bytes by turns.
+pub fn append(log: &mut MetaLog, alloc: Global, vol: u32, pairs: &[u64]) -> Answer {
+    match change_of(alloc, vol, pairs) {
+        Some(change) => append_change(log, &change),
+        None => Answer::NoMemory,
     }
-    Ok(match log.append(&change) {
-        Ok(number) => Appended::Group(number),
-        Err(LogFull) => Appended::Full,
-    })
 }
 
-/// Forces a log: the number of the last durable group, or the volume of which a call failed. 0
-/// where the log has no ring.
-pub fn force(log: &mut MetaLog, rack: &mut CountRack) -> Result<u64, u32> {
+/// Forces a log: the number of the last durable group.
+pub fn force(log: &mut MetaLog, rack: &mut CountRack) -> Answer {
     if !has_ring(rack, log.anchor()) {
-        return Ok(0);
+        return Answer::Unfit;
     }
-    log.force(rack).map_err(|vol| vol.number())
+    answer_of(log.force(rack))
 }
 
-/// Brings a log home on its ring: the number of the anchor, or the volume of which a call failed. 0
-/// where that may not be called.
-pub fn bring_home(log: &mut MetaLog, rack: &mut CountRack) -> Result<u64, u32> {
+/// Brings a log home on its ring: the number of the anchor.
+pub fn bring_home(log: &mut MetaLog, rack: &mut CountRack) -> Answer {
     if !may_bring_home(log, rack) {
-        return Ok(0);
+        return Answer::Unfit;
     }
     let anchor = *log.anchor();
-    log.checkpoint(rack, &anchor).map_err(|vol| vol.number())
-}
-
-/// Appends so many pages of volume 2 from one on, full of a byte.
-pub fn append_run(
-    log: &mut MetaLog,
-    alloc: Global,
-    first: u32,
-    count: u32,
-    byte: u8,
-) -> Result<Appended, OutOfMemory> {
-    let mut pages = Vec::new(alloc);
-    for i in 0..count {
-        pages.push((first.saturating_add(i), byte))?;
-    }
-    append(log, alloc, 2, &pages)
+    answer_of(log.checkpoint(rack, &anchor))
 }
 
 /// The log's anchor with volume 3 as one more member, of so many pages, and the log on it.
@@ -230,27 +173,20 @@ pub fn may_move_to<R: Rack>(log: &MetaLog, rack: &R, anchor: &Anchor) -> bool
         && has_members(rack, anchor)
 }
 
-/// Brings a log home and moves it to volume 3: the number of the anchor, or the volume of which a
-/// call failed. 0 where that may not be called.
-pub fn move_home(log: &mut MetaLog, rack: &mut CountRack, pages: u32) -> Result<u64, u32> {
+/// Brings a log home and moves it to volume 3: the number of the anchor.
+pub fn move_home(log: &mut MetaLog, rack: &mut CountRack, pages: u32) -> Answer {
     let anchor = moved(log.anchor(), pages);
     if !may_move(log, rack, &anchor) {
-        return Ok(0);
+        return Answer::Unfit;
     }
-    log.checkpoint(rack, &anchor).map_err(|vol| vol.number())
+    answer_of(log.checkpoint(rack, &anchor))
 }
 
-/// Begins a log anew after this one, which is home, and moves it to a ring at another page of its
-/// volume: the log then, or None where that may not be called or fails.
-pub fn move_ring(
-    log: &MetaLog,
-    rack: &mut CountRack,
-    alloc: Global,
-    page: u32,
-) -> Result<Option<MetaLog>, OutOfMemory> {
-    // called to learn what holds of every log
-    let _room = log.room();
-    let mut moving = MetaLog::new(alloc, log.anchor())?;
+/// Moves a log without groups to a ring at another page of its volume: the number of the anchor.
+fn move_empty(log: &mut MetaLog, rack: &mut CountRack, page: u32) -> Answer
+    requires empty { log.old.logged ≡ [] }
+    requires forced { log.old.pending ≡ [] }
+{
     let anchor = Anchor {
         log_page: page,
         ..*log.anchor()
@@ -260,10 +196,22 @@ pub fn move_ring(
         || !has_ring(rack, &anchor)
         || !has_members(rack, log.anchor())
     {
-        return Ok(None);
+        return Answer::Unfit;
     }
-    Ok(match moving.checkpoint(rack, &anchor) {
-        Ok(_) => Some(moving),
-        Err(_) => None,
-    })
+    answer_of(log.checkpoint(rack, &anchor))
+}
+
+/// Begins a log anew after this one, which is home, and moves it to a ring at another page of its
+/// volume: the number of the anchor.
+pub fn move_ring(log: &mut MetaLog, rack: &mut CountRack, alloc: Global, page: u32) -> Answer {
+    // called to learn what holds of every log
+    let _room = log.room();
+    match MetaLog::new(alloc, log.anchor()) {
+        Ok(mut moving) => {
+            let answer = move_empty(&mut moving, rack, page);
+            *log = moving;
+            answer
+        }
+        Err(_) => Answer::NoMemory,
+    }
 }

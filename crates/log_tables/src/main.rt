@@ -1,16 +1,16 @@
 //! Logs on racks in memory: a program that makes the calls of the lines that it reads, and prints
 //! each line with its answer. What stands in its input is what forces, checkpoints and recovery
-//! leave, whatever calls fail and wherever a stop comes, and which pages have frames. `openings` and
-//! `moves` are callers of the whole order, whose contracts show that the calls of a log fit
-//! together.
+//! leave, whatever calls fail and wherever a stop comes, and which pages have frames. A call whose
+//! conditions do not hold is not made, and its line says `unfit`. `openings` and `moves` are
+//! callers of the whole order, whose contracts show that the calls of a log fit together.
 #![tactic(auto)]
 
+mod answers;
 mod changes;
 mod counting;
 mod failing;
 mod frame_lines;
 mod frames;
-mod full_frames;
 mod logged;
 mod logged_failing;
 mod logged_lines;
@@ -23,19 +23,31 @@ mod reading;
 mod scene;
 mod seen;
 mod settling;
+mod stops;
 mod stores;
 
 use scene::{Scene, answer};
-use std::test::Fail;
+use std::alloc::Global;
+use std::io::{self, Lock};
+use std::process::ExitCode;
+use table_words::Told;
 
-fn main(rt: HostRuntime) -> Result<(), Fail> {
-    let mut scene = Scene::new(rt.alloc())?;
-    let mut out = String::new(rt.alloc());
-    for line in rt.lines(rt.alloc()) {
-        let line = line?;
-        answer(rt.alloc(), &mut scene, line.as_str(), &mut out)?;
-        out.push('\n')?;
+/// Tells each line with its answer.
+fn tell(alloc: Global, told: &mut Told, scene: &mut Scene, text: &str) {
+    for line in text.lines() {
+        answer(alloc, scene, told, line);
+        told.push("\n");
     }
-    print!(rt; "{out}")?;
-    Ok(())
+}
+
+fn main(rt: HostRuntime) -> ExitCode {
+    let Ok(text) = io::read_to_string(rt.alloc(), rt.stdin().lock()) else {
+        return ExitCode::FAILURE;
+    };
+    let mut told = Told::new(rt.alloc());
+    match Scene::new(rt.alloc()) {
+        Some(mut scene) => tell(rt.alloc(), &mut told, &mut scene, text.as_str()),
+        None => told.check(false),
+    }
+    told.print(&rt)
 }

@@ -26,7 +26,7 @@ use log_recovery::{Change, Rack, RecoverFault, SlotFault, VolIx, ready_slot, rec
 use std::alloc::Global;
 
 /// Why a log is not opened.
-#[derive(Clone, Copy, Debug, PartialEq, Eq)]
+#[derive(Clone, Copy)]
 pub enum OpenFault {
     /// It was not recovered.
     Recovering(RecoverFault),

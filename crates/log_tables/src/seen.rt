@@ -2,7 +2,7 @@
 
 use crate::counting::CountRack;
 use log_recovery::limits::{BLOCKS_PER_PAGE, PAGE_BYTES};
-use log_recovery::{Home, OutOfMemory, PageImage, Rack, VolIx, image_of, read_blocks, recover};
+use log_recovery::{Home, PageImage, Rack, VolIx, image_of, read_blocks, recover};
 use std::alloc::Global;
 
 /// What recovery finds: how many groups, and the bytes that pages 10 to 12 of volume 2 are full of
@@ -70,7 +70,11 @@ pub fn look_at<R: Rack>(rack: &mut R, alloc: Global) -> Seen {
             let images = redone.images.as_slice();
             Seen {
                 groups: redone.next_group.saturating_sub(redone.anchor.group),
-                bytes: [10, 11, 12].map(|page| byte_redone(rack, images, page)),
+                bytes: [
+                    byte_redone(rack, images, 10),
+                    byte_redone(rack, images, 11),
+                    byte_redone(rack, images, 12),
+                ],
             }
         }
         Err(_) => NOTHING,
@@ -78,44 +82,45 @@ pub fn look_at<R: Rack>(rack: &mut R, alloc: Global) -> Seen {
 }
 
 /// What is seen after a stop right after a call.
-fn left(rack: &CountRack, alloc: Global, call: u64, pick: u64) -> Result<Seen, OutOfMemory> {
-    match rack.image(alloc, call, pick)? {
-        Some(mut image) => Ok(look_at(&mut image, alloc)),
-        None => Ok(NOTHING),
+fn left(rack: &CountRack, alloc: Global, call: u64, pick: u64) -> Seen {
+    match rack.image(alloc, call, pick) {
+        Some(mut image) => look_at(&mut image, alloc),
+        None => NOTHING,
     }
 }
 
-/// Whether stops right after a call, by so many picks, from 0 on, leave one of two.
+/// Whether stops right after a call, by picks from the first one and up to the second, leave one of
+/// two.
 fn leaves_after(
-    picks: u64,
+    picks: (u64, u64),
     rack: &CountRack,
     alloc: Global,
     call: u64,
     allowed: &(Seen, Seen),
-) -> Result<bool, OutOfMemory> {
-    for pick in 0..picks {
-        let found = left(rack, alloc, call, pick)?;
+) -> bool {
+    for pick in picks.0..picks.1 {
+        let found = left(rack, alloc, call, pick);
         if found != allowed.0 && found != allowed.1 {
-            return Ok(false);
+            return false;
         }
     }
-    Ok(true)
+    true
 }
 
 /// Whether stops right after the first of these calls, and after each write and sync from there on,
-/// leave one of two, by so many picks.
+/// leave one of two, by picks from the first one and up to the second.
 pub fn leaves(
-    picks: u64,
+    picks: (u64, u64),
     rack: &CountRack,
     alloc: Global,
     calls: (u64, u64),
     allowed: (Seen, Seen),
-) -> Result<bool, OutOfMemory> {
+) -> bool {
     for call in calls.0..calls.1 {
         let is_new = call == calls.0 || rack.is_change(call);
-        if is_new && !leaves_after(picks, rack, alloc, call, &allowed)? {
-            return Ok(false);
+        if is_new && !leaves_after(picks, rack, alloc, call, &allowed) {
+            return false;
         }
     }
-    Ok(true)
+    true
 }

@@ -1,45 +1,58 @@
 //! What is recovered of a log, and how it is settled.
 
+use crate::answers::{Answer, is_done, say_after, say_answer, volume_of};
 use crate::counting::CountRack;
 use crate::reading::say_numbers;
-use file_pages::MetaLog;
-use log_recovery::{Rack, RecoverFault, VolIx, ready_slot, recover, settle};
+use file_pages::{FrameFault, MetaLog};
+use log_recovery::{Rack, RecoverFault, VolIx, ready_slot, recover, settle, settle_log};
 use std::alloc::Global;
-use std::test::Fail;
+use table_words::Told;
 
 /// Says what recovery answers: the number and the place of the next group and how many images there
 /// are; the volume and page at which there is no domain; or the volume of which a read failed.
-pub fn say_found<R: Rack>(rack: &mut R, alloc: Global, out: &mut String) -> Result<(), Fail> {
+pub fn say_found<R: Rack>(rack: &mut R, alloc: Global, told: &mut Told) {
     match recover(alloc, rack) {
         Ok(redone) => {
-            let count = redone.images.as_slice().len() as u64;
-            out.push_str(": log")?;
-            say_numbers(
-                out,
-                &[redone.next_group, u64::from(redone.next_place), count],
-            )
+            let (next, place) = (redone.next_group, u64::from(redone.next_place));
+            told.push(": log");
+            say_numbers(told, &[next, place, redone.images.as_slice().len() as u64]);
         }
-        Err(fault) => say_fault(out, &fault),
+        Err(fault) => say_fault(&fault, told),
     }
 }
 
-fn say_fault(out: &mut String, fault: &RecoverFault) -> Result<(), Fail> {
+fn say_fault(fault: &RecoverFault, told: &mut Told) {
     match fault {
-        RecoverFault::NotADomain { vol, at } => write!(out, ": no domain: {vol} {at}")?,
-        RecoverFault::Fault { vol } => write!(out, ": unread: {}", vol.number())?,
-        RecoverFault::OutOfMemory => out.push_str(": no memory")?,
+        RecoverFault::NotADomain { vol, at } => {
+            told.push_pair(": no domain: ", u64::from(*vol), " ", u64::from(*at));
+        }
+        RecoverFault::Fault { vol } => say_after(told, ": unread: ", u64::from(vol.number())),
+        RecoverFault::OutOfMemory => told.push(": no memory"),
     }
-    Ok(())
 }
 
-/// Says the texts of faults of recovery, of volume 2 and of page 7 of volume 3 where they name one.
-pub fn say_faults(out: &mut String) -> Result<(), Fail> {
-    let vol = VolIx::new(2).ok_or("a volume")?;
-    let unread = RecoverFault::Fault { vol };
-    let none = RecoverFault::NotADomain { vol: 3, at: 7 };
-    let no_memory = RecoverFault::OutOfMemory;
-    write!(out, ": {unread}; {none}; {no_memory}")?;
-    Ok(())
+/// Says the texts of faults of recovery, of volume 2 and of page 7 of volume 3 if they name one.
+pub fn say_recovery_faults(told: &mut Told) {
+    let Some(vol) = VolIx::new(2) else {
+        return;
+    };
+    told.push(": ");
+    told.push_shown(&RecoverFault::Fault { vol });
+    told.push("; ");
+    told.push_shown(&RecoverFault::NotADomain { vol: 3, at: 7 });
+    told.push("; ");
+    told.push_shown(&RecoverFault::OutOfMemory);
+}
+
+/// Says the texts of faults of frames, of volume 2 if they name one.
+pub fn say_frame_faults(told: &mut Told) {
+    let Some(vol) = VolIx::new(2) else {
+        return;
+    };
+    told.push(": ");
+    told.push_shown(&FrameFault::Read { vol });
+    told.push("; ");
+    told.push_shown(&FrameFault::OutOfMemory);
 }
 
 /// Whether a log is recovered that has no number left.
@@ -64,46 +77,48 @@ pub fn make_ready(rack: &mut CountRack) -> bool {
     rack.volumes() >= 1 && rack.pages(vol) >= 2 && ready_slot(rack, vol, 1).is_ok()
 }
 
-/// What settling answers: that it passed, the volume of which a call failed, or that it may not be
-/// called.
-#[derive(Clone, Copy)]
-pub enum Settled {
-    Home,
-    Unwritten(u32),
-    Unfit,
-}
-
-impl Settled {
-    pub fn is_home(&self) -> bool {
-        match self {
-            Settled::Home => true,
-            _ => false,
-        }
-    }
-}
-
-fn settled_of(answer: Result<(), VolIx>) -> Settled {
-    match answer {
-        Ok(()) => Settled::Home,
-        Err(vol) => Settled::Unwritten(vol.number()),
-    }
-}
-
 /// Recovers a log and settles it.
-pub fn settle_log(rack: &mut CountRack, alloc: Global) -> Settled {
-    let Ok(redone) = recover(alloc, rack) else {
-        return Settled::Unfit;
-    };
-    if !redone.has_numbers_left() {
-        return Settled::Unfit;
+pub fn recover_and_settle(rack: &mut CountRack, alloc: Global) -> Answer {
+    match recover(alloc, rack) {
+        Ok(redone) => {
+            if !redone.has_numbers_left() {
+                return Answer::Unfit;
+            }
+            match settle(rack, &redone) {
+                Ok(()) => Answer::Done(0),
+                Err(vol) => Answer::Failed(vol.number()),
+            }
+        }
+        Err(_) => Answer::Unfit,
     }
-    settled_of(settle(rack, &redone))
+}
+
+/// Recovers a log and settles it by one call, which makes the slot of the next anchor ready too.
+pub fn settle_whole(rack: &mut CountRack, alloc: Global) -> Answer {
+    match recover(alloc, rack) {
+        Ok(redone) => match settle_log(rack, &redone) {
+            Ok(_) => Answer::Done(0),
+            Err(_) => Answer::Unfit,
+        },
+        Err(_) => Answer::Unfit,
+    }
+}
+
+/// Says that a log was settled, or the volume of which a call failed.
+pub fn say_settled(told: &mut Told, answer: Answer) {
+    if is_done(answer) {
+        told.push(": home");
+    } else if volume_of(answer) > 0 {
+        say_after(told, ": unwritten ", u64::from(volume_of(answer)));
+    } else {
+        say_answer(told, answer);
+    }
 }
 
 /// The log that is recovered, if one is.
-pub fn recovered(rack: &mut CountRack, alloc: Global) -> Result<Option<MetaLog>, Fail> {
+pub fn recovered(rack: &mut CountRack, alloc: Global) -> Option<MetaLog> {
     match recover(alloc, rack) {
-        Ok(redone) => Ok(Some(MetaLog::new(alloc, &redone.anchor)?)),
-        Err(_) => Ok(None),
+        Ok(redone) => MetaLog::new(alloc, &redone.anchor).ok(),
+        Err(_) => None,
     }
 }

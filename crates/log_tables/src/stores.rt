@@ -1,118 +1,81 @@
-//! Pages of a store that are appended to a log, and pages in place that a force makes last.
+//! Pages of a store with their homes, as a log takes them.
+ghost use Rattle.std.specs.Prelude.{◌≡◌, All, IsSome, IsTrue};
+ghost use Rattle.std.specs.List.{list_any};
+ghost use Rattle.log_recovery.specs.log_ring.Homes.{IsLoggable};
+ghost use Rattle.log_recovery.specs.log_ring.Images.{AreDistinct};
+ghost use Rattle.log_recovery.specs.page_store.Pages.{same_home};
 
-use crate::changes::install;
-use crate::counting::CountRack;
-use crate::logs::{Appended, change_of, has_number_left};
-use crate::seen::{byte_on, look_at};
-use file_pages::MetaLog;
-use log_recovery::limits::{BLOCKS_PER_PAGE, PAGE_BYTES};
-use log_recovery::{
-    Home, MemoryPages, MetaPages, OutOfMemory, Rack, VolIx, is_loggable, write_blocks,
-};
+use crate::changes::lay_over;
+use crate::reading::small;
+use log_recovery::{Anchor, Home, MemoryPages, MetaPages, VolIx, is_loggable};
 use std::alloc::Global;
 
-/// A page of a volume.
-pub fn home_at(vol: u32, page: u32) -> Option<Home> {
-    let vol = VolIx::new(vol)?;
-    Some(Home { vol, page })
-}
-
-/// A store with one page of volume 2, which is full of a byte.
-pub fn store_of(alloc: Global, page: u32, byte: u8) -> Result<MemoryPages, OutOfMemory> {
-    let change = change_of(alloc, 2, &[(page, byte)])?;
+/// A store with pages of volume 2 that are full of bytes: pages and bytes by turns, 32 at most.
+/// None if memory ran out.
+pub fn store_of(alloc: Global, pairs: &[u64]) -> Option<MemoryPages> {
     let mut store = MemoryPages::new(alloc);
-    store.reserve(alloc, 1)?;
-    let _ = install(change, &mut store);
-    Ok(store)
+    let is_laid = lay_over(alloc, &mut store, pairs.len() as u64, pairs);
+    if is_laid { Some(store) } else { None }
 }
 
-/// Appends the page that stands at a home in a store.
-fn append_at<M: MetaPages>(log: &mut MetaLog, store: &M, home: &Home) -> Appended {
-    if store.get(*home).is_none() || !is_loggable(log.anchor(), home) || !has_number_left(log) {
-        return Appended::Unfit;
-    }
-    if !log.takes(&[*home]) {
-        return Appended::Full;
-    }
-    Appended::Group(log.append_from(store, &[*home]))
-}
-
-/// Appends a page of volume 2 of a store, where it is full of a byte.
-pub fn append_from(
-    log: &mut MetaLog,
-    alloc: Global,
-    page: u32,
-    byte: u8,
-) -> Result<Appended, OutOfMemory> {
-    let store = store_of(alloc, page, byte)?;
-    Ok(match home_at(2, page) {
-        Some(home) => append_at(log, &store, &home),
-        None => Appended::Unfit,
-    })
-}
-
-/// Whether a log takes a change of one page of volume 2.
-pub fn takes(log: &MetaLog, page: u32) -> bool {
-    match home_at(2, page) {
-        Some(home) => log.takes(&[home]),
-        None => false,
+/// Sets homes to the pages of a volume, pages and bytes by turns, as many as there are.
+pub fn set_homes(homes: &mut [Home; 32], vol: VolIx, pairs: &[u64]) {
+    for place in 0..32 {
+        homes[place] = Home {
+            vol,
+            page: small(pairs, 2 * place),
+        };
     }
 }
 
-/// Whether a log has an image of a page of volume 2.
-pub fn has_image(log: &MetaLog, page: u32) -> bool {
-    match home_at(2, page) {
-        Some(home) => log.has_image(home),
-        None => false,
-    }
+/// Whether a home is among others.
+fn is_among(homes: &[Home], home: &Home) -> bool
+    ensures { result ≡ list_any (same_home home.now) homes.now }
+{
+    homes
+        .iter()
+        .any(|other| home.vol == other.vol && home.page == other.page)
 }
 
-/// Writes a page full of a byte in place, and syncs nothing: whether that passes.
-pub fn write_in_place(rack: &mut CountRack, vol: u32, page: u32, byte: u8) -> bool {
-    let Some(vol) = VolIx::new(vol) else {
-        return false;
-    };
-    vol.number() <= rack.volumes()
-        && page < rack.pages(vol)
-        && page < 1_000
-        && write_blocks(rack, vol, BLOCKS_PER_PAGE * page, &[byte; PAGE_BYTES]).is_ok()
-}
-
-/// Whether a stop right after a call, by a pick, leaves fewer groups than these, or a page full of
-/// a byte.
-fn leaves_it(
-    rack: &CountRack,
-    alloc: Global,
-    stop: (u64, u64),
-    groups: u64,
-    page: (u32, u32, u8),
-) -> Result<bool, OutOfMemory> {
-    let Some(vol) = VolIx::new(page.0) else {
-        return Ok(false);
-    };
-    Ok(match rack.image(alloc, stop.0, stop.1)? {
-        Some(mut image) => {
-            let found = look_at(&mut image, alloc).groups;
-            found < groups || byte_on(&mut image, vol, page.1) == page.2
-        }
-        None => false,
-    })
-}
-
-/// Whether each stop from a call on, by eight picks, that leaves so many groups leaves a page full
-/// of a byte.
-pub fn lasts(
-    rack: &CountRack,
-    alloc: Global,
-    start: u64,
-    groups: u64,
-    page: (u32, u32, u8),
-) -> Result<bool, OutOfMemory> {
-    let mut all = true;
-    for call in start..rack.calls().saturating_add(1) {
-        for pick in 0..8 {
-            all = leaves_it(rack, alloc, (call, pick), groups, page)? && all;
+/// Whether no two homes are the same.
+pub fn are_distinct(homes: &[Home]) -> bool
+    ensures { IsTrue result → AreDistinct homes.now }
+{
+    for i in 0..homes.len() {
+        if is_among(&homes[i + 1..], &homes[i]) {
+            return false;
         }
     }
-    Ok(all)
+    true
+}
+
+/// Whether all homes may be logged.
+pub fn may_be_logged(anchor: &Anchor, homes: &[Home]) -> bool
+    ensures { IsTrue result → All (IsLoggable anchor.now) homes.now }
+{
+    for home in homes {
+        if !is_loggable(anchor, home) {
+            return false;
+        }
+    }
+    true
+}
+
+/// Whether a store has a page at a home.
+fn has_page<M: MetaPages>(store: &M, home: &Home) -> bool
+    ensures { IsTrue result → IsSome (M.pages store.now home.now) }
+{
+    store.get(*home).is_some()
+}
+
+/// Whether a store has a page at each home.
+pub fn has_all<M: MetaPages>(store: &M, homes: &[Home]) -> bool
+    ensures { IsTrue result → All (λ home. IsSome (M.pages store.now home)) homes.now }
+{
+    for home in homes {
+        if !has_page(store, home) {
+            return false;
+        }
+    }
+    true
 }
