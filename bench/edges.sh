@@ -1,6 +1,6 @@
 #!/bin/sh
 # Tries the program when something outside of it goes wrong: an image or a script that does not
-# exist, an image that may not be written, a folder in place of an image, an image that is named
+# exist, an image that may not be written, a directory in place of an image, an image that is named
 # twice, standard output that takes nothing, and an image on a full device. Each has to end with its
 # number and, except on the full device, to leave the image as it was. It says what cannot be tried
 # on this machine. It needs a few MB in the folder that is named, or in the one for temporary files.
@@ -42,7 +42,7 @@ printf 'client 1\nshowfsets\n' >"$folder/looks"
 
 ends 12 "no image" "$advfs" run "$folder/script" "$folder/none"
 ends 12 "no script" "$advfs" run "$folder/none" "$image"
-ends 12 "a folder for an image" "$advfs" run "$folder/script" "$folder"
+ends 12 "a directory for an image" "$advfs" run "$folder/script" "$folder"
 ends 12 "the image named twice" "$advfs" run "$folder/script" "$image" "$image"
 ends 8 "standard output is full" to_full "$advfs" run "$folder/looks" "$image"
 

@@ -2,9 +2,10 @@
 # Puts the directories and files that are in a directory of this machine into one of a domain:
 #   bench/import.sh IMAGE FS:/PATH DIRECTORY
 # The directory FS:/PATH has to be there. Directories that are there already are used, and files
-# that are there already are replaced. Each new file and directory gets the numbers of its owner and
-# group here. Links and devices are left out, and told; so are names with a newline, and then it ends
-# with 1. It ends with 0 if all files are put. ADVFS is the program, if it is not ./advfs.
+# that are there already are replaced. Each new file and directory gets the numbers of its owner
+# and group here. Links and devices are left out, and told; so are names with a newline, and then it
+# ends with 1. A file in the place of a directory ends it at once. It ends with 0 if all files are
+# put. ADVFS is the program, if it is not ./advfs.
 top=$(cd "$(dirname "$0")/.." && pwd) || exit 1
 if [ $# != 3 ]; then
     echo "usage: bench/import.sh IMAGE FS:/PATH DIRECTORY" >&2
@@ -40,19 +41,21 @@ owner_of() {
     ls -nd "$1" | awk '{ print $3, $4; exit }'
 }
 
-# directories, each after the one that it is in, in scripts of 1,900 commands
+# directories, each after the one that it is in, in scripts of 1,900 commands: each is made, and
+# then looked at, since it may be there already, or a file may be in its place
 find . -type d ! -name . ! -path '*
 *' >"$work/folders"
 encode <"$work/folders" >"$work/names"
 while IFS= read -r folder; do
     owner_of "$folder"
 done <"$work/folders" | paste -d ' ' "$work/names" - | awk -v place="$place" -v work="$work" '
-    NR % 1900 == 1 { script = sprintf("%s/script.%06d", work, NR); print "client 1" >script }
-    { print "mkdir " place "/" $0 >script }'
+    NR % 950 == 1 { script = sprintf("%s/script.%06d", work, NR); print "client 1" >script }
+    { print "mkdir " place "/" $0 >script; print "stat " place "/" $1 >script }'
 for script in "$work"/script.*; do
     [ -e "$script" ] || continue
     "$advfs" run "$script" "$image" >"$work/replies" || exit
-    if grep -v -e ' -> ok$' -e ' -> E4 exists$' "$work/replies" >&2; then
+    if grep -v -e '^c1 mkdir .* -> ok$' -e '^c1 mkdir .* -> E4 exists$' \
+        -e '^c1 stat .* -> ok dir ' "$work/replies" >&2; then
         exit 1
     fi
 done

@@ -68,10 +68,15 @@ ends "run -r with a script that writes" 7 "open read-only because of -r" \
 if [ "$(id -u)" != 0 ]; then
     chmod a-w home.img
     ends "a look at an image that may not be written" 0 "" "$advfs" run look home.img
-    ends "a change of it" 12 "cannot be opened" "$advfs" run make home.img
+    ends "a change of it" 12 "cannot be opened: Permission denied" "$advfs" run make home.img
     chmod u+w home.img
+    cp home.img hidden.img && cp look hidden && chmod a-r hidden.img hidden
+    ends "an image that may not be read" 12 "hidden.img cannot be opened: Permission denied" \
+        "$advfs" verify hidden.img
+    ends "a script that may not be read" 12 "hidden cannot be opened: Permission denied" \
+        "$advfs" run hidden home.img
 else
-    echo "an image that may not be written: not tried, since root may write everything"
+    echo "files that may not be read or written: not tried, since root may do both"
 fi
 
 to_full() {
@@ -194,7 +199,8 @@ printf '\0\002\0\0\001\0\0\0' | at one.img 8760
 ends "two volumes" 0 "two.img: sound; version 4, 512 pages" "$advfs" verify one.img two.img
 ends "the counts of two volumes" 0 "one.img: sound; version 4, 0 filesets, 0 files, 512 pages" \
     "$advfs" verify one.img two.img
-ends "the first of two volumes" 6 "" "$advfs" run look one.img
+ends "the first of two volumes" 6 "no anchor counts" "$advfs" run look one.img
+ends "the first of two volumes is verified" 9 "code 2: no anchor counts" "$advfs" verify one.img
 ends "two volumes in the other order" 9 "its images stand in another order" \
     "$advfs" verify two.img one.img
 ends "a look at two volumes in the other order" 6 "its images stand in another order" \
@@ -275,10 +281,12 @@ bad "a count" "2 words after write, which takes 3: write P OFFSET BYTES" \
     "client 1" "write home:/a 0"
 bad "a space" "in a name a space is %20" "client 1" "create home:/a b 10 20"
 bad "a number" "word 2: \`-1\` is no OFFSET, a number below 2^64" "client 1" "read home:/a -1 3"
-bad "an unknown word" "\`frob\` is no command" "client 1" "frob home"
+bad "an unknown word" "\`frob\` is not a command" "client 1" "frob home"
 bad "a word that is to come" "\`balance\` is a command that is not built yet" \
     "client 1" "balance"
 bad "no section" "a script begins with \`client 1\`" "mkfset home" "client 1"
+bad "the ID of a fileset" "word 3: \`5\` is no ID, a number below 4294967296, and 0 after fileset" \
+    "client 1" "setquota home fileset 5 1 1"
 bad "a client" "word 1: \`9\` is no N, a number from 1 to 8" "client 9" "mkfset home"
 
 echo "$tries tries"

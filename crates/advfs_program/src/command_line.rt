@@ -4,12 +4,15 @@ ghost use Rattle.std.specs.Prelude.{◌≡◌, Ok, map, string_bytes};
 ghost use Rattle.advfs_run.specs.run_parts.Usage.{form_of};
 ghost use Rattle.advfs_run.specs.run_parts.declared.words.Form.TheVariants.{Make, Run, Try, Verify};
 ghost use Rattle.std.specs.Process.{exit_status};
-ghost use Rattle.advfs_run.specs.run_parts.Exit.{exit_number};
-ghost use Rattle.advfs_program.specs.Exits.{IsExit};
+ghost use Rattle.advfs_program.specs.Exits.{IsExit, number_of};
 
 use crate::errands::{Verb, do_errand};
-use crate::images::{Access, Images};
-use crate::opening::{Refused, only_looks, open_images, open_one, script_given, script_named};
+use crate::host::Host;
+use crate::images::Access;
+use crate::opening::{
+    Refused, only_looks, open_images, open_one, script_given, script_named, sizes_of,
+};
+use crate::progress::{Progress, Watched};
 use crate::telling::{
     first_image, only_reads, script_word, tell, tell_codes, tell_longer, tell_look_fault,
     tell_making, tell_refused, tell_sound, word_at,
@@ -77,21 +80,8 @@ fn tell_script(
     }
 }
 
-/// The pages of each image.
-fn sizes_of(alloc: Global, images: &Images) -> Result<Vec<u32>, OutOfMemory> {
-    let mut sizes = Vec::new(alloc);
-    for image in images.list() {
-        sizes.push(image.pages())?;
-    }
-    Ok(sizes)
-}
-
 /// Runs a script over a domain in images.
-fn start_script(
-    rt: &(impl Input + Print + Eprint + Files<File = File>),
-    alloc: Global,
-    words: &[String],
-) -> Result<Status, Refused>
+fn start_script(rt: &impl Host, alloc: Global, words: &[String]) -> Result<Status, Refused>
     requires { Ok Run ≡ form_of (map string_bytes words.now) }
 {
     let text = script_named(rt, alloc, words, script_word(words))?;
@@ -102,23 +92,21 @@ fn start_script(
     let rack = images.into_rack(alloc)?;
     let mut source = MemorySource::new(text, Vec::new(alloc));
     let mut sink = WriterSink::new(io::writer(rt));
-    let ended = run(alloc, words, &mut source, rack, &mut sink, &NoGate);
+    let progress = Progress::new(rt, sizes.as_slice());
+    let rack = Watched::new(rack, &progress);
+    let ended = run(alloc, words, &mut source, rack, &mut sink, &progress);
+    progress.end();
     let status = ended.status;
     let text = source.into_bytes();
     let _ = tell_script(rt, alloc, words, status, text.as_slice());
     if status == Status::Ok {
-        let _ = tell_longer(rt, words, ended.rack, sizes.as_slice());
+        let _ = tell_longer(rt, words, ended.rack.into_rack(), sizes.as_slice());
     }
     Ok(status)
 }
 
 /// Runs a script from standard input over a new domain in memory, on a volume of `pages` pages.
-fn start_new(
-    rt: &(impl Input + Print + Eprint),
-    alloc: Global,
-    words: &[String],
-    pages: u32,
-) -> Result<Status, Refused>
+fn start_new(rt: &impl Host, alloc: Global, words: &[String], pages: u32) -> Result<Status, Refused>
     requires { Ok (Try pages) ≡ form_of (map string_bytes words.now) }
 {
     let text = script_given(rt, alloc)?;
@@ -133,7 +121,7 @@ fn start_new(
 
 /// Makes an empty domain in an image, which is the last word.
 fn start_make(
-    rt: &(impl Input + Print + Eprint + Files<File = File>),
+    rt: &impl Host,
     alloc: Global,
     words: &[String],
     version: Version,
@@ -154,11 +142,7 @@ fn start_make(
 }
 
 /// Verifies images.
-fn start_verify(
-    rt: &(impl Input + Print + Eprint + Files<File = File>),
-    alloc: Global,
-    words: &[String],
-) -> Result<Status, Refused>
+fn start_verify(rt: &impl Host, alloc: Global, words: &[String]) -> Result<Status, Refused>
     requires { Ok Verify ≡ form_of (map string_bytes words.now) }
 {
     let images = open_images(
@@ -172,10 +156,13 @@ fn start_verify(
     let rack = images.into_rack(alloc)?;
     let mut source = ReaderSource::new(rt.reader());
     let mut sink = CodeSink::new(WriterSink::new(io::writer(rt)));
-    let ended = run(alloc, words, &mut source, rack, &mut sink, &NoGate);
-    let status = ended.status;
+    let progress = Progress::new(rt, sizes.as_slice());
+    let rack = Watched::new(rack, &progress);
+    let ended = run(alloc, words, &mut source, rack, &mut sink, &progress);
+    progress.end();
+    let (status, counts) = (ended.status, ended.counts);
     if status == Status::Ok {
-        let _ = tell_sound(rt, words, ended.rack, sizes.as_slice(), ended.counts);
+        let _ = tell_sound(rt, words, ended.rack.into_rack(), sizes.as_slice(), counts);
     }
     let _ = tell(rt, words, status);
     let _ = tell_codes(rt, sink.codes());
@@ -183,11 +170,10 @@ fn start_verify(
 }
 
 /// Does what the words ask for, over standard input and output.
-fn start(
-    rt: &(impl Env + Input + Print + Eprint + Files<File = File>),
-    alloc: Global,
-    words: &[String],
-) -> Result<Status, Refused> {
+fn start(rt: &impl Host, alloc: Global, words: &[String]) -> Result<Status, Refused> {
+    if let Some(text) = text_asked(words) {
+        return Ok(print_text(rt, words, text));
+    }
     if let Some(verb) = Verb::of(word_at(words, 0)) {
         do_errand(rt, alloc, words, verb)?;
         return Ok(Status::Ok);
@@ -207,19 +193,14 @@ fn start(
 }
 
 /// Prints what a lone word asks about the program itself.
-fn print_text(rt: &impl Print, text: &str) -> Status {
+fn print_text(rt: &impl Host, words: &[String], text: &str) -> Status {
     let mut sink = WriterSink::new(io::writer(rt));
-    match write_all(&mut sink, text.as_bytes()) {
+    let status = match write_all(&mut sink, text.as_bytes()) {
         Ok(()) => Status::Ok,
         Err(_) => Status::SinkFault,
-    }
-}
-
-/// The exit code with which the program ends for a status.
-pub fn exit_code(status: Status) -> ExitCode
-    ensures { exit_status result ≡ exit_number status }
-{
-    ExitCode::from(status.exit_number())
+    };
+    let _ = tell(rt, words, status);
+    status
 }
 
 /// The exit number if a file is not taken.
@@ -228,14 +209,16 @@ const NOT_TAKEN: u8 = 12;
 /// The exit number if a command was refused of a script that the program made.
 const NOT_ANSWERED: u8 = 14;
 
-/// The exit code for what was not done.
-fn refused_code(refused: &Refused) -> ExitCode
-    ensures { IsExit (exit_status result) }
+/// The number with which the program ends, by what it did or why it did not begin.
+fn number_of(done: &Result<Status, Refused>) -> u8
+    ensures { result ≡ number_of done.now }
 {
-    match refused {
-        Refused::Ended(status) => exit_code(*status),
-        Refused::Answer(_) => ExitCode::from(NOT_ANSWERED),
-        Refused::Script { .. } | Refused::Image { .. } => ExitCode::from(NOT_TAKEN),
+    match done {
+        Ok(status) => status.exit_number(),
+        Err(Refused::Ended(status)) => status.exit_number(),
+        Err(Refused::Answer(_)) => NOT_ANSWERED,
+        Err(Refused::Script { .. }) => NOT_TAKEN,
+        Err(Refused::Image { .. }) => NOT_TAKEN,
     }
 }
 
@@ -245,30 +228,28 @@ fn held_number(rt: &impl Files<File = File>) -> Option<File> {
     OpenOptions::new().read(true).open(rt, "/").ok()
 }
 
-/// The whole program. It ends with the number of a status; with 12 if a script or an image that the
-/// words name is not taken; or with 14 if a command was refused of a script that it made itself.
-pub fn program(
-    rt: &(impl Env + Input + Print + Eprint + Files<File = File>),
-    alloc: Global,
-) -> ExitCode
+/// Does what the words of the command line ask for. It returns the number with which the program
+/// ends: that of a status; 12 if a script or an image that the words name is not taken; or 14 if a
+/// command was refused of a script that it made itself.
+pub fn perform(rt: &impl Host, alloc: Global) -> u8
+    ensures { IsExit result }
+{
+    let Ok(words) = words_given(rt, alloc) else {
+        return Status::OutOfMemory.exit_number();
+    };
+    let done = start(rt, alloc, &words);
+    if let Err(refused) = &done {
+        let _ = tell_refused(rt, &words, refused);
+    }
+    number_of(&done)
+}
+
+/// The whole program: `perform`, with standard streams that are closed kept from its files.
+pub fn program(rt: &impl Host, alloc: Global) -> ExitCode
     ensures { IsExit (exit_status result) }
 {
     let _input = held_number(rt);
     let _output = held_number(rt);
     let _error = held_number(rt);
-    let Ok(words) = words_given(rt, alloc) else {
-        return exit_code(Status::OutOfMemory);
-    };
-    if let Some(text) = text_asked(&words) {
-        let status = print_text(rt, text);
-        let _ = tell(rt, &words, status);
-        return exit_code(status);
-    }
-    match start(rt, alloc, &words) {
-        Ok(status) => exit_code(status),
-        Err(refused) => {
-            let _ = tell_refused(rt, &words, &refused);
-            refused_code(&refused)
-        }
-    }
+    ExitCode::from(perform(rt, alloc))
 }

@@ -1,12 +1,14 @@
 //! Errands: commands of the program that make their scripts themselves. They put files into a
 //! domain and take them out, and show what it has.
 
-use crate::images::Access;
-use crate::opening::{Refused, open_images};
+use crate::host::Host;
+use crate::images::{Access, Images};
+use crate::opening::{Refused, open_images, sizes_of};
+use crate::progress::{Progress, Watched};
 use crate::telling::{first_image, word_at};
 use crate::{looks, transfers};
 use advfs_run::limits::MAX_VOLUMES;
-use advfs_run::{FileRack, Status, halves, is_place, small_number};
+use advfs_run::{Status, halves, is_place, small_number};
 use std::alloc::Global;
 use std::fs::File;
 use std::rt::Files;
@@ -118,26 +120,72 @@ fn check_words(alloc: Global, words: &[String], verb: Verb) -> Result<(), Status
     }
 }
 
-/// The rack of the images that the words name.
-fn rack_asked(
+/// The images that the words name.
+fn images_asked(
     rt: &impl Files<File = File>,
     alloc: Global,
     words: &[String],
     verb: Verb,
-) -> Result<FileRack, Refused> {
+) -> Result<Images, Refused> {
     let access = if verb == Verb::Put {
         Access::Writes
     } else {
         Access::Reads
     };
     let end = end_of_images(words, verb);
-    let images = open_images(rt, alloc, words, first_image(words)..end, access)?;
-    Ok(images.into_rack(alloc)?)
+    open_images(rt, alloc, words, first_image(words)..end, access)
+}
+
+/// Puts a file of standard input into the domain, or prints one.
+fn transfer(
+    rt: &impl Host,
+    alloc: Global,
+    words: &[String],
+    verb: Verb,
+    owner: FileOwner,
+) -> Result<(), Refused> {
+    let bytes = if verb == Verb::Put {
+        transfers::bytes_given(rt, alloc)?
+    } else {
+        Vec::new(alloc)
+    };
+    let images = images_asked(rt, alloc, words, verb)?;
+    let sizes = sizes_of(alloc, &images)?;
+    let place = word_at(words, end_of_images(words, verb));
+    let progress = Progress::new(rt, sizes.as_slice());
+    let rack = Watched::new(images.into_rack(alloc)?, &progress);
+    let done = if verb == Verb::Put {
+        transfers::put(alloc, place, owner, bytes.as_slice(), rack, &progress)
+    } else {
+        transfers::get(rt, alloc, place, rack, &progress)
+    };
+    progress.end();
+    done
+}
+
+/// Shows what the domain has.
+fn look(
+    rt: &(impl Print + Files<File = File>),
+    alloc: Global,
+    words: &[String],
+    verb: Verb,
+) -> Result<(), Refused> {
+    let rack = images_asked(rt, alloc, words, verb)?.into_rack(alloc)?;
+    let place = word_at(words, end_of_images(words, verb));
+    let lines = word_at(words, 1) == LINES_WORD;
+    match verb {
+        Verb::List if lines => looks::print_lines(rt, alloc, "list", place, rack),
+        Verb::List => looks::list(rt, alloc, place, rack),
+        Verb::Showfdmn if lines => looks::print_lines(rt, alloc, "showfdmn", "", rack),
+        Verb::Showfdmn => looks::show_volumes(rt, alloc, words, rack),
+        Verb::Showfsets if lines => looks::print_lines(rt, alloc, "showfsets", "", rack),
+        _ => looks::show_filesets(rt, alloc, rack),
+    }
 }
 
 /// Does the errand that the words ask for.
 pub(crate) fn do_errand(
-    rt: &(impl Input + Print + Files<File = File>),
+    rt: &impl Host,
     alloc: Global,
     words: &[String],
     verb: Verb,
@@ -149,22 +197,8 @@ pub(crate) fn do_errand(
     if let Err(status) = check_words(alloc, words, verb) {
         return Err(Refused::Ended(status));
     }
-    let bytes = if verb == Verb::Put {
-        transfers::bytes_given(rt, alloc)?
-    } else {
-        Vec::new(alloc)
-    };
-    let rack = rack_asked(rt, alloc, words, verb)?;
-    let place = word_at(words, end_of_images(words, verb));
-    let lines = word_at(words, 1) == LINES_WORD;
     match verb {
-        Verb::Put => transfers::put(alloc, place, owner, bytes.as_slice(), rack),
-        Verb::Get => transfers::get(rt, alloc, place, rack),
-        Verb::List if lines => looks::print_lines(rt, alloc, "list", place, rack),
-        Verb::List => looks::list(rt, alloc, place, rack),
-        Verb::Showfdmn if lines => looks::print_lines(rt, alloc, "showfdmn", "", rack),
-        Verb::Showfdmn => looks::show_volumes(rt, alloc, words, rack),
-        Verb::Showfsets if lines => looks::print_lines(rt, alloc, "showfsets", "", rack),
-        Verb::Showfsets => looks::show_filesets(rt, alloc, rack),
+        Verb::Put | Verb::Get => transfer(rt, alloc, words, verb, owner),
+        _ => look(rt, alloc, words, verb),
     }
 }

@@ -245,7 +245,7 @@ pub struct Images {
 
 impl Images {
     ghost use Rattle.advfs_run.specs.memory_disk.Files.{file_disk};
-    ghost use Rattle.advfs_program.specs.Images.{image_count};
+    ghost use Rattle.advfs_program.specs.Images.{image_count, image_sizes};
 
     /// No image yet.
     pub fn new(alloc: Global) -> Images
@@ -290,9 +290,11 @@ impl Images {
         }
     }
 
-    /// The rack that has each of them as a volume. An error is returned only if memory runs out.
+    /// The rack that has each of them as a volume, with its pages. An error is returned only if
+    /// memory runs out.
     pub fn into_rack(self, alloc: Global) -> Result<FileRack, OutOfMemory>
-        ensures { IfOk result (λ rack. length (file_disk rack).sizes ≡ image_count self) }
+        ensures sizes { IfOk result (λ rack. (file_disk rack).sizes ≡ image_sizes self) }
+        ensures count { IfOk result (λ rack. length (file_disk rack).sizes ≡ image_count self) }
     {
         let Images { list } = self;
         let mut files = Vec::new(alloc);

@@ -101,6 +101,15 @@ pub(crate) fn only_looks(text: &[u8]) -> bool {
     }
 }
 
+/// The pages of each image.
+pub(crate) fn sizes_of(alloc: Global, images: &Images) -> Result<Vec<u32>, OutOfMemory> {
+    let mut sizes = Vec::new(alloc);
+    for image in images.list() {
+        sizes.push(image.pages())?;
+    }
+    Ok(sizes)
+}
+
 /// Opens the images that are named by the words at these places.
 pub(crate) fn open_images(
     rt: &impl Files<File = File>,

@@ -2,10 +2,12 @@
 //! `truncate`, `write` and `read`.
 
 use crate::errands::FileOwner;
+use crate::host::Host;
 use crate::opening::Refused;
+use crate::progress::Progress;
 use advfs_run::limits::{FILE_BYTES, FILE_PAGES, PAGE_BYTES};
 use advfs_run::{
-    Command, Ended, Entry, FileRack, OutOfMemory, ReaderSource, Refusal, Reply, Status, WriterSink,
+    Command, Ended, Entry, OutOfMemory, Rack, ReaderSource, Refusal, Reply, Status, WriterSink,
     history_line, push_number, read_all, run_text, write_all,
 };
 use std::alloc::Global;
@@ -18,11 +20,11 @@ const COMMANDS: usize = 1_990;
 const SCRIPT_BYTES: usize = 16_777_216;
 
 /// Runs a script over the domain in images. Its history is not printed.
-pub(crate) fn answers_to(
+pub(crate) fn answers_to<R: Rack + Drop>(
     alloc: Global,
     script: Vec<u8>,
-    rack: FileRack,
-) -> Result<(FileRack, Vec<Entry>), Refused> {
+    rack: R,
+) -> Result<(R, Vec<Entry>), Refused> {
     let mut sink = WriterSink::new(io::sink());
     let Ended {
         status,
@@ -156,8 +158,14 @@ fn is_refused(entry: &Entry) -> bool {
 }
 
 /// Runs a script that puts a part of a file.
-fn put_part(alloc: Global, script: Vec<u8>, rack: FileRack) -> Result<FileRack, Refused> {
+fn put_part<R: Rack + Drop, H: Host>(
+    alloc: Global,
+    script: Vec<u8>,
+    rack: R,
+    progress: &Progress<'_, H>,
+) -> Result<R, Refused> {
     let (rack, history) = answers_to(alloc, script, rack)?;
+    progress.count_answers(history.len());
     for entry in history.as_slice() {
         if is_refused(entry) {
             return Err(answer_refused(alloc, entry));
@@ -167,12 +175,13 @@ fn put_part(alloc: Global, script: Vec<u8>, rack: FileRack) -> Result<FileRack, 
 }
 
 /// Puts bytes into the file at a place, which is made if it is not there; what it held is lost.
-pub(crate) fn put(
+pub(crate) fn put<R: Rack + Drop, H: Host>(
     alloc: Global,
     place: &str,
     owner: FileOwner,
     bytes: &[u8],
-    rack: FileRack,
+    rack: R,
+    progress: &Progress<'_, H>,
 ) -> Result<(), Refused> {
     let mut rack = rack;
     let mut script = new_script(alloc)?;
@@ -181,7 +190,7 @@ pub(crate) fn put(
     let mut offset: u64 = 0;
     for page in bytes.chunks(PAGE_BYTES) {
         if count >= COMMANDS || script.len() >= SCRIPT_BYTES {
-            rack = put_part(alloc, script, rack)?;
+            rack = put_part(alloc, script, rack, progress)?;
             script = new_script(alloc)?;
             count = 0;
         }
@@ -189,7 +198,7 @@ pub(crate) fn put(
         count = count.saturating_add(1);
         offset = offset.saturating_add(PAGE_BYTES as u64);
     }
-    let _ = put_part(alloc, script, rack)?;
+    let _ = put_part(alloc, script, rack, progress)?;
     Ok(())
 }
 
@@ -253,11 +262,12 @@ fn print_pages(rt: &impl Print, alloc: Global, history: &[Entry]) -> Result<u64,
 }
 
 /// Prints the bytes of the file at a place.
-pub(crate) fn get(
+pub(crate) fn get<R: Rack + Drop, H: Host>(
     rt: &impl Print,
     alloc: Global,
     place: &str,
-    rack: FileRack,
+    rack: R,
+    progress: &Progress<'_, H>,
 ) -> Result<(), Refused> {
     let (mut rack, asked) = answers_to(alloc, look(alloc, "stat", place)?, rack)?;
     let end = pages_to_read(asked.as_slice().first()).saturating_mul(PAGE_BYTES as u64);
@@ -270,6 +280,7 @@ pub(crate) fn get(
         let script = reading_script(alloc, place, offset, pages)?;
         let (back, history) = answers_to(alloc, script, rack)?;
         rack = back;
+        progress.count_answers(history.len());
         offset = offset.saturating_add(print_pages(rt, alloc, history.as_slice())?);
     }
     Ok(())

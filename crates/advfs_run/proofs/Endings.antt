@@ -1,5 +1,5 @@
 -- How a run ends, by its parts.
-use Rattle.std.proofs.Common.{inl, inr, ◌≡◌, ◌∙◌, ◌⊎◌, ℕ, Bool, List, [], ◌++◌, Option, Some, None, Result, Ok, Err, refl, sym, ap, subst, ⊎_elim, map}
+use Rattle.std.proofs.Common.{inl, inr, ◌≡◌, ◌∙◌, ◌⊎◌, ℕ, Bool, List, [], ◌∷◌, ◌++◌, Option, Some, None, Result, Ok, Err, refl, sym, ap, subst, ⊎_elim, map}
 use Rattle.std.proofs.lemmas.List.{append-nil}
 use Rattle.std.proofs.lemmas.List.Elements.{All-nil}
 use Rattle.std.specs.Io.KnownBytes.{Appends}
@@ -12,7 +12,10 @@ use Rattle.run_parts.specs.script_text.Turns.{turn_of, turns_of}
 use Rattle.run_parts.specs.script_text.declared.script.Section.{Section}
 use Rattle.advfs_run.specs.Runs.{AreStampedWithin, BeginsNot, ClosesAs, WriteFailed}
 use Rattle.run_parts.specs.Reading.{Follows, GetsNoScript, HasRead}
-use Rattle.run_parts.specs.Transfer.{AppendsFront}
+use Rattle.run_parts.specs.Transfer.{AppendsFront, AppendsPart}
+use Rattle.run_parts.specs.Exit.{status_of_print}
+use Rattle.run_parts.specs.declared.print.PrintError.{PrintError}
+use Rattle.run_parts.specs.declared.print.PrintError.TheVariants as print
 use Rattle.run_parts.proofs.Reading.{Follows-from_answers, IsNoLonger-from_short}
 use Rattle.run_parts.specs.declared.words.Form.{Form}
 use Rattle.run_parts.specs.declared.words.Form.TheVariants as a_form
@@ -21,7 +24,7 @@ use Rattle.run_parts.specs.declared.status.Status.TheVariants as status
 use Rattle.run_parts.specs.declared.status.Unattached.{Unattached}
 use Rattle.run_parts.specs.declared.status.Unattached.TheVariants as unfit
 use Rattle.run_parts.specs.declared.verifying.DomainCounts.{DomainCounts}
-use Rattle.advfs_run.specs.Run.{CountsFor, EndsFor, HasBegun, HasSections, IsLargeFor, IsPrinted, IsRun, LeadsFor, LeavesContents, NotBegun, PrintsAs, RunsFor, StopsFor}
+use Rattle.advfs_run.specs.Run.{CountsFor, EndsFor, HasBegun, HasSections, IsCutShort, IsLargeFor, IsPrinted, IsRun, LeadsFor, LeavesContents, NotBegun, PrintsAs, RunsFor, StopsFor}
 
 -- ---- no command was answered
 
@@ -301,10 +304,10 @@ closed_ends (a_form.Make version overwrites) old new end run large closed = tt
 closed_ends a_form.Verify old new end run large closed = tt
 
 -- the status once its history was printed, or was not
-module _ (end s : Status) (prints : PrintsAs end s) where
+module _ (answered : List Entry) (end s : Status) (prints : PrintsAs answered end s) where
   pub by_end : (P : Status → Type 0) → P end → P status.SinkFault → P status.OutOfMemory → P s
   by_end P of_end of_sink of_memory =
-      ⊎_elim (λ same. subst P (sym same) of_end) (λ other. ⊎_elim (λ sink. subst P (sym sink) of_sink) (λ memory. subst P (sym memory) of_memory) other) prints
+      ⊎_elim (λ same. subst P (sym same) of_end) (λ other. ⊎_elim (λ sink. subst P (sym sink) of_sink) (λ memory. subst P (sym memory.0) of_memory) other) prints
 
   pub ended_read : (left : Option (List ℕ)) (read : List ℕ) (history : List Entry) (old new : Disk) → Follows left read history → ClosesAs old new end → HasRead left read s history
   ended_read left read history old new is closed =
@@ -328,7 +331,7 @@ module _ (end s : Status) (prints : PrintsAs end s) where
 
   pub ended_lost : (old new : Disk) → ClosesAs old new end → (vol : ℕ) → s ≡ status.VolumeFault vol → WriteFailed old new vol
   ended_lost old new closed vol is =
-      ⊎_elim (λ same. subst (ClosesAs old new) (sym same ∙ is) closed) (λ other. ⊎_elim (λ sink. absurd (no_sink (sym sink ∙ is))) (λ memory. absurd (no_memory (sym memory ∙ is))) other) prints
+      ⊎_elim (λ same. subst (ClosesAs old new) (sym same ∙ is) closed) (λ other. ⊎_elim (λ sink. absurd (no_sink (sym sink ∙ is))) (λ memory. absurd (no_memory (sym memory.0 ∙ is))) other) prints
     where
       no_sink : ¬ status.SinkFault ≡ status.VolumeFault vol
       no_sink same = cc
@@ -336,11 +339,34 @@ module _ (end s : Status) (prints : PrintsAs end s) where
       no_memory : ¬ status.OutOfMemory ≡ status.VolumeFault vol
       no_memory same = cc
 
-  pub ended_run : (form : Form) (old new : Disk) (history : List Entry) → ClosesAs old new end → LeadsFor form old new history (end ≡ status.Ok) → RunsFor (Ok form) old new s history
-  ended_run (a_form.Try pages) old new history closes leads = inr (record { end = end; prints = prints; closes = closes; leads = leads })
-  ended_run a_form.Run old new history closes leads = inr (record { end = end; prints = prints; closes = closes; leads = leads })
-  ended_run (a_form.Make version overwrites) old new history closes leads = absurd leads
-  ended_run a_form.Verify old new history closes leads = absurd leads
+  pub ended_run : (form : Form) (old new : Disk) → ClosesAs old new end → LeadsFor form old new answered (end ≡ status.Ok) → RunsFor (Ok form) old new s answered
+  ended_run (a_form.Try pages) old new closes leads = inr (record { end = end; prints = prints; closes = closes; leads = leads })
+  ended_run a_form.Run old new closes leads = inr (record { end = end; prints = prints; closes = closes; leads = leads })
+  ended_run (a_form.Make version overwrites) old new closes leads = absurd leads
+  ended_run a_form.Verify old new closes leads = absurd leads
+
+-- ---- a history that was not printed
+
+module _ (before after : Option (List ℕ)) where
+  pub some_answered : (history : List Entry) → AppendsPart before after (history_text history) → ¬ history ≡ []
+  some_answered [] part is = part.some (nothing part.front part.rest part.whole)
+    where
+      nothing : (front rest : List ℕ) → [] ≡ front ++ rest → rest ≡ []
+      nothing [] rest whole = sym whole
+      nothing (x ∷ front) rest whole = absurd (cc)
+  some_answered (entry ∷ history) part is = cc
+
+  module _ (history : List Entry) (s : Status) where
+    pub unprinted : (end : Status) (error : PrintError) → s ≡ status_of_print error → (error ≡ print.OutOfMemory → AppendsPart before after (history_text history)) → PrintsAs history end s
+    unprinted end print.SinkFault is part = inr (inl is)
+    unprinted end print.OutOfMemory is part = inr (inr (is, some_answered history (part refl)))
+
+    pub unprinted_short : (error : PrintError) → s ≡ status_of_print error → (error ≡ print.OutOfMemory → AppendsPart before after (history_text history)) → IsCutShort s history before after
+    unprinted_short print.SinkFault is part = λ memory some. absurd (no_sink (sym is ∙ memory))
+      where
+        no_sink : ¬ status.SinkFault ≡ status.OutOfMemory
+        no_sink same = cc
+    unprinted_short print.OutOfMemory is part = λ memory some. part refl
 
 -- ---- stops, by the form of the words
 

@@ -14,8 +14,8 @@ use Rattle.advfs_run.specs.Runs.{BeginsNot, ClosesAs, HasFailed, LeadsFromNew, M
 use Rattle.run_parts.specs.Answering.{SameByNumber}
 use Rattle.run_parts.specs.Made.{Guards, MakeEnds, TellsOfSmall}
 use Rattle.run_parts.specs.Reading.{HasRead, IsScript}
-use Rattle.run_parts.specs.Transfer.{AppendsFront}
-use Rattle.run_parts.specs.Verified.{CountsFilesets, VerifyEnds}
+use Rattle.run_parts.specs.Transfer.{AppendsFront, AppendsPart}
+use Rattle.run_parts.specs.Verified.{MeansCounts, VerifyEnds}
 use Rattle.run_parts.specs.declared.verifying.DomainCounts.{DomainCounts}
 use Rattle.run_parts.specs.declared.words.Form.{Form}
 use Rattle.run_parts.specs.declared.words.Form.TheVariants.{Make, Run, Try, Verify}
@@ -68,16 +68,17 @@ HasNotRun Run old new status history = (history ≡ []) × (¬ HasBegun status)
 HasNotRun other old new status history = (history ≡ []) × ¬ HasBegun status
 
 -- the status with which a run ends after its domain was closed with another one: the same, unless
--- printing failed
-abbrev pub PrintsAs : Status → Status → Type 0
-PrintsAs end result = (result ≡ end) ⊎ (result ≡ ended.SinkFault) ⊎ (result ≡ ended.OutOfMemory)
+-- the history could not be printed
+abbrev pub PrintsAs : List Entry → Status → Status → Type 0
+PrintsAs history end result = (result ≡ end) ⊎ (result ≡ ended.SinkFault)
+    ⊎ ((result ≡ ended.OutOfMemory) × (history ≢ []))
 
 -- a run has begun, and its domain was closed with this end, whether its history was printed or not;
 -- the history leads from what the rack had, and if the end is Ok, all of it is on the rack
 pub record HasRun (form : Form) (old new : Disk) (status : Status) (history : List Entry) : Type 0
   where
     pub end : Status
-    pub prints : PrintsAs end status
+    pub prints : PrintsAs history end status
     pub closes : ClosesAs old new end
     pub leads : LeadsFor form old new history (end ≡ ended.Ok)
 
@@ -136,10 +137,11 @@ VerifyEndsFor (Ok Verify) old new status before after =
     OnlyReads old new × VerifyEnds old new status before after
 VerifyEndsFor other old new status before after = Unit {0}
 
--- what was counted of an image that was verified: its filesets, if the rack tells what it holds
+-- what was counted of an image that was verified: its filesets and their files, if the rack tells
+-- what it holds
 abbrev pub CountsFor : Result Form ℕ → Disk → Option DomainCounts → Type 0
 CountsFor (Ok Verify) disk found = IfSome found (λ counts. Tells disk
-    → CountsFilesets disk.sizes disk.now.contents counts.filesets)
+    → MeansCounts disk.sizes disk.now.contents counts)
 CountsFor other disk found = found ≡ None
 
 -- making touches the first volume alone, and ends by its status as `MakeEnds` says, which tells of
@@ -178,6 +180,12 @@ IsTold other status = status ≡ ended.Ok
 abbrev pub PrintsFor : Result Form ℕ → Option (List ℕ) → Option (List ℕ) → List Entry → Type 0
 PrintsFor (Ok Verify) before after history = Unit {0}
 PrintsFor other before after history = AppendsFront before after (history_text history)
+
+-- if commands were answered and memory ran out, some of the text was not printed
+abbrev pub IsCutShort : Status → List Entry → Option (List ℕ) → Option (List ℕ) → Type 0
+IsCutShort status history before after =
+    status ≡ ended.OutOfMemory → history ≢ []
+    → AppendsPart before after (history_text history)
 
 -- no script was had
 abbrev pub LacksScript : Status → Type 0

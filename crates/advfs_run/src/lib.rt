@@ -25,8 +25,8 @@ pub use domain_attaching::{
 };
 pub use memory_disk::{FileRack, MemoryRack};
 pub use run_parts::{
-    BadLine, CodeSink, DomainCounts, FaultCodes, FaultKind, Form, HELP, LOOK_WORD, MemorySink,
-    MemorySource, OVER_WORD, PrintError, ReadError, ReaderSource, ScriptFault, Section, Source,
-    Status, Unattached, VERSION, WriterSink, form_asked, halves, history_line, is_place,
+    BadLine, CodeSink, DomainCounts, Failed, FaultCodes, FaultKind, Form, HELP, LOOK_WORD,
+    MemorySink, MemorySource, OVER_WORD, PrintError, ReadError, ReaderSource, ScriptFault, Section,
+    Source, Status, Unattached, VERSION, WriterSink, form_asked, halves, history_line, is_place,
     push_number, read_all, read_script, small_number, write_all, zeros,
 };

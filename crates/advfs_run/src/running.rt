@@ -19,6 +19,7 @@ ghost use Rattle.advfs_run.specs.Run.{
   EndsFor,
   HasReadFor,
   HasSections,
+  IsCutShort,
   IsLargeFor,
   IsLostBehind,
   IsPrinted,
@@ -122,7 +123,8 @@ fn answer<R: Rack, G: Gate>(
 /// Prints the history of a run that has begun, and tells how it ended.
 fn print_ran<R: Rack, K: Sink>(alloc: Global, ran: Ran<R>, sink: &mut K) -> Ended<R>
     requires closed { ran.end ≢ Status.SinkFault }
-    ensures status { PrintsAs ran.end result.status }
+    requires kept { ran.end ≢ Status.OutOfMemory }
+    ensures status { PrintsAs ran.history.items ran.end result.status }
     ensures rack { result.rack ≡ ran.rack }
     ensures history { result.history.items ≡ ran.history.items }
     ensures counts { result.counts ≡ None }
@@ -130,6 +132,8 @@ fn print_ran<R: Rack, K: Sink>(alloc: Global, ran: Ran<R>, sink: &mut K) -> Ende
         → Appends (K.held sink.old) (K.held sink.new) (history_text ran.history.items) }
     ensures printed_front { AppendsFront (K.held sink.old) (K.held sink.new)
         (history_text ran.history.items) }
+    ensures cut_short { IsCutShort result.status ran.history.items (K.held sink.old)
+        (K.held sink.new) }
     ensures sink_fault { result.status ≡ Status.SinkFault
         → HasRisen (K.faults sink.old) (K.faults sink.new) }
     ensures sink_count { K.faults sink.old ≤ K.faults sink.new }
@@ -175,6 +179,8 @@ fn run_script<S: Source, R: Rack, K: Sink, G: Gate>(
         → Appends (K.held sink.old) (K.held sink.new) (history_text result.history.items) }
     ensures printed_front { AppendsFront (K.held sink.old) (K.held sink.new)
         (history_text result.history.items) }
+    ensures cut_short { IsCutShort result.status result.history.items (K.held sink.old)
+        (K.held sink.new) }
     ensures no_usage { (word : ℕ) → result.status ≢ Status.Usage word }
     ensures source_fault { result.status ≡ Status.SourceFault
         → HasRisen (S.faults script.old) (S.faults script.new) }
@@ -210,6 +216,8 @@ pub fn run_text<R: Rack, K: Sink>(alloc: Global, script: Vec<u8>, rack: R, sink:
         → Appends (K.held sink.old) (K.held sink.new) (history_text result.history.items) }
     ensures printed_front { AppendsFront (K.held sink.old) (K.held sink.new)
         (history_text result.history.items) }
+    ensures cut_short { IsCutShort result.status result.history.items (K.held sink.old)
+        (K.held sink.new) }
 {
     let mut source = MemorySource::new(script, Vec::new(alloc));
     run_script(alloc, Form::Run, &mut source, rack, sink, &NoGate)
@@ -251,6 +259,8 @@ pub fn run<S: Source, R: Rack + Send, K: Sink, G: Gate + Sync>(
         → Appends (K.held sink.old) (K.held sink.new) (history_text result.history.items) }
     ensures printed_front { PrintsFor (form_of (map string_bytes words.now))
         (K.held sink.old) (K.held sink.new) result.history.items }
+    ensures cut_short { IsCutShort result.status result.history.items (K.held sink.old)
+        (K.held sink.new) }
 
     // The faults that are printed for an image, what is counted of it, and the domain that is made.
     ensures counted { CountsFor (form_of (map string_bytes words.now)) (R.disk rack)

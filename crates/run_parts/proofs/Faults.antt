@@ -11,7 +11,7 @@ use Rattle.domain_faults.specs.Meaning.{IsMeaningOf}
 use Rattle.domain_faults.specs.declared.meaning.Meaning.{Meaning}
 use Rattle.domain_faults.specs.declared.meaning.Meaning.TheVariants.{Faulty, Filesets, NoDomain}
 use Rattle.run_parts.specs.declared.verifying.DomainCounts.{DomainCounts}
-use Rattle.run_parts.specs.Verified.{CountsFilesets, HasFilesets, ListsFaults, PrintEnds, VerifyEnds, fault_line, faults_text, rows_of}
+use Rattle.run_parts.specs.Verified.{HasCounts, ListsFaults, MeansCounts, PrintEnds, VerifyEnds, fault_line, faults_text, rows_of}
 use Rattle.run_parts.specs.declared.status.Status.{Status}
 use Rattle.run_parts.specs.declared.status.Status.TheVariants as status
 
@@ -38,8 +38,8 @@ faults_listed disk (Filesets all) means tells = inr (inr (refl, all, means tells
 
 -- what is counted of a meaning is that of what the disk holds
 pub filesets_counted : (disk : Disk) (meaning : Meaning) (found : Option DomainCounts)
-    → (Tells disk → IsMeaningOf disk.sizes disk.now.contents meaning) → IfSome found (λ counts. HasFilesets meaning counts.filesets)
-    → IfSome found (λ counts. Tells disk → CountsFilesets disk.sizes disk.now.contents counts.filesets)
+    → (Tells disk → IsMeaningOf disk.sizes disk.now.contents meaning) → IfSome found (HasCounts meaning)
+    → IfSome found (λ counts. Tells disk → MeansCounts disk.sizes disk.now.contents counts)
 filesets_counted disk meaning None means has = has
 filesets_counted disk (Filesets all) (Some counts) means has = λ tells. (all, means tells, has)
 filesets_counted disk (Faulty rows) (Some counts) means has = absurd has

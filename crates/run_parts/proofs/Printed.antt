@@ -1,12 +1,13 @@
 -- What is printed, line by line.
-use Rattle.std.proofs.Common.{◌≡◌, ℕ, ◌+◌, ◌<◌, Option, List, [], ◌∷◌, ◌++◌, length, take, drop, get_or, sym, ap, subst, ◌∙◌, append_assoc, take-append-drop, add-one}
+use Rattle.std.proofs.Common.{◌≡◌, ℕ, ◌+◌, ◌<◌, Option, List, [], ◌∷◌, ◌++◌, length, take, drop, get_or, codes, refl, sym, ap, subst, ◌∙◌, append_assoc, take-append-drop, add-one}
 use Rattle.std.proofs.KnownBytes.{Appends-trans}
 use Rattle.std.proofs.Math.Seq.{take-suc}
 use Rattle.std.proofs.lemmas.Grind.{flat_map-append}
 use Rattle.std.proofs.lemmas.List.{append-nil}
 use Rattle.domain_faults.specs.fileset_values.declared.entry.Entry.{Entry}
-use Rattle.script_text.specs.History.{history_text, line_of}
-use Rattle.run_parts.specs.Transfer.{AppendsFront, HandsOn}
+use Rattle.script_text.specs.History.{history_text, line_of, reply_text}
+use Rattle.script_text.specs.command_text.Texts.{actor_text, command_text}
+use Rattle.run_parts.specs.Transfer.{AppendsFront, AppendsPart, HandsOn}
 
 -- the text of one entry more
 pub history_text-more : (history : List Entry) (i : ℕ) (e : Entry) → i < length history → e ≡ get_or history i e
@@ -72,3 +73,38 @@ AppendsFront-line a b c history i e waiting within here first part =
     (AppendsFront-waiting a b c _ (waiting ++ line) (HandsOn-longer a b _ waiting line first) part) in
     subst (AppendsFront a c) (sym (history_text-split history (i + 1)))
     (AppendsFront-more a c _ (history_text (drop (i + 1) history)) lines)
+
+-- ---- a text that is not whole
+
+more_some : (xs ys : List ℕ) → ¬ ys ≡ [] → ¬ xs ++ ys ≡ []
+more_some [] ys some is = some is
+more_some (x ∷ xs) ys some is = cc
+
+some_more : (xs ys : List ℕ) → ¬ xs ≡ [] → ¬ xs ++ ys ≡ []
+some_more [] ys some is = some refl
+some_more (x ∷ xs) ys some is = cc
+
+newline_some : let line : List ℕ = 10 ∷ [] in ¬ line ≡ []
+newline_some is = cc
+
+-- a line has at least its newline
+line_some : (e : Entry) → ¬ line_of e ≡ []
+unfolding line_of
+line_some e = more_some (actor_text e.actor ++ codes " " ++ command_text e.command ++ codes " -> " ++ reply_text e.reply) (10 ∷ []) newline_some
+
+-- the text from a line on was not printed
+pub AppendsPart-line : (a b : Option (List ℕ)) (history : List Entry) (i : ℕ) (e : Entry) (waiting : List ℕ) → i < length history → e ≡ get_or history i e
+    → HandsOn a b (history_text (take i history)) waiting → AppendsPart a b (history_text history)
+AppendsPart-line a b history i e waiting within here hands =
+    let left = waiting ++ line_of e in
+    let later = history_text (drop (i + 1) history) in
+    record {
+      front = hands.front;
+      rest = left ++ later;
+      whole =
+          history_text-split history (i + 1)
+          ∙ ap (λ (text : List ℕ). text ++ later) (history_text-more history i e within here ∙ ap (λ (text : List ℕ). text ++ line_of e) hands.whole ∙ append_assoc hands.front waiting (line_of e))
+          ∙ append_assoc hands.front left later;
+      some = some_more left later (more_some waiting (line_of e) (line_some e));
+      grown = hands.grown;
+    }

@@ -1,5 +1,5 @@
 -- What was read of an input whose reading stopped before its end, and what was written of a text.
-use Rattle.std.specs.Prelude.{◌≡◌, ℕ, ◌≤◌, ◌+◌, Option, List, ◌++◌, length}
+use Rattle.std.specs.Prelude.{◌≡◌, ℕ, ◌≤◌, ◌+◌, Option, List, [], ◌++◌, length}
 use Rattle.std.specs.Io.KnownBytes.{Appends}
 use Rattle.run_parts.specs.declared.transfer.ReadError.{ReadError}
 use Rattle.run_parts.specs.declared.transfer.ReadError.TheVariants.{SourceFault, TooLong, OutOfMemory}
@@ -26,6 +26,14 @@ IsNoLonger read = length read ≤ 33_554_433
 pub record HandsOn (old new : Option (List ℕ)) (text waiting : List ℕ) : Type 0 where
   pub front : List ℕ
   pub whole : text ≡ front ++ waiting
+  pub grown : Appends old new front
+
+-- known bytes grew by a part of the text, from its front, and not by all of it
+pub record AppendsPart (old new : Option (List ℕ)) (text : List ℕ) : Type 0 where
+  pub front : List ℕ
+  pub rest : List ℕ
+  pub whole : text ≡ front ++ rest
+  pub some : ¬ rest ≡ []
   pub grown : Appends old new front
 
 -- known bytes grew by a part of the text, from its front

@@ -1,11 +1,14 @@
 -- What is printed of an image that is verified.
-use Rattle.std.specs.Prelude.{◌≡◌, ◌⊎◌, ◌==◌, ◌++◌, ℕ, ◌∷◌, [], List, Option, codes, decimal, flat_map, if◌then◌else◌, length}
+use Rattle.std.specs.Prelude.{◌≡◌, ◌⊎◌, ◌==◌, ◌++◌, ℕ, ◌∷◌, [], List, None, Option, Some, codes, decimal, flat_map, if◌then◌else◌, length, sum_by}
 use Rattle.std.specs.FinMap as map
 use Rattle.std.specs.Io.KnownBytes.{Appends}
 use Rattle.domain_faults.specs.volume_disk.Disk.{Disk, Tells, raised_at}
 use Rattle.domain_faults.specs.volume_disk.Image.{Image}
 use Rattle.domain_faults.specs.log_recovery.Outcome.{IsFirstFault}
 use Rattle.domain_faults.specs.fileset_model.Filesets.{FilesetMap}
+use Rattle.domain_faults.specs.fileset_model.Usage.{used_files}
+use Rattle.domain_faults.specs.fileset_model.declared.fileset.FilesetSlot.{FilesetSlot}
+use Rattle.domain_faults.specs.fileset_values.declared.command.Owner.TheVariants.{Fileset as WholeFileset}
 use Rattle.domain_faults.specs.domain_layout.Faults.{FaultRow}
 use Rattle.domain_faults.specs.domain_layout.Read.{Means}
 use Rattle.domain_faults.specs.Rows.{rows_there}
@@ -17,6 +20,7 @@ use Rattle.domain_faults.specs.declared.fault.ReadFault.TheVariants as fault
 use Rattle.run_parts.specs.Transfer.{AppendsFront}
 use Rattle.run_parts.specs.declared.status.Status.{Status}
 use Rattle.run_parts.specs.declared.status.Status.TheVariants as status
+use Rattle.run_parts.specs.declared.verifying.DomainCounts.{DomainCounts}
 
 -- ** The list of an image's faults
 
@@ -43,15 +47,33 @@ rows_of (NoDomain vol at) = first_row vol at ∷ []
 rows_of (Faulty rows) = rows_there rows.items
 rows_of (Filesets all) = []
 
--- a meaning has `count` filesets
-abbrev pub HasFilesets : Meaning → ℕ → Type 0
-HasFilesets (Filesets all) count = count ≡ map.len all
-HasFilesets other count = ⊥
+-- how many files and directories a fileset has, without its root; none if it is not there
+abbrev pub files_under : Option FilesetSlot → ℕ
+files_under None = 0
+files_under (Some slot) = used_files slot.tree WholeFileset
 
--- an image means `count` filesets
-abbrev pub CountsFilesets : List ℕ → Image → ℕ → Type 0
-CountsFilesets sizes image count =
-    (all : FilesetMap) × Means sizes image all × (count ≡ map.len all)
+-- how many the filesets with these names have
+abbrev pub files_in : FilesetMap → ℕ
+files_in all = sum_by (λ name. files_under (map.get all name)) (map.keys all)
+
+-- a meaning has so many files and directories, without the roots
+abbrev pub HasFiles : Meaning → ℕ → Type 0
+HasFiles (Filesets all) count = count ≡ files_in all
+HasFiles other count = count ≡ 0
+
+-- these are the numbers of filesets, and of their files and directories
+abbrev pub AreCountsOf : FilesetMap → DomainCounts → Type 0
+AreCountsOf all counts = (counts.filesets ≡ map.len all) × (counts.files ≡ files_in all)
+
+-- a meaning has filesets with these numbers
+abbrev pub HasCounts : Meaning → DomainCounts → Type 0
+HasCounts (Filesets all) counts = AreCountsOf all counts
+HasCounts other counts = ⊥
+
+-- an image means filesets with these numbers
+abbrev pub MeansCounts : List ℕ → Image → DomainCounts → Type 0
+MeansCounts sizes image counts =
+    (all : FilesetMap) × Means sizes image all × AreCountsOf all counts
 
 -- ** Their text
 

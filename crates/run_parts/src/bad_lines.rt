@@ -180,6 +180,13 @@ impl fmt::Display for Shown<'_> {
     }
 }
 
+/// Whether one of the forms has names, in which a space may have cut a word in two.
+fn have_names(forms: &str) -> bool {
+    forms
+        .split_ascii_whitespace()
+        .any(|form| form == "NAMED" || form == "P" || form == "PATH")
+}
+
 /// The forms of the words after a first word.
 fn forms_of(first: &[u8]) -> &'static str {
     if first == b"client".as_slice() {
@@ -191,6 +198,14 @@ fn forms_of(first: &[u8]) -> &'static str {
     }
 }
 
+/// Whether a word has a form and goes with the word before it: the ID of a fileset is 0.
+fn fits_after(alloc: Global, before: &[u8], form: &str, word: &[u8]) -> Result<bool, OutOfMemory> {
+    if form == "ID" && before == b"fileset".as_slice() {
+        return Ok(number_within(0, 0, word).is_some());
+    }
+    has_form(alloc, form, word)
+}
+
 /// The first word that does not have its form: its place, from 1, and the form.
 fn wrong_word(
     alloc: Global,
@@ -199,10 +214,10 @@ fn wrong_word(
 ) -> Result<Option<(usize, &'static str)>, OutOfMemory> {
     for (i, form) in forms.split_ascii_whitespace().enumerate() {
         let place = i.saturating_add(1);
-        let Some(word) = words.get(place) else {
+        let (Some(before), Some(word)) = (words.get(i), words.get(place)) else {
             return Ok(None);
         };
-        if !has_form(alloc, form, word)? {
+        if !fits_after(alloc, before, form, word)? {
             return Ok(Some((place, form)));
         }
     }
@@ -260,7 +275,7 @@ impl<'a> BadLine<'a> {
         if known_verb(first).is_some() || first == b"mover".as_slice() {
             return write!(f, "`{word}` is a command that is not built yet");
         }
-        write!(f, "`{word}` is no command: advfs --help lists them")
+        write!(f, "`{word}` is not a command: advfs --help lists them")
     }
 
     /// Writes how many words there are, and how many there should be.
@@ -273,7 +288,10 @@ impl<'a> BadLine<'a> {
             f,
             "{count} {noun} after {first}, which takes {wanted}: {first} {forms}"
         )?;
-        f.write_str("; in a name a space is %20")
+        if count > wanted && have_names(forms) {
+            return f.write_str("; in a name a space is %20");
+        }
+        Ok(())
     }
 
     /// Writes which word does not have its form.
@@ -304,7 +322,7 @@ impl fmt::Display for BadLine<'_> {
             FaultKind::UnknownWord => self.write_unknown(f),
             FaultKind::WordCount => self.write_count(f),
             FaultKind::WordForm => self.write_wrong(f),
-            FaultKind::SectionTwice => f.write_str("this client has a section before"),
+            FaultKind::SectionTwice => f.write_str("this client already has a section"),
             kind => write!(f, "{kind}"),
         }
     }

@@ -13,17 +13,18 @@ usage: advfs mkfdmn [-3] [-o] IMAGE   makes an empty domain; -o: over anything
        advfs --help, advfs --version
 
 A script has client N, 1 to 8, before each client's commands, a line each:
-  mkfset FS                     create NAMED UID GID  list P
-  rmfset FS                     mkdir NAMED UID GID   stat P
-  showfsets                     write P OFFSET BYTES  links P
-  setquota FS WHO FILES BLOCKS  read P OFFSET COUNT   showfile P
-  showquota FS WHO              truncate P SIZE       fsync P
-  showfdmn                      rename NAMED PATH     unlink NAMED
-  sync                          link NAMED PATH       rmdir NAMED
-  cancel                        chfile -L on P        chfile -L off P
+  mkfset FS                        create NAMED UID GID  list P
+  rmfset FS                        mkdir NAMED UID GID   stat P
+  showfsets                        write P OFFSET BYTES  links P
+  setquota FS WHO ID FILES BLOCKS  read P OFFSET COUNT   showfile P
+  showquota FS WHO ID              truncate P SIZE       fsync P
+  showfdmn                         rename NAMED PATH     unlink NAMED
+  sync                             link NAMED PATH       rmdir NAMED
+  cancel                           chfile -L on P        chfile -L off P
 P is FS:/ or NAMED, which is FS:/NAME/NAME; a PATH is /NAME/NAME. In a NAME a
-space is %20. WHO is user ID, group ID or fileset 0. BYTES are \"a word\", or
-61.62.00x3: two hexadecimal digits for each, and how often it stands there.
+space is %20. WHO is user, group or fileset, and ID is 0 after fileset. BYTES
+are \"a word\", or 61.62.00x3: two hexadecimal digits for each, and x with the
+number of times.
 
 docs/SCRIPT.md has the full language, with each reply and each refusal.
 ";

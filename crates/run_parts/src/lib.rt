@@ -27,7 +27,7 @@ pub use verifying::{DomainCounts, Findings, verify};
 pub use words::{Form, LOOK_WORD, OVER_WORD, form_asked};
 
 // What stands below and is named above.
-pub use domain_faults::push_number;
+pub use domain_faults::{Failed, push_number};
 pub use script_text::{
     FaultKind, ScriptFault, Section, halves, history_line, read_script, small_number,
 };

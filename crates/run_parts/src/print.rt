@@ -3,7 +3,7 @@ ghost use Rattle.std.specs.Prelude.{◌≡◌, ◌≤◌, [], ◌++◌, OnOk, On
 ghost use Rattle.std.specs.Io.KnownBytes.{Appends};
 ghost use Rattle.domain_faults.specs.domain_base.Counts.{HasRisen};
 ghost use Rattle.script_text.specs.History.{history_text, line_of};
-ghost use Rattle.run_parts.specs.Transfer.{AppendsFront, HandsOn};
+ghost use Rattle.run_parts.specs.Transfer.{AppendsFront, AppendsPart, HandsOn};
 
 use crate::sinks::Sink;
 use crate::transfer::write_all;
@@ -73,7 +73,7 @@ fn flush<K: Sink>(sink: &mut K, buffer: &mut Vec<u8>) -> Result<(), Failed>
 }
 
 /// Adds the line of an entry to the buffer, which is written once it is full. After an error the
-/// sink has received a prefix of what waited and of the line.
+/// sink has received a prefix of what waited and of the line; if memory ran out, nothing of them.
 fn push_line<K: Sink>(
     alloc: Global,
     sink: &mut K,
@@ -84,6 +84,8 @@ fn push_line<K: Sink>(
         (buffer.old.items ++ line_of entry.now) buffer.new.items) }
     ensures err { OnErr result (AppendsFront (K.held sink.old) (K.held sink.new)
         (buffer.old.items ++ line_of entry.now)) }
+    ensures out_of_memory { result ≡ Err PrintError.OutOfMemory
+        → K.held sink.new ≡ K.held sink.old }
     ensures never_falls { K.faults sink.old ≤ K.faults sink.new }
     ensures sink_fault { result ≡ Err PrintError.SinkFault
         → HasRisen (K.faults sink.old) (K.faults sink.new) }
@@ -97,8 +99,8 @@ fn push_line<K: Sink>(
 }
 
 /// Prints a history, a line for each entry, in pieces of 65,536 bytes and more. Returns `SinkFault`
-/// if a call of the sink was refused, and `OutOfMemory` if memory ran out. After an error the sink
-/// has received a prefix of the text.
+/// if a call of the sink was refused, and `OutOfMemory` if memory ran out before the text was
+/// whole. After an error the sink has received a prefix of the text.
 pub fn print_history<K: Sink>(
     alloc: Global,
     sink: &mut K,
@@ -108,6 +110,8 @@ pub fn print_history<K: Sink>(
         (Appends (K.held sink.old) (K.held sink.new) (history_text history.now)) }
     ensures err { OnErr result
         (AppendsFront (K.held sink.old) (K.held sink.new) (history_text history.now)) }
+    ensures out_of_memory { result ≡ Err PrintError.OutOfMemory
+        → AppendsPart (K.held sink.old) (K.held sink.new) (history_text history.now) }
     ensures never_falls { K.faults sink.old ≤ K.faults sink.new }
     ensures sink_fault { result ≡ Err PrintError.SinkFault
         → HasRisen (K.faults sink.old) (K.faults sink.new) }

@@ -30,9 +30,9 @@ impl fmt::Display for Unattached {
         f.write_str(match self {
             Unattached::Cloned => "it has a clone",
             Unattached::ReadThrough => "a file is read through another one",
-            Unattached::WrongQuotas => "what is being removed names other quota cells",
+            Unattached::WrongQuotas => "a fileset being removed names quota cells of another one",
             Unattached::RemovedFile => "a tag leads to a file that is to be removed",
-            Unattached::CutDirectory => "a directory is to be cut",
+            Unattached::CutDirectory => "a directory has a pending truncation",
             Unattached::NoNumbers => "its log has no numbers left",
         })
     }

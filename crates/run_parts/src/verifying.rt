@@ -4,7 +4,7 @@ ghost use Rattle.domain_faults.specs.volume_disk.Disk.{Tells};
 ghost use Rattle.domain_faults.specs.domain_base.Counts.{HasRisen};
 ghost use Rattle.domain_faults.specs.volume_disk.Run.{OnlyReads};
 ghost use Rattle.domain_faults.specs.Rows.{rows_there};
-ghost use Rattle.run_parts.specs.Verified.{CountsFilesets, HasFilesets, PrintEnds, VerifyEnds, fault_line, faults_text, first_code, rows_of, status_of_read_fault};
+ghost use Rattle.run_parts.specs.Verified.{HasCounts, HasFiles, MeansCounts, PrintEnds, VerifyEnds, fault_line, faults_text, first_code, rows_of, status_of_read_fault};
 
 use crate::sinks::Sink;
 use crate::status::Status;
@@ -117,15 +117,18 @@ fn print_faults<K: Sink>(alloc: Global, sink: &mut K, meaning: &Meaning) -> Stat
 }
 
 /// How many files and directories are in the filesets that an image means.
-fn count_files(alloc: Global, meaning: &Meaning) -> Result<u64, OutOfMemory> {
+fn count_files(alloc: Global, meaning: &Meaning) -> Result<u64, OutOfMemory>
+    ensures { IfOk result (HasFiles meaning.now) }
+{
     let Meaning::Filesets { all } = meaning else {
         return Ok(0);
     };
+    let items = all.items(alloc)?;
     let mut files: u64 = 0;
-    for item in all.items(alloc)? {
+    for item in &items {
         if let Some(slot) = all.slot(&item.fileset) {
             let usage = slot.tree.usage(alloc, Owner::Fileset)?;
-            files = files.saturating_add(usage.files);
+            files = files.checked_add(usage.files).ok_or(OutOfMemory)?;
         }
     }
     Ok(files)
@@ -133,7 +136,7 @@ fn count_files(alloc: Global, meaning: &Meaning) -> Result<u64, OutOfMemory> {
 
 /// What is counted of what an image means; None if it means no filesets, or memory runs out.
 fn counts_of(alloc: Global, meaning: &Meaning) -> Option<DomainCounts>
-    ensures { IfSome result (λ counts. HasFilesets meaning.now counts.filesets) }
+    ensures { IfSome result (HasCounts meaning.now) }
 {
     let Meaning::Filesets { all } = meaning else {
         return None;
@@ -154,7 +157,7 @@ pub fn verify<R: Rack, K: Sink>(alloc: Global, rack: &mut R, sink: &mut K) -> Fi
     ensures ends { VerifyEnds (R.disk rack.old) (R.disk rack.new) result.status
         (K.held sink.old) (K.held sink.new) }
     ensures counted { let old = R.disk rack.old in IfSome result.counts
-        (λ counts. Tells old → CountsFilesets old.sizes old.now.contents counts.filesets) }
+        (λ counts. Tells old → MeansCounts old.sizes old.now.contents counts) }
     ensures sink_fault { result.status ≡ Status.SinkFault
         → HasRisen (K.faults sink.old) (K.faults sink.new) }
     ensures never_falls { K.faults sink.old ≤ K.faults sink.new }

@@ -10,11 +10,11 @@ pub returns-in-Ok-answer-clause-read : goal.returns-in-Ok-answer-clause-read
 returns-in-Ok-answer-clause-read g c =
     let r = c.in-Ok.ensures.taken in
     let is = follows _ _ _ _ r.2 c.in-Ok-answer.ensures.turns in
-    (r.0, r.1, rw (c.print_ran.ensures.history) (ended_read _ _ c.print_ran.ensures.status _ _ _ (g.R.Rack.disk c.args.rack) (g.R.Rack.disk c.in-Ok-answer.ran.rack) is c.in-Ok-answer.ensures.ends))
+    (r.0, r.1, rw (c.print_ran.ensures.history) (ended_read _ _ _ c.print_ran.ensures.status _ _ _ (g.R.Rack.disk c.args.rack) (g.R.Rack.disk c.in-Ok-answer.ran.rack) is c.in-Ok-answer.ensures.ends))
 
 pub returns-in-Ok-answer-clause-runs : goal.returns-in-Ok-answer-clause-runs
 returns-in-Ok-answer-clause-runs g c =
-    rw (c.print_ran.ensures.rack, c.print_ran.ensures.history) (ended_run _ _ c.print_ran.ensures.status c.args.form _ _ _ c.in-Ok-answer.ensures.ends c.in-Ok-answer.ensures.leads)
+    rw (c.print_ran.ensures.rack, c.print_ran.ensures.history) (ended_run _ _ _ c.print_ran.ensures.status c.args.form _ _ c.in-Ok-answer.ensures.ends c.in-Ok-answer.ensures.leads)
 
 pub returns-in-Err-answer-clause-read : goal.returns-in-Err-answer-clause-read
 returns-in-Err-answer-clause-read g c =
@@ -40,7 +40,7 @@ returns-in-Ok-answer-clause-quiet g c = subst (λ (l : List Entry). TellNoFault 
 
 pub returns-in-Ok-answer-clause-lost : goal.returns-in-Ok-answer-clause-lost
 returns-in-Ok-answer-clause-lost g c =
-    rw (c.print_ran.ensures.rack) (λ vol is some. ended_lost _ _ c.print_ran.ensures.status (g.R.Rack.disk c.args.rack) (g.R.Rack.disk c.in-Ok-answer.ran.rack) c.in-Ok-answer.ensures.ends vol is)
+    rw (c.print_ran.ensures.rack) (λ vol is some. ended_lost _ _ _ c.print_ran.ensures.status (g.R.Rack.disk c.args.rack) (g.R.Rack.disk c.in-Ok-answer.ran.rack) c.in-Ok-answer.ensures.ends vol is)
 
 pub returns-in-Err-answer-clause-lost : goal.returns-in-Err-answer-clause-lost
 returns-in-Err-answer-clause-lost g c = λ vol is some. absurd (some c.unanswered-in-Err-answer.ensures.history)

@@ -1,0 +1,111 @@
+//! What is done beside the program, by the words after `: `.
+//!
+//! - `zeros FILE PAGES`: makes a file of so many pages of zeros.
+//! - `grow FILE PAGES`: gives a file so many pages, of which the new ones are zeros.
+//! - `text FILE`: makes a file of the lines that follow.
+//! - `copy FILE OTHER`: makes the other file, with the same bytes.
+//! - `same FILE OTHER`: prints whether they have the same bytes.
+//! - `shared FILE` and `alone FILE`: hold a lock on a file as another program would, which others
+//!   may share or not, until `free`.
+//! - `watched`: from here on standard error is a terminal for the program, whose clock goes on by
+//!   10 milliseconds each time that it is looked at; until `unwatched`.
+//! - `note WORDS`: nothing; it is a heading.
+
+use std::fs::{File, OpenOptions};
+use std::io::Write;
+use std::{fs, io};
+
+/// The bytes of a page of an image.
+const PAGE_BYTES: u64 = 8_192;
+
+/// What a work has changed for the commands after it.
+#[derive(Drop)]
+pub struct Works {
+    /// A file on which a lock is held.
+    held: Option<File>,
+    /// Whether standard error is a terminal for the program.
+    pub is_watched: bool,
+}
+
+/// Opens a new file to be written, or one that is emptied.
+fn new_file(rt: &HostRuntime, name: &str) -> io::Result<File> {
+    OpenOptions::new()
+        .write(true)
+        .create(true)
+        .truncate(true)
+        .open(rt, name)
+}
+
+/// Gives a file so many pages.
+fn set_pages(file: &File, pages: &str) -> io::Result<()> {
+    let pages = pages.parse::<u64>().unwrap_or(0);
+    file.set_len(pages.saturating_mul(PAGE_BYTES))
+}
+
+/// Gives a file that is there so many pages.
+fn grow(rt: &HostRuntime, name: &str, pages: &str) -> io::Result<()> {
+    let file = OpenOptions::new().write(true).open(rt, name)?;
+    set_pages(&file, pages)
+}
+
+/// Prints whether two files have the same bytes.
+fn print_same(rt: &HostRuntime, name: &str, other: &str) -> io::Result<()> {
+    let (one, two) = (fs::read(rt, name)?, fs::read(rt, other)?);
+    let told = if one.as_slice() == two.as_slice() {
+        "the same"
+    } else {
+        "not the same"
+    };
+    println!(rt; "{told}")
+}
+
+impl Works {
+    /// Nothing was done.
+    pub fn new() -> Works {
+        Works {
+            held: None,
+            is_watched: false,
+        }
+    }
+
+    /// Takes a lock on a file.
+    fn hold(&mut self, rt: &HostRuntime, name: &str, is_shared: bool) -> io::Result<()> {
+        let file = OpenOptions::new().read(true).open(rt, name)?;
+        let locked = if is_shared {
+            file.try_lock_shared()
+        } else {
+            file.try_lock()
+        };
+        match locked {
+            Ok(()) => {
+                self.held = Some(file);
+                Ok(())
+            }
+            Err(_) => println!(rt; "there is another lock"),
+        }
+    }
+
+    /// Does the work of a line.
+    pub fn perform(&mut self, rt: &HostRuntime, line: &str, text: &[u8]) -> io::Result<()> {
+        let mut words = line.split_ascii_whitespace().skip(1);
+        let work = words.next().unwrap_or("");
+        let name = words.next().unwrap_or("");
+        let other = words.next().unwrap_or("");
+        match work {
+            "zeros" => return set_pages(&new_file(rt, name)?, other),
+            "grow" => return grow(rt, name, other),
+            "text" => return new_file(rt, name)?.write_all(text),
+            "same" => return print_same(rt, name, other),
+            "shared" => return self.hold(rt, name, true),
+            "alone" => return self.hold(rt, name, false),
+            "copy" => {
+                let _ = fs::copy(rt, name, other)?;
+            }
+            "free" => self.held = None,
+            "watched" => self.is_watched = true,
+            "unwatched" => self.is_watched = false,
+            _ => {}
+        }
+        Ok(())
+    }
+}

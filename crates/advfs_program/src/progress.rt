@@ -1,0 +1,197 @@
+//! What a long command tells of itself while it works.
+ghost use Rattle.std.specs.Prelude.{◌≡◌};
+
+use crate::host::Host;
+use advfs_run::limits::PAGE_BYTES;
+use advfs_run::{Failed, Gate, Rack, VolIx};
+use std::sync::atomic::{AtomicBool, AtomicU64, Ordering};
+
+/// How many milliseconds pass before something is told again.
+const PAUSE: u64 = 1_000;
+
+/// The bytes of a MiB.
+const MIB: u64 = 1_048_576;
+
+/// How far a command is. It is told on standard error once a second, if that is a terminal.
+#[derive(Drop)]
+pub(crate) struct Progress<'a, H> {
+    host: &'a H,
+    is_watched: bool,
+    /// How many MiB the images have.
+    size: u64,
+    /// When it began, or was told last, in milliseconds of the clock.
+    last: AtomicU64,
+    has_told: AtomicBool,
+    /// The bytes that were read and written, and the commands that were answered.
+    read: AtomicU64,
+    written: AtomicU64,
+    answered: AtomicU64,
+}
+
+/// What a clock shows in milliseconds.
+fn milliseconds(host: &impl Host) -> u64 {
+    match host.monotonic() {
+        Ok(time) => {
+            let whole = time.as_secs().saturating_mul(1_000);
+            whole.saturating_add(u64::from(time.subsec_millis()))
+        }
+        Err(_) => 0,
+    }
+}
+
+/// Adds to a count, which stops at its end. Returns what it was.
+fn raise(count: &AtomicU64, by: usize) -> u64 {
+    let before = count.load(Ordering::Relaxed);
+    count.store(before.saturating_add(by as u64), Ordering::Relaxed);
+    before
+}
+
+impl<'a, H: Host> Progress<'a, H> {
+    /// A command begins on images with these numbers of pages.
+    pub(crate) fn new(host: &'a H, sizes: &[u32]) -> Progress<'a, H> {
+        let mut pages: u64 = 0;
+        for size in sizes {
+            pages = pages.saturating_add(u64::from(*size));
+        }
+        let is_watched = host.is_watched();
+        let begin = if is_watched { milliseconds(host) } else { 0 };
+        Progress {
+            host,
+            is_watched,
+            size: pages.saturating_mul(PAGE_BYTES as u64) / MIB,
+            last: AtomicU64::new(begin),
+            has_told: AtomicBool::new(false),
+            read: AtomicU64::new(0),
+            written: AtomicU64::new(0),
+            answered: AtomicU64::new(0),
+        }
+    }
+
+    /// Tells how far the command is, if a second has passed since it was told last.
+    fn tell(&self) {
+        if !self.is_watched {
+            return;
+        }
+        let now = milliseconds(self.host);
+        if now.saturating_sub(self.last.load(Ordering::Relaxed)) < PAUSE {
+            return;
+        }
+        self.last.store(now, Ordering::Relaxed);
+        self.has_told.store(true, Ordering::Relaxed);
+        let read = self.read.load(Ordering::Relaxed) / MIB;
+        let written = self.written.load(Ordering::Relaxed) / MIB;
+        let (size, answered) = (self.size, self.answered.load(Ordering::Relaxed));
+        let _ = eprint!(self.host;
+            "\radvfs: {read} MiB read of {size}, {answered} commands answered, {written} MiB written"
+        );
+    }
+
+    /// Tells that the images are written from here on.
+    fn tell_writing(&self) {
+        if self.is_watched {
+            let _ = eprintln!(self.host;
+                "\radvfs: the image is being written: a stop from here on may leave it incomplete"
+            );
+        }
+    }
+
+    /// So many bytes are read.
+    fn count_read(&self, bytes: usize) {
+        let _ = raise(&self.read, bytes);
+        self.tell();
+    }
+
+    /// So many bytes are written.
+    fn count_write(&self, bytes: usize) {
+        if raise(&self.written, bytes) == 0 {
+            self.tell_writing();
+        }
+        self.tell();
+    }
+
+    /// So many commands more were answered.
+    pub(crate) fn count_answers(&self, answers: usize) {
+        let _ = raise(&self.answered, answers);
+        self.tell();
+    }
+
+    /// Ends the line in which something was told.
+    pub(crate) fn end(&self) {
+        if self.has_told.load(Ordering::Relaxed) {
+            let _ = eprintln!(self.host; "");
+        }
+    }
+}
+
+impl<H: Host> Gate for Progress<'_, H> {
+    fn pass(&self, _actor: u32, turn: u64) {
+        self.answered.store(turn, Ordering::Relaxed);
+        self.tell();
+    }
+}
+
+/// A rack of which is told how much is read and written.
+#[derive(Drop)]
+pub(crate) struct Watched<'a, R, H> {
+    rack: R,
+    progress: &'a Progress<'a, H>,
+}
+
+impl<'a, R: Rack, H: Host> Watched<'a, R, H> {
+    /// Watches a rack.
+    pub(crate) fn new(rack: R, progress: &'a Progress<'a, H>) -> Watched<'a, R, H>
+        ensures { result.rack ≡ rack }
+    {
+        Watched { rack, progress }
+    }
+
+    /// Gives the rack back.
+    pub(crate) fn into_rack(self) -> R
+        ensures { result ≡ self.rack }
+    {
+        let Watched { rack, .. } = self;
+        rack
+    }
+}
+
+impl<R: Rack, H: Host> Rack for Watched<'_, R, H> {
+    ghost disk = { λ watched. R.disk watched.rack };
+
+    ghost holds_bytes = { λ watched told. R.holds_bytes watched.rack told };
+
+    ghost pends_within = { λ watched told. R.pends_within watched.rack told };
+
+    fn volumes(&self) -> u32 {
+        self.rack.volumes()
+    }
+
+    fn pages(&self, vol: VolIx) -> u32 {
+        self.rack.pages(vol)
+    }
+
+    fn read(&mut self, vol: VolIx, block: u32, out: &mut [u8]) -> Result<(), Failed> {
+        self.progress.count_read(out.len());
+        self.rack.read(vol, block, out)
+    }
+
+    fn write(&mut self, vol: VolIx, block: u32, bytes: &[u8]) -> Result<(), Failed> {
+        self.progress.count_write(bytes.len());
+        self.rack.write(vol, block, bytes)
+    }
+
+    fn sync(&mut self, vol: VolIx) -> Result<(), Failed> {
+        self.rack.sync(vol)
+    }
+
+    fn calls(&self) -> u64 {
+        self.rack.calls()
+    }
+
+    fn read_faults(&self, vol: VolIx) -> u64 {
+        self.rack.read_faults(vol)
+    }
+
+    fn write_faults(&self, vol: VolIx) -> u64 {
+        self.rack.write_faults(vol)
+    }
+}
