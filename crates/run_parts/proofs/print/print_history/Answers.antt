@@ -1,4 +1,4 @@
-use Rattle.std.proofs.Common.{◌∙◌, Option, List, ℕ, arith, length, ◌≤◌, ap, subst, sym}
+use Rattle.std.proofs.Common.{◌∙◌, Err, Option, List, ℕ, arith, length, ◌≤◌, ap, subst, sym}
 use Rattle.std.proofs.lemmas.Grind.{common_steps}
 use Rattle.std.proofs.lemmas.List.{take_all}
 use Rattle.std.proofs.lemmas.Result.{err_from_is_err_and}
@@ -29,5 +29,5 @@ pub returns-in_err-push_line-clause-out_of_memory : goal.returns-in_err-push_lin
 returns-in_err-push_line-clause-out_of_memory g c = λ is.
     let failed = err_from_is_err_and c.from_residual.result c.from_residual.ensures.1 in
     let so_far = c.loop-entry.invariant.handed in
-    let same = c.in_err-push_line.ensures.out_of_memory (c.in_err-push_line.was ∙ sym failed.1 ∙ is) in
+    let same = c.in_err-push_line.ensures.out_of_memory (ap Err (sym failed.2) ∙ sym failed.1 ∙ is) in
     subst (λ (held : Option (List ℕ)). AppendsPart (g.K.Sink.held c.args.sink.now) held (history_text c.args.history.now)) (sym same) (AppendsPart-line _ _ c.args.history.now _ _ _ (omega arith) c.entry-item.is so_far)
