@@ -1,4 +1,4 @@
-use Rattle.std.proofs.Common.{◌≡◌, List, ℕ, sum_by, take}
+use Rattle.std.proofs.Common.{◌≡◌, sum_by, take}
 use Rattle.std.specs.FinMap as map
 use Rattle.domain_faults.specs.fileset_values.declared.reply.FilesetItem.{FilesetItem}
 use Rattle.run_parts.specs.Verified.{files_under}
