@@ -9,12 +9,17 @@ if [ $# != 3 ]; then
     echo "usage: bench/export.sh IMAGE FS:/PATH DIRECTORY" >&2
     exit 2
 fi
+unset CDPATH
+advfs=${ADVFS:-$top/advfs}
+case $advfs in
+/*) ;;
+*/*) advfs=$PWD/$advfs ;;
+esac
 image=$(readlink -f "$1") && place=${2%/} && mkdir "$3" && cd "$3" || exit 1
 case $place in
 *:) start=$place/ ;;
 *) start=$place ;;
 esac
-advfs=${ADVFS:-$top/advfs}
 "$advfs" --version >/dev/null || exit 1
 work=$(mktemp -d "${TMPDIR:-/tmp}/advfs_export.XXXXXX") || exit 1
 trap 'rm -rf "$work"' EXIT

@@ -11,8 +11,13 @@ if [ $# != 3 ]; then
     echo "usage: bench/import.sh IMAGE FS:/PATH DIRECTORY" >&2
     exit 2
 fi
-image=$(readlink -f "$1") && place=${2%/} && cd "$3" || exit 1
+unset CDPATH
 advfs=${ADVFS:-$top/advfs}
+case $advfs in
+/*) ;;
+*/*) advfs=$PWD/$advfs ;;
+esac
+image=$(readlink -f "$1") && place=${2%/} && cd "$3" || exit 1
 "$advfs" --version >/dev/null || exit 1
 work=$(mktemp -d "${TMPDIR:-/tmp}/advfs_import.XXXXXX") || exit 1
 trap 'rm -rf "$work"' EXIT
@@ -44,13 +49,14 @@ owner_of() {
 # directories, each after the one that it is in, in scripts of 1,900 commands: each is made, and
 # then looked at, since it may be there already, or a file may be in its place
 find . -type d ! -name . ! -path '*
-*' >"$work/folders"
-encode <"$work/folders" >"$work/names"
+*' >"$work/folders" || failed=1
+encode <"$work/folders" >"$work/names" || failed=1
 while IFS= read -r folder; do
     owner_of "$folder"
-done <"$work/folders" | paste -d ' ' "$work/names" - | awk -v place="$place" -v work="$work" '
+done <"$work/folders" | paste -d ' ' "$work/names" - | place=$place work=$work awk '
+    BEGIN { place = ENVIRON["place"] "/"; work = ENVIRON["work"] }
     NR % 950 == 1 { script = sprintf("%s/script.%06d", work, NR); print "client 1" >script }
-    { print "mkdir " place "/" $0 >script; print "stat " place "/" $1 >script }'
+    { print "mkdir " place $0 >script; print "stat " place $1 >script }' || failed=1
 for script in "$work"/script.*; do
     [ -e "$script" ] || continue
     "$advfs" run "$script" "$image" >"$work/replies" || exit
@@ -61,8 +67,8 @@ for script in "$work"/script.*; do
 done
 
 find . -type f ! -path '*
-*' >"$work/files"
-encode <"$work/files" >"$work/names"
+*' >"$work/files" || failed=1
+encode <"$work/files" >"$work/names" || failed=1
 while IFS= read -r file && IFS= read -r name <&3; do
     owner=$(owner_of "$file" | tr ' ' ':')
     "$advfs" put --owner "$owner" "$image" "$place/$name" <"$file" || failed=1

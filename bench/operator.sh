@@ -6,6 +6,10 @@
 # that is named, or in the one for temporary files. ADVFS is the program, if it is not ./advfs.
 top=$(cd "$(dirname "$0")/.." && pwd) || exit 1
 advfs=${ADVFS:-$top/advfs}
+case $advfs in
+/*) ;;
+*/*) advfs=$PWD/$advfs ;;
+esac
 "$advfs" --version >&2 || exit 1
 folder=$(mktemp -d "${1:-${TMPDIR:-/tmp}}/advfs_operator.XXXXXX") || exit 1
 trap 'rm -rf "$folder"' EXIT
@@ -102,7 +106,8 @@ deaf() {
 ends "standard output is closed" 8 "a full device, or a closed pipe" \
     mute "$advfs" run look home.img
 ends "standard error is closed" 13 "" silent "$advfs" mkfdmn home.img
-ends "standard error is closed, a bad script" 6 "" silent "$advfs" run look small.img
+printf 'frob\n' >odd
+ends "standard error is closed, a bad script" 5 "" silent "$advfs" run odd home.img
 ends "standard input is closed" 3 "standard input could not be read" \
     deaf "$advfs" put home.img home:/stdin
 ends "what was not put" 14 "E3 no-path" "$advfs" get home.img home:/stdin
@@ -171,6 +176,8 @@ head -c 100000 /dev/zero >zeros.img
 ends "a look at an image longer than its domain" 0 "the domain uses the first 512" \
     "$advfs" run look long.img
 ends "zeros" 9 "code 2: no anchor counts" "$advfs" verify zeros.img
+ends "get of no domain" 6 "no anchor counts" "$advfs" get zeros.img home:/a
+ends "a look at no domain" 6 "no anchor counts" "$advfs" list zeros.img home:/
 
 # a block device, whose size is not that of its file
 truncate -s 4M block.img
@@ -231,6 +238,7 @@ ends "get of what is not there" 14 "read home:/none 0 8192 -> E3 no-path" \
     "$advfs" get home.img home:/none
 ends "get of a directory" 2 "advfs get IMAGE.. FS:/PATH > FILE" "$advfs" get home.img home:/
 ends "put into no fileset" 14 "-> E1 no-fileset" "$advfs" put home.img none:/a
+ends "put into no directory" 14 "-> E3 no-path" "$advfs" put home.img home:/none/a
 ends "put over a directory" 2 "\`home:/\` does not fit" "$advfs" put home.img home:/
 ends "put with a wrong owner" 2 "\`10\` does not fit" \
     "$advfs" put --owner 10 home.img home:/a
@@ -243,6 +251,30 @@ to_small() {
 }
 "$advfs" run make other.img >out 2>told || { echo "run failed"; cat told; failed=1; }
 ends "put of more than there is room for" 14 "-> E20 no-space" to_small
+
+# a file that takes several scripts to be put in and taken out
+truncate -s 64M big.img && "$advfs" mkfdmn big.img 2>told && "$advfs" run make big.img >out ||
+    { echo "a large domain is not made"; failed=1; }
+head -c 20000000 /dev/urandom >big
+tries=$((tries + 1))
+"$advfs" put big.img home:/big <big 2>told || { cat told; failed=1; }
+[ ! -s told ] || { echo "put tells something where no terminal is:"; cat told; failed=1; }
+"$advfs" get big.img home:/big 2>told | cmp - big ||
+    { echo "a file of several scripts does not come back"; failed=1; }
+
+# what a long command tells on a terminal
+if command -v script >/dev/null; then
+    tries=$((tries + 1))
+    script -qec "'$advfs' put home.img home:/typed" /dev/null <short >typed
+    grep -qF "the image is being written" typed ||
+        { echo "put tells nothing on a terminal:"; cat typed; failed=1; }
+    "$advfs" run - home.img >out 2>told <<'END'
+client 1
+unlink home:/typed
+END
+else
+    echo "what is told on a terminal: not tried, since script is missing"
+fi
 
 shows() {
     grep -qE -- "$2" out || { echo "$1: does not show \"$2\" but:"; cat out; failed=1; }

@@ -1,6 +1,7 @@
 //! A sheet of command lines, by the first bytes of their lines.
 //!
 //! - `$ WORDS`: runs the program with these words.
+//! - `= WORDS`, the last one: runs the whole program with these words, and ends as it does.
 //! - `: WORDS`: does something beside the program: see `works`.
 //! - every other line: a line of standard input for the command, or of text for the work, after
 //!   which it stands.
@@ -10,8 +11,9 @@
 
 use crate::stage::Stage;
 use crate::works::Works;
-use advfs_program::perform;
+use advfs_program::{perform, program};
 use std::alloc::Global;
+use std::process::ExitCode;
 use std::{io, mem};
 
 /// What was read since the last command line or work, which is not done yet.
@@ -38,7 +40,7 @@ impl<'a> Sheet<'a> {
 
     /// Takes the next line. If a command or a work begins with it, what was read before is done.
     pub fn take(&mut self, line: &'a str) -> io::Result<()> {
-        if line.starts_with("$ ") || line.starts_with(": ") {
+        if line.starts_with("$ ") || line.starts_with("= ") || line.starts_with(": ") {
             self.perform()?;
             self.head = line.trim_end();
             return Ok(());
@@ -47,8 +49,22 @@ impl<'a> Sheet<'a> {
         Ok(())
     }
 
+    /// Does what was read last, by the whole program if it is a command for that.
+    pub fn end(&mut self) -> io::Result<ExitCode> {
+        if !self.head.starts_with("= ") {
+            self.perform()?;
+            return Ok(ExitCode::SUCCESS);
+        }
+        println!(self.rt; "{}", self.head)?;
+        let (text, is_watched) = (self.text.as_slice(), self.works.is_watched);
+        let stage = Stage::new(self.rt, self.alloc, self.head, text, is_watched);
+        let code = program(&stage, self.alloc);
+        stage.end_line()?;
+        Ok(code)
+    }
+
     /// Does the command or the work that was read last.
-    pub fn perform(&mut self) -> io::Result<()> {
+    fn perform(&mut self) -> io::Result<()> {
         let text = mem::replace(&mut self.text, Vec::new(self.alloc));
         let head = self.head;
         if head.is_empty() {

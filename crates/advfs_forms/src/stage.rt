@@ -70,7 +70,7 @@ impl<'a> Stage<'a> {
     /// Prints what is told on standard error, each line after a mark.
     fn tell(&self, text: &str) -> io::Result<()> {
         self.end_line()?;
-        for line in text.trim_start_matches('\r').lines() {
+        for line in text.lines() {
             println!(self.rt; "! {line}")?;
         }
         Ok(())

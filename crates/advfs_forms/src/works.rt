@@ -3,6 +3,7 @@
 //! - `zeros FILE PAGES`: makes a file of so many pages of zeros.
 //! - `grow FILE PAGES`: gives a file so many pages, of which the new ones are zeros.
 //! - `text FILE`: makes a file of the lines that follow.
+//! - `bytes FILE AT HEX COUNT`: writes bytes from a place of a file on, so many times.
 //! - `copy FILE OTHER`: makes the other file, with the same bytes.
 //! - `same FILE OTHER`: prints whether they have the same bytes.
 //! - `shared FILE` and `alone FILE`: hold a lock on a file as another program would, which others
@@ -13,6 +14,7 @@
 
 use std::fs::{File, OpenOptions};
 use std::io::Write;
+use std::os::unix::fs::FileExt;
 use std::{fs, io};
 
 /// The bytes of a page of an image.
@@ -38,14 +40,51 @@ fn new_file(rt: &HostRuntime, name: &str) -> io::Result<File> {
 
 /// Gives a file so many pages.
 fn set_pages(file: &File, pages: &str) -> io::Result<()> {
-    let pages = pages.parse::<u64>().unwrap_or(0);
-    file.set_len(pages.saturating_mul(PAGE_BYTES))
+    file.set_len(number(pages).saturating_mul(PAGE_BYTES))
 }
 
 /// Gives a file that is there so many pages.
 fn grow(rt: &HostRuntime, name: &str, pages: &str) -> io::Result<()> {
     let file = OpenOptions::new().write(true).open(rt, name)?;
     set_pages(&file, pages)
+}
+
+/// A word as a number, or 0 if it is none.
+fn number(word: &str) -> u64 {
+    word.parse::<u64>().unwrap_or(0)
+}
+
+/// The value of a hexadecimal digit.
+fn digit(byte: u8) -> u8 {
+    match char::from(byte).to_digit(16) {
+        Some(value) => u8::try_from(value).unwrap_or(0),
+        None => 0,
+    }
+}
+
+/// Bytes that a file gets: from which place on, in hexadecimal digits, and how often in a row.
+#[derive(Clone, Copy)]
+struct Patch<'a> {
+    at: &'a str,
+    hex: &'a str,
+    count: &'a str,
+}
+
+impl Patch<'_> {
+    /// Writes the bytes into a file.
+    fn write(&self, rt: &HostRuntime, name: &str) -> io::Result<()> {
+        let file = OpenOptions::new().write(true).open(rt, name)?;
+        let mut at = number(self.at);
+        for _ in 0..number(self.count) {
+            for pair in self.hex.as_bytes().chunks(2) {
+                if let [high, low] = pair {
+                    file.write_all_at(&[digit(*high) << 4 | digit(*low)], at)?;
+                    at = at.saturating_add(1);
+                }
+            }
+        }
+        Ok(())
+    }
 }
 
 /// Prints whether two files have the same bytes.
@@ -94,6 +133,11 @@ impl Works {
         match work {
             "zeros" => return set_pages(&new_file(rt, name)?, other),
             "grow" => return grow(rt, name, other),
+            "bytes" => {
+                let (hex, count) = (words.next().unwrap_or(""), words.next().unwrap_or(""));
+                let at = other;
+                return Patch { at, hex, count }.write(rt, name);
+            }
             "text" => return new_file(rt, name)?.write_all(text),
             "same" => return print_same(rt, name, other),
             "shared" => return self.hold(rt, name, true),

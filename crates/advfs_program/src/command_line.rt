@@ -92,10 +92,9 @@ fn start_script(rt: &impl Host, alloc: Global, words: &[String]) -> Result<Statu
     let rack = images.into_rack(alloc)?;
     let mut source = MemorySource::new(text, Vec::new(alloc));
     let mut sink = WriterSink::new(io::writer(rt));
-    let progress = Progress::new(rt, sizes.as_slice());
+    let progress = Progress::new(rt, access);
     let rack = Watched::new(rack, &progress);
     let ended = run(alloc, words, &mut source, rack, &mut sink, &progress);
-    progress.end();
     let status = ended.status;
     let text = source.into_bytes();
     let _ = tell_script(rt, alloc, words, status, text.as_slice());
@@ -156,10 +155,9 @@ fn start_verify(rt: &impl Host, alloc: Global, words: &[String]) -> Result<Statu
     let rack = images.into_rack(alloc)?;
     let mut source = ReaderSource::new(rt.reader());
     let mut sink = CodeSink::new(WriterSink::new(io::writer(rt)));
-    let progress = Progress::new(rt, sizes.as_slice());
+    let progress = Progress::new(rt, Access::Reads);
     let rack = Watched::new(rack, &progress);
     let ended = run(alloc, words, &mut source, rack, &mut sink, &progress);
-    progress.end();
     let (status, counts) = (ended.status, ended.counts);
     if status == Status::Ok {
         let _ = tell_sound(rt, words, ended.rack.into_rack(), sizes.as_slice(), counts);

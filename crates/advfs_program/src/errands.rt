@@ -3,7 +3,7 @@
 
 use crate::host::Host;
 use crate::images::{Access, Images};
-use crate::opening::{Refused, open_images, sizes_of};
+use crate::opening::{Refused, open_images};
 use crate::progress::{Progress, Watched};
 use crate::telling::{first_image, word_at};
 use crate::{looks, transfers};
@@ -126,41 +126,31 @@ fn images_asked(
     alloc: Global,
     words: &[String],
     verb: Verb,
+    access: Access,
 ) -> Result<Images, Refused> {
-    let access = if verb == Verb::Put {
-        Access::Writes
-    } else {
-        Access::Reads
-    };
     let end = end_of_images(words, verb);
     open_images(rt, alloc, words, first_image(words)..end, access)
 }
 
-/// Puts a file of standard input into the domain, or prints one.
-fn transfer(
-    rt: &impl Host,
-    alloc: Global,
-    words: &[String],
-    verb: Verb,
-    owner: FileOwner,
-) -> Result<(), Refused> {
-    let bytes = if verb == Verb::Put {
-        transfers::bytes_given(rt, alloc)?
-    } else {
-        Vec::new(alloc)
-    };
-    let images = images_asked(rt, alloc, words, verb)?;
-    let sizes = sizes_of(alloc, &images)?;
+/// Makes a file of standard input.
+fn put(rt: &impl Host, alloc: Global, words: &[String], owner: FileOwner) -> Result<(), Refused> {
+    let (verb, access) = (Verb::Put, Access::Writes);
+    let bytes = transfers::bytes_given(rt, alloc)?;
+    let images = images_asked(rt, alloc, words, verb, access)?;
     let place = word_at(words, end_of_images(words, verb));
-    let progress = Progress::new(rt, sizes.as_slice());
+    let progress = Progress::new(rt, access);
     let rack = Watched::new(images.into_rack(alloc)?, &progress);
-    let done = if verb == Verb::Put {
-        transfers::put(alloc, place, owner, bytes.as_slice(), rack, &progress)
-    } else {
-        transfers::get(rt, alloc, place, rack, &progress)
-    };
-    progress.end();
-    done
+    transfers::put(alloc, place, owner, bytes.as_slice(), rack, &progress)
+}
+
+/// Prints the bytes of a file.
+fn get(rt: &impl Host, alloc: Global, words: &[String]) -> Result<(), Refused> {
+    let (verb, access) = (Verb::Get, Access::Reads);
+    let images = images_asked(rt, alloc, words, verb, access)?;
+    let place = word_at(words, end_of_images(words, verb));
+    let progress = Progress::new(rt, access);
+    let rack = Watched::new(images.into_rack(alloc)?, &progress);
+    transfers::get(rt, alloc, place, rack, &progress)
 }
 
 /// Shows what the domain has.
@@ -170,7 +160,8 @@ fn look(
     words: &[String],
     verb: Verb,
 ) -> Result<(), Refused> {
-    let rack = images_asked(rt, alloc, words, verb)?.into_rack(alloc)?;
+    let images = images_asked(rt, alloc, words, verb, Access::Reads)?;
+    let rack = images.into_rack(alloc)?;
     let place = word_at(words, end_of_images(words, verb));
     let lines = word_at(words, 1) == LINES_WORD;
     match verb {
@@ -198,7 +189,8 @@ pub(crate) fn do_errand(
         return Err(Refused::Ended(status));
     }
     match verb {
-        Verb::Put | Verb::Get => transfer(rt, alloc, words, verb, owner),
+        Verb::Put => put(rt, alloc, words, owner),
+        Verb::Get => get(rt, alloc, words),
         _ => look(rt, alloc, words, verb),
     }
 }

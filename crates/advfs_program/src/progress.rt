@@ -2,9 +2,9 @@
 ghost use Rattle.std.specs.Prelude.{◌≡◌};
 
 use crate::host::Host;
-use advfs_run::limits::PAGE_BYTES;
+use crate::images::Access;
 use advfs_run::{Failed, Gate, Rack, VolIx};
-use std::sync::atomic::{AtomicBool, AtomicU64, Ordering};
+use std::sync::atomic::{AtomicU64, Ordering};
 
 /// How many milliseconds pass before something is told again.
 const PAUSE: u64 = 1_000;
@@ -12,16 +12,16 @@ const PAUSE: u64 = 1_000;
 /// The bytes of a MiB.
 const MIB: u64 = 1_048_576;
 
-/// How far a command is. It is told on standard error once a second, if that is a terminal.
+/// How far a command is. It is told on standard error at most once a second, a line each time, if
+/// that is a terminal.
 #[derive(Drop)]
 pub(crate) struct Progress<'a, H> {
     host: &'a H,
     is_watched: bool,
-    /// How many MiB the images have.
-    size: u64,
+    /// Whether the images are open for writing, too.
+    writes: bool,
     /// When it began, or was told last, in milliseconds of the clock.
     last: AtomicU64,
-    has_told: AtomicBool,
     /// The bytes that were read and written, and the commands that were answered.
     read: AtomicU64,
     written: AtomicU64,
@@ -47,20 +47,15 @@ fn raise(count: &AtomicU64, by: usize) -> u64 {
 }
 
 impl<'a, H: Host> Progress<'a, H> {
-    /// A command begins on images with these numbers of pages.
-    pub(crate) fn new(host: &'a H, sizes: &[u32]) -> Progress<'a, H> {
-        let mut pages: u64 = 0;
-        for size in sizes {
-            pages = pages.saturating_add(u64::from(*size));
-        }
+    /// A command begins.
+    pub(crate) fn new(host: &'a H, access: Access) -> Progress<'a, H> {
         let is_watched = host.is_watched();
         let begin = if is_watched { milliseconds(host) } else { 0 };
         Progress {
             host,
             is_watched,
-            size: pages.saturating_mul(PAGE_BYTES as u64) / MIB,
+            writes: access == Access::Writes,
             last: AtomicU64::new(begin),
-            has_told: AtomicBool::new(false),
             read: AtomicU64::new(0),
             written: AtomicU64::new(0),
             answered: AtomicU64::new(0),
@@ -77,20 +72,19 @@ impl<'a, H: Host> Progress<'a, H> {
             return;
         }
         self.last.store(now, Ordering::Relaxed);
-        self.has_told.store(true, Ordering::Relaxed);
         let read = self.read.load(Ordering::Relaxed) / MIB;
         let written = self.written.load(Ordering::Relaxed) / MIB;
-        let (size, answered) = (self.size, self.answered.load(Ordering::Relaxed));
-        let _ = eprint!(self.host;
-            "\radvfs: {read} MiB read of {size}, {answered} commands answered, {written} MiB written"
+        let answered = self.answered.load(Ordering::Relaxed);
+        let _ = eprintln!(self.host;
+            "advfs: {read} MiB read, {answered} commands answered, {written} MiB written"
         );
     }
 
-    /// Tells that the images are written from here on.
+    /// Tells that the image is written from here on.
     fn tell_writing(&self) {
-        if self.is_watched {
+        if self.is_watched && self.writes {
             let _ = eprintln!(self.host;
-                "\radvfs: the image is being written: a stop from here on may leave it incomplete"
+                "advfs: the image is being written: a stop from here on may leave it incomplete"
             );
         }
     }
@@ -115,10 +109,12 @@ impl<'a, H: Host> Progress<'a, H> {
         self.tell();
     }
 
-    /// Ends the line in which something was told.
-    pub(crate) fn end(&self) {
-        if self.has_told.load(Ordering::Relaxed) {
-            let _ = eprintln!(self.host; "");
+    /// So many bytes of a file of `size` bytes were put in or taken out. It is told at once if the
+    /// file is not done with that.
+    pub(crate) fn tell_file(&self, bytes: u64, size: u64) {
+        if self.is_watched && bytes < size {
+            let (done, all) = (bytes / MIB, size / MIB);
+            let _ = eprintln!(self.host; "advfs: {done} of {all} MiB of the file");
         }
     }
 }

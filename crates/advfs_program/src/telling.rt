@@ -136,7 +136,8 @@ fn tell_no_domain(rt: &impl Eprint, words: &[String], vol: u32, at: u32) -> io::
     match at {
         0 => eprintln!(rt; "{name}: page 0 is not the label of volume {vol} of the domain.")?,
         1 => eprintln!(rt;
-            "{name}: no anchor counts: there is no domain, or its images stand in another order."
+            "{name}: no anchor counts: there is no domain, an image of it is not named, or its images \
+            stand in another order."
         )?,
         _ => eprintln!(rt; "{name}: page {at} breaks a rule of domains.")?,
     }
@@ -176,7 +177,8 @@ fn tell_volume_fault(rt: &impl Eprint, words: &[String], vol: u32) -> io::Result
         ),
         "get" | "list" | "showfdmn" | "showfsets" => tell_unsettled(rt),
         _ if only_reads(words) => eprintln!(rt;
-            "It is open read-only because of -r, so nothing was written."
+            "It is open read-only because of -r, so nothing was written. If the script only \
+            looks, its log may not be settled: run one with `sync` first."
         ),
         _ => eprintln!(rt;
             "If replies were printed, a part of them may be written: `advfs verify` \
@@ -200,9 +202,13 @@ fn tell_sink_fault(rt: &impl Eprint, words: &[String]) -> io::Result<()> {
 /// Tells that memory ran out.
 fn tell_no_memory(rt: &impl Eprint, words: &[String]) -> io::Result<()> {
     match word_at(words, 0) {
-        "run" | "put" => eprintln!(rt;
+        "run" => eprintln!(rt;
             "There was not enough memory. The commands were not done, or only \
             their text had no room: ask the image with another script."
+        ),
+        "put" => eprintln!(rt;
+            "There was not enough memory. The file may be incomplete, and what it held before \
+            lost: put it again."
         ),
         _ => eprintln!(rt; "There was not enough memory."),
     }
@@ -213,7 +219,10 @@ fn tell_too_long(rt: &impl Eprint, words: &[String]) -> io::Result<()> {
     let name = script_name(words);
     match word_at(words, 0) {
         "put" => eprintln!(rt; "{name} has more than 536870912 bytes, and no file may."),
-        _ => eprintln!(rt; "{name} has more than 33554432 bytes: cut it into several scripts."),
+        _ => eprintln!(rt;
+            "{name} has more than 33554432 bytes: cut it into several scripts. A script is named \
+            before the images."
+        ),
     }
 }
 
@@ -259,7 +268,10 @@ fn tell_words(rt: &impl Eprint, words: &[String], status: Status) -> io::Result<
         Status::OutOfMemory => tell_no_memory(rt, words),
         Status::VolumeSmall { pages } => {
             let name = volume_name(words, 1);
-            eprintln!(rt; "{name} has {pages} whole pages, and a domain needs 160: 1310720 bytes.")
+            eprintln!(rt;
+                "{name} has {pages} whole pages, and a domain needs 160: `truncate -s 1310720 \
+                {name}` makes it so large."
+            )
         }
         Status::Unfit { why } => tell_unfit(rt, words, why),
     }
@@ -277,7 +289,8 @@ pub(crate) fn tell(rt: &impl Eprint, words: &[String], status: Status) -> io::Re
 /// What each code of a fault means, from code 1 on.
 const CODE_WORDS: [&str; 10] = [
     "the label of a volume: the wrong file, an incomplete one, or volumes in another order",
-    "no anchor counts: there is no domain, or its images stand in another order",
+    "no anchor counts: there is no domain, an image of it is not named, or its images stand in \
+    another order",
     "a group of the log: keep the image, and take a copy from your backup",
     "the table of filesets: the list of files cannot be trusted",
     "cells: the list of files cannot be trusted",

@@ -191,6 +191,7 @@ pub(crate) fn put<R: Rack + Drop, H: Host>(
     for page in bytes.chunks(PAGE_BYTES) {
         if count >= COMMANDS || script.len() >= SCRIPT_BYTES {
             rack = put_part(alloc, script, rack, progress)?;
+            progress.tell_file(offset, bytes.len() as u64);
             script = new_script(alloc)?;
             count = 0;
         }
@@ -282,6 +283,7 @@ pub(crate) fn get<R: Rack + Drop, H: Host>(
         rack = back;
         progress.count_answers(history.len());
         offset = offset.saturating_add(print_pages(rt, alloc, history.as_slice())?);
+        progress.tell_file(offset, end);
     }
     Ok(())
 }
