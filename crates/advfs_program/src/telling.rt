@@ -134,6 +134,7 @@ fn tell_usage(rt: &impl Eprint, words: &[String], word: usize) -> io::Result<()>
 fn tell_no_domain(rt: &impl Eprint, words: &[String], vol: u32, at: u32) -> io::Result<()> {
     let name = volume_name(words, vol);
     match at {
+        0 if name.is_empty() => eprintln!(rt; "No image is named for volume {vol} of the domain.")?,
         0 => eprintln!(rt; "{name}: page 0 is not the label of volume {vol} of the domain.")?,
         1 => eprintln!(rt;
             "{name}: no anchor counts: there is no domain, an image of it is not named, or its images \
@@ -288,7 +289,8 @@ pub(crate) fn tell(rt: &impl Eprint, words: &[String], status: Status) -> io::Re
 
 /// What each code of a fault means, from code 1 on.
 const CODE_WORDS: [&str; 10] = [
-    "the label of a volume: the wrong file, an incomplete one, or volumes in another order",
+    "the label of a volume: no image is named for it, or the wrong file, an incomplete one, or \
+    volumes in another order",
     "no anchor counts: there is no domain, an image of it is not named, or its images stand in \
     another order",
     "a group of the log: keep the image, and take a copy from your backup",
