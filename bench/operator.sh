@@ -206,8 +206,9 @@ printf '\0\002\0\0\001\0\0\0' | at one.img 8760
 ends "two volumes" 0 "two.img: sound; version 4, 512 pages" "$advfs" verify one.img two.img
 ends "the counts of two volumes" 0 "one.img: sound; version 4, 0 filesets, 0 files, 512 pages" \
     "$advfs" verify one.img two.img
-ends "the first of two volumes" 6 "no anchor counts" "$advfs" run look one.img
-ends "the first of two volumes is verified" 9 "code 2: no anchor counts" "$advfs" verify one.img
+ends "the first of two volumes" 6 "No image is named for volume 2" "$advfs" run look one.img
+ends "the first of two volumes is verified" 9 "no image is named for it" "$advfs" verify one.img
+ends "the second of two volumes" 6 "an image of it is not named" "$advfs" run look two.img
 ends "two volumes in the other order" 9 "its images stand in another order" \
     "$advfs" verify two.img one.img
 ends "a look at two volumes in the other order" 6 "its images stand in another order" \

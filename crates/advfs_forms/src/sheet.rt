@@ -56,8 +56,7 @@ impl<'a> Sheet<'a> {
             return Ok(ExitCode::SUCCESS);
         }
         println!(self.rt; "{}", self.head)?;
-        let (text, is_watched) = (self.text.as_slice(), self.works.is_watched);
-        let stage = Stage::new(self.rt, self.alloc, self.head, text, is_watched);
+        let stage = Stage::new(self.rt, self.alloc, self.head, self.text.as_slice());
         let code = program(&stage, self.alloc);
         stage.end_line()?;
         Ok(code)
@@ -74,13 +73,7 @@ impl<'a> Sheet<'a> {
         if !head.starts_with("$ ") {
             return self.works.perform(self.rt, head, text.as_slice());
         }
-        let stage = Stage::new(
-            self.rt,
-            self.alloc,
-            head,
-            text.as_slice(),
-            self.works.is_watched,
-        );
+        let stage = Stage::new(self.rt, self.alloc, head, text.as_slice());
         let number = perform(&stage, self.alloc);
         stage.end_line()?;
         println!(self.rt; "-> {number}")

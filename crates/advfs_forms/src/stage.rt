@@ -8,12 +8,8 @@ use std::fmt::Display;
 use std::fs::{File, Metadata, OpenOptions};
 use std::io;
 use std::io::{BufRead, Lines};
-use std::rt::{Clock, Env, Files};
-use std::sync::atomic::{AtomicBool, AtomicU64, Ordering};
-use std::time::Duration;
-
-/// By how many milliseconds the clock goes on each time that it is looked at.
-const STEP: u64 = 10;
+use std::rt::{Env, Files};
+use std::sync::atomic::{AtomicBool, Ordering};
 
 /// What a run of the program has around it.
 #[derive(Drop)]
@@ -24,29 +20,18 @@ pub struct Stage<'a> {
     line: &'a str,
     /// Standard input.
     text: &'a [u8],
-    is_watched: bool,
-    /// What the clock shows, in milliseconds.
-    clock: AtomicU64,
     /// Whether the last line that was printed has its end.
     is_ended: AtomicBool,
 }
 
 impl<'a> Stage<'a> {
     /// A stage with the words of a line and this standard input.
-    pub fn new(
-        rt: &'a HostRuntime,
-        alloc: Global,
-        line: &'a str,
-        text: &'a [u8],
-        is_watched: bool,
-    ) -> Stage<'a> {
+    pub fn new(rt: &'a HostRuntime, alloc: Global, line: &'a str, text: &'a [u8]) -> Stage<'a> {
         Stage {
             rt,
             alloc,
             line,
             text,
-            is_watched,
-            clock: AtomicU64::new(0),
             is_ended: AtomicBool::new(true),
         }
     }
@@ -144,18 +129,6 @@ impl Env for Stage<'_> {
     }
 }
 
-impl Clock for Stage<'_> {
-    fn monotonic(&self) -> io::Result<Duration> {
-        let now = self.clock.load(Ordering::Relaxed).saturating_add(STEP);
-        self.clock.store(now, Ordering::Relaxed);
-        Ok(Duration::from_millis(now))
-    }
-
-    fn since_1970(&self) -> io::Result<Duration> {
-        self.monotonic()
-    }
-}
-
 impl Files for Stage<'_> {
     type File = File;
 
@@ -203,7 +176,7 @@ impl Files for Stage<'_> {
 }
 
 impl Host for Stage<'_> {
-    fn is_watched(&self) -> bool {
-        self.is_watched
+    fn terminal(&self) -> Option<&HostRuntime> {
+        None
     }
 }

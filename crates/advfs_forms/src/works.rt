@@ -8,8 +8,6 @@
 //! - `same FILE OTHER`: prints whether they have the same bytes.
 //! - `shared FILE` and `alone FILE`: hold a lock on a file as another program would, which others
 //!   may share or not, until `free`.
-//! - `watched`: from here on standard error is a terminal for the program, whose clock goes on by
-//!   10 milliseconds each time that it is looked at; until `unwatched`.
 //! - `note WORDS`: nothing; it is a heading.
 
 use std::fs::{File, OpenOptions};
@@ -25,8 +23,6 @@ const PAGE_BYTES: u64 = 8_192;
 pub struct Works {
     /// A file on which a lock is held.
     held: Option<File>,
-    /// Whether standard error is a terminal for the program.
-    pub is_watched: bool,
 }
 
 /// Opens a new file to be written, or one that is emptied.
@@ -101,10 +97,7 @@ fn print_same(rt: &HostRuntime, name: &str, other: &str) -> io::Result<()> {
 impl Works {
     /// Nothing was done.
     pub fn new() -> Works {
-        Works {
-            held: None,
-            is_watched: false,
-        }
+        Works { held: None }
     }
 
     /// Takes a lock on a file.
@@ -146,8 +139,6 @@ impl Works {
                 let _ = fs::copy(rt, name, other)?;
             }
             "free" => self.held = None,
-            "watched" => self.is_watched = true,
-            "unwatched" => self.is_watched = false,
             _ => {}
         }
         Ok(())

@@ -92,7 +92,7 @@ fn start_script(rt: &impl Host, alloc: Global, words: &[String]) -> Result<Statu
     let rack = images.into_rack(alloc)?;
     let mut source = MemorySource::new(text, Vec::new(alloc));
     let mut sink = WriterSink::new(io::writer(rt));
-    let progress = Progress::new(rt, access);
+    let progress = Progress::new(rt.terminal(), access);
     let rack = Watched::new(rack, &progress);
     let ended = run(alloc, words, &mut source, rack, &mut sink, &progress);
     let status = ended.status;
@@ -155,7 +155,7 @@ fn start_verify(rt: &impl Host, alloc: Global, words: &[String]) -> Result<Statu
     let rack = images.into_rack(alloc)?;
     let mut source = ReaderSource::new(rt.reader());
     let mut sink = CodeSink::new(WriterSink::new(io::writer(rt)));
-    let progress = Progress::new(rt, Access::Reads);
+    let progress = Progress::new(rt.terminal(), Access::Reads);
     let rack = Watched::new(rack, &progress);
     let ended = run(alloc, words, &mut source, rack, &mut sink, &progress);
     let (status, counts) = (ended.status, ended.counts);

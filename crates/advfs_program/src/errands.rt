@@ -138,7 +138,7 @@ fn put(rt: &impl Host, alloc: Global, words: &[String], owner: FileOwner) -> Res
     let bytes = transfers::bytes_given(rt, alloc)?;
     let images = images_asked(rt, alloc, words, verb, access)?;
     let place = word_at(words, end_of_images(words, verb));
-    let progress = Progress::new(rt, access);
+    let progress = Progress::new(rt.terminal(), access);
     let rack = Watched::new(images.into_rack(alloc)?, &progress);
     transfers::put(alloc, place, owner, bytes.as_slice(), rack, &progress)
 }
@@ -148,7 +148,7 @@ fn get(rt: &impl Host, alloc: Global, words: &[String]) -> Result<(), Refused> {
     let (verb, access) = (Verb::Get, Access::Reads);
     let images = images_asked(rt, alloc, words, verb, access)?;
     let place = word_at(words, end_of_images(words, verb));
-    let progress = Progress::new(rt, access);
+    let progress = Progress::new(rt.terminal(), access);
     let rack = Watched::new(images.into_rack(alloc)?, &progress);
     transfers::get(rt, alloc, place, rack, &progress)
 }

@@ -2,16 +2,19 @@
 
 use std::fs::File;
 use std::io::IsTerminal;
-use std::rt::{Clock, Env, Files};
+use std::rt::{Env, Files};
 
-/// The machine around the program: its words, its standard streams, its files and its clock.
-pub trait Host: Env + Input + Print + Eprint + Files<File = File> + Clock + Sync {
-    /// Whether standard error is a terminal, on which a long command tells how far it is.
-    fn is_watched(&self) -> bool;
+/// The machine around the program: its words, its standard streams and its files.
+pub trait Host: Env + Input + Print + Eprint + Files<File = File> {
+    /// Where a long command tells how far it is: if standard error is a terminal.
+    fn terminal(&self) -> Option<&HostRuntime>;
 }
 
 impl Host for HostRuntime {
-    fn is_watched(&self) -> bool {
-        self.stderr().is_terminal()
+    fn terminal(&self) -> Option<&HostRuntime> {
+        if self.stderr().is_terminal() {
+            return Some(self);
+        }
+        None
     }
 }

@@ -1,9 +1,9 @@
 //! What a long command tells of itself while it works.
 ghost use Rattle.std.specs.Prelude.{◌≡◌};
 
-use crate::host::Host;
 use crate::images::Access;
 use advfs_run::{Failed, Gate, Rack, VolIx};
+use std::rt::Clock;
 use std::sync::atomic::{AtomicU64, Ordering};
 
 /// How many milliseconds pass before something is told again.
@@ -15,9 +15,8 @@ const MIB: u64 = 1_048_576;
 /// How far a command is. It is told on standard error at most once a second, a line each time, if
 /// that is a terminal.
 #[derive(Drop)]
-pub(crate) struct Progress<'a, H> {
-    host: &'a H,
-    is_watched: bool,
+pub(crate) struct Progress<'a> {
+    terminal: Option<&'a HostRuntime>,
     /// Whether the images are open for writing, too.
     writes: bool,
     /// When it began, or was told last, in milliseconds of the clock.
@@ -29,8 +28,8 @@ pub(crate) struct Progress<'a, H> {
 }
 
 /// What a clock shows in milliseconds.
-fn milliseconds(host: &impl Host) -> u64 {
-    match host.monotonic() {
+fn milliseconds(rt: &HostRuntime) -> u64 {
+    match rt.monotonic() {
         Ok(time) => {
             let whole = time.as_secs().saturating_mul(1_000);
             whole.saturating_add(u64::from(time.subsec_millis()))
@@ -46,14 +45,15 @@ fn raise(count: &AtomicU64, by: usize) -> u64 {
     before
 }
 
-impl<'a, H: Host> Progress<'a, H> {
+impl<'a> Progress<'a> {
     /// A command begins.
-    pub(crate) fn new(host: &'a H, access: Access) -> Progress<'a, H> {
-        let is_watched = host.is_watched();
-        let begin = if is_watched { milliseconds(host) } else { 0 };
+    pub(crate) fn new(terminal: Option<&'a HostRuntime>, access: Access) -> Progress<'a> {
+        let begin = match terminal {
+            Some(rt) => milliseconds(rt),
+            None => 0,
+        };
         Progress {
-            host,
-            is_watched,
+            terminal,
             writes: access == Access::Writes,
             last: AtomicU64::new(begin),
             read: AtomicU64::new(0),
@@ -64,10 +64,10 @@ impl<'a, H: Host> Progress<'a, H> {
 
     /// Tells how far the command is, if a second has passed since it was told last.
     fn tell(&self) {
-        if !self.is_watched {
+        let Some(rt) = self.terminal else {
             return;
-        }
-        let now = milliseconds(self.host);
+        };
+        let now = milliseconds(rt);
         if now.saturating_sub(self.last.load(Ordering::Relaxed)) < PAUSE {
             return;
         }
@@ -75,17 +75,20 @@ impl<'a, H: Host> Progress<'a, H> {
         let read = self.read.load(Ordering::Relaxed) / MIB;
         let written = self.written.load(Ordering::Relaxed) / MIB;
         let answered = self.answered.load(Ordering::Relaxed);
-        let _ = eprintln!(self.host;
+        let _ = eprintln!(rt;
             "advfs: {read} MiB read, {answered} commands answered, {written} MiB written"
         );
     }
 
     /// Tells that the image is written from here on.
     fn tell_writing(&self) {
-        if self.is_watched && self.writes {
-            let _ = eprintln!(self.host;
-                "advfs: the image is being written: a stop from here on may leave it incomplete"
-            );
+        match self.terminal {
+            Some(rt) if self.writes => {
+                let _ = eprintln!(rt;
+                    "advfs: the image is being written: a stop from here on may leave it incomplete"
+                );
+            }
+            _ => {}
         }
     }
 
@@ -112,14 +115,17 @@ impl<'a, H: Host> Progress<'a, H> {
     /// So many bytes of a file of `size` bytes were put in or taken out. It is told at once if the
     /// file is not done with that.
     pub(crate) fn tell_file(&self, bytes: u64, size: u64) {
-        if self.is_watched && bytes < size {
-            let (done, all) = (bytes / MIB, size / MIB);
-            let _ = eprintln!(self.host; "advfs: {done} of {all} MiB of the file");
+        match self.terminal {
+            Some(rt) if bytes < size => {
+                let (done, all) = (bytes / MIB, size / MIB);
+                let _ = eprintln!(rt; "advfs: {done} of {all} MiB of the file");
+            }
+            _ => {}
         }
     }
 }
 
-impl<H: Host> Gate for Progress<'_, H> {
+impl Gate for Progress<'_> {
     fn pass(&self, _actor: u32, turn: u64) {
         self.answered.store(turn, Ordering::Relaxed);
         self.tell();
@@ -128,14 +134,14 @@ impl<H: Host> Gate for Progress<'_, H> {
 
 /// A rack of which is told how much is read and written.
 #[derive(Drop)]
-pub(crate) struct Watched<'a, R, H> {
+pub(crate) struct Watched<'a, R> {
     rack: R,
-    progress: &'a Progress<'a, H>,
+    progress: &'a Progress<'a>,
 }
 
-impl<'a, R: Rack, H: Host> Watched<'a, R, H> {
+impl<'a, R: Rack> Watched<'a, R> {
     /// Watches a rack.
-    pub(crate) fn new(rack: R, progress: &'a Progress<'a, H>) -> Watched<'a, R, H>
+    pub(crate) fn new(rack: R, progress: &'a Progress<'a>) -> Watched<'a, R>
         ensures { result.rack ≡ rack }
     {
         Watched { rack, progress }
@@ -143,14 +149,14 @@ impl<'a, R: Rack, H: Host> Watched<'a, R, H> {
 
     /// Gives the rack back.
     pub(crate) fn into_rack(self) -> R
-        ensures { result ≡ self.rack }
+        ensures { result ≡ self.entry.rack }
     {
         let Watched { rack, .. } = self;
         rack
     }
 }
 
-impl<R: Rack, H: Host> Rack for Watched<'_, R, H> {
+impl<R: Rack> Rack for Watched<'_, R> {
     ghost disk = { λ watched. R.disk watched.rack };
 
     ghost holds_bytes = { λ watched told. R.holds_bytes watched.rack told };

@@ -2,7 +2,6 @@
 //! `truncate`, `write` and `read`.
 
 use crate::errands::FileOwner;
-use crate::host::Host;
 use crate::opening::Refused;
 use crate::progress::Progress;
 use advfs_run::limits::{FILE_BYTES, FILE_PAGES, PAGE_BYTES};
@@ -158,11 +157,11 @@ fn is_refused(entry: &Entry) -> bool {
 }
 
 /// Runs a script that puts a part of a file.
-fn put_part<R: Rack + Drop, H: Host>(
+fn put_part<R: Rack + Drop>(
     alloc: Global,
     script: Vec<u8>,
     rack: R,
-    progress: &Progress<'_, H>,
+    progress: &Progress<'_>,
 ) -> Result<R, Refused> {
     let (rack, history) = answers_to(alloc, script, rack)?;
     progress.count_answers(history.len());
@@ -175,13 +174,13 @@ fn put_part<R: Rack + Drop, H: Host>(
 }
 
 /// Puts bytes into the file at a place, which is made if it is not there; what it held is lost.
-pub(crate) fn put<R: Rack + Drop, H: Host>(
+pub(crate) fn put<R: Rack + Drop>(
     alloc: Global,
     place: &str,
     owner: FileOwner,
     bytes: &[u8],
     rack: R,
-    progress: &Progress<'_, H>,
+    progress: &Progress<'_>,
 ) -> Result<(), Refused> {
     let mut rack = rack;
     let mut script = new_script(alloc)?;
@@ -263,12 +262,12 @@ fn print_pages(rt: &impl Print, alloc: Global, history: &[Entry]) -> Result<u64,
 }
 
 /// Prints the bytes of the file at a place.
-pub(crate) fn get<R: Rack + Drop, H: Host>(
+pub(crate) fn get<R: Rack + Drop>(
     rt: &impl Print,
     alloc: Global,
     place: &str,
     rack: R,
-    progress: &Progress<'_, H>,
+    progress: &Progress<'_>,
 ) -> Result<(), Refused> {
     let (mut rack, asked) = answers_to(alloc, look(alloc, "stat", place)?, rack)?;
     let end = pages_to_read(asked.as_slice().first()).saturating_mul(PAGE_BYTES as u64);
