@@ -1,7 +1,6 @@
 //! Changes and headers: what they hold, and what is made of them.
 
 use crate::reading::{at, byte, home_at, say_numbers, say_whether, small};
-use crate::seen::full_of;
 use log_recovery::limits::{BLOCK_BYTES, PAGE_BYTES};
 use log_recovery::{
     Change, HeaderRead, Home, MemoryPages, MetaPages, Page, VolIx, read_header, write_header,
@@ -188,8 +187,10 @@ fn write_read(alloc: Global, from: &Page, to: &mut Page) -> bool {
 
 /// Whether a page has a byte in each place of its gate.
 fn has_gate(page: &Page, gate: u8) -> bool {
-    let bytes = page.bytes();
-    full_of(&bytes[..BLOCK_BYTES]) == gate
+    page.bytes()
+        .iter()
+        .take(BLOCK_BYTES)
+        .all(|byte| *byte == gate)
 }
 
 /// Whether two pages have the same bytes after their gates.
