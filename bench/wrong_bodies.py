@@ -9,10 +9,10 @@ It works on a copy of the repository in FOLDER (a new one below /tmp if none is 
 `rt ci` first gives the libraries; or those are taken that stand below crates/ of the folder named
 by --built. N crates are tried side by side.
 
-Since a function is proved from the contracts of those that it calls, bodies of functions that do
-not call each other are laid over one copy of their crate, and one check tells of each whether its
-function is still proved. A body that its function's contract lets through is tried again alone,
-with the whole crate.
+Since a function is proved from the contracts of those that it calls, bodies of different functions
+are laid over one copy of their crate, and one check tells of each whether goals of its function are
+left open. A body that its function's contract lets through is tried again alone, with the whole
+crate.
 
 What each comes to is added to FOLDER/verdicts at once, with a sum of the crate's text and of the
 body, so a run that was cut off goes on there. At the end it prints the counts and each body that
@@ -117,24 +117,15 @@ def bodies_of(crate, texts):
     return found
 
 
-def calls(texts, body, other):
-    """Whether the function of a body seems to call that of another one."""
-    path, old, _ = body.changes[0]
-    own = function_at(path, texts[path], texts[path].find(old))[1]
-    *above, name = other.function.split("::")
-    before = "[.:]" if above and above[-1][0].isupper() else r"(?<![.\w])"
-    return re.search(rf"{before}{name}\b", own[own.find("(") :]) is not None
-
-
 def groups_of(texts, bodies):
-    """Bodies that are tried together: their functions differ, and none calls another one."""
+    """Bodies that are tried together: their functions differ."""
     groups = []
     for body in bodies:
-        fits = lambda group: all(
-            it.function and body.function and it.function != body.function
-            and not calls(texts, it, body) and not calls(texts, body, it)
-            for it in group
-        ) and changed(functools.reduce(changed, group, texts), body)
+        fits = lambda group: (
+            body.function
+            and all(it.function and it.function != body.function for it in group)
+            and changed(functools.reduce(changed, group, texts), body)
+        )
         group = next((it for it in groups if fits(it)), None)
         if group is None:
             groups.append([body])
@@ -202,23 +193,28 @@ def is_in(function, name):
     return f"::{function}::" in f"::{name}::"
 
 
-def own_word(function, found):
+def goals_of(function, found, said):
+    """The goals of a function, and of the closures in it, that are left open or answered wrongly."""
+    lines = [more for name, its in found.items() if is_in(function, name) for _, more in its]
+    goals = [goal for more in lines if "did not prove" in more for goal in GOAL.findall(more.split("did not prove")[1].split("; it calls")[0])]
+    return goals + [goal for path, goal in REFUSED_GOAL.findall(said) if is_in(function, path.replace("/", "::"))]
+
+
+def own_word(function, found, said):
     """What was told of a function and of the closures in it: refused, not asked since what it calls
     is refused, a limit, proved, or nothing."""
     lines = [it for name, its in found.items() if is_in(function, name) for it in its]
     refused = [more for word, more in lines if word in ("no proof", "not proved")]
     if refused:
-        return "above" if all("it calls" in more for more in refused) else "refused"
+        is_above = all("it calls" in more for more in refused) and not goals_of(function, found, said)
+        return "above" if is_above else "refused"
     words = {word for word, _ in lines}
     return "limit" if "could not tell" in words else "proved" if words else ""
 
 
 def refusal(function, found, said):
     """Whether a function that is refused is so by a clause, and the names of its clauses at fault."""
-    lines = [more for name, its in found.items() if is_in(function, name) for _, more in its]
-    goals = [goal for more in lines if "did not prove" in more for goal in GOAL.findall(more.split("did not prove")[1])]
-    goals += [goal for path, goal in REFUSED_GOAL.findall(said) if is_in(function, path.replace("/", "::"))]
-    at_end = [goal for goal in goals if goal.startswith("returns")]
+    at_end = [goal for goal in goals_of(function, found, said) if goal.startswith("returns")]
     clauses = dict.fromkeys(it[1] for it in map(re.compile(r"clause-([\w-]+)$").search, at_end) if it)
     return "clause" if at_end else "inside", function + (f" ({', '.join(clauses)})" if clauses else "")
 
@@ -231,11 +227,11 @@ def try_alone(room, texts, body):
         return "missed", ""
     if UNREAD.search(said):
         return "unfit", ""
-    refused = [name for name in found if own_word(name, found) == "refused"]
+    refused = [name for name in found if own_word(name, found, said) == "refused"]
     if status == 1 and refused:
-        is_own = body.function and own_word(body.function, found) == "refused"
+        is_own = body.function and own_word(body.function, found, said) == "refused"
         return refusal(body.function, found, said) if is_own else ("elsewhere", refused[0])
-    limit = [name for name in found if own_word(name, found) == "limit"]
+    limit = [name for name in found if own_word(name, found, said) == "limit"]
     return ("limit", limit[0]) if status == 3 and limit else None
 
 
@@ -248,7 +244,7 @@ def try_group(room, texts, group):
         return try_group(room, texts, group[:half]) + try_group(room, texts, group[half:])
     found, left = told(group[0].crate, said), []
     for body in group:
-        word = own_word(body.function, found)
+        word = own_word(body.function, found, said)
         if word == "refused":
             room.add(body, *refusal(body.function, found, said))
         elif word == "limit":
