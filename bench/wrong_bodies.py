@@ -3,7 +3,7 @@
 crates/CRATE/must-fail. Each changes lines of the code, and the prover has to refuse it.
 
 usage: python3 bench/wrong_bodies.py [--at FOLDER] [--built FOLDER] [--jobs N] [--table FILE]
-                                     [CRATE..]
+                                     [--told] [CRATE..]
 
 It works on a copy of the repository in FOLDER (a new one below /tmp if none is named), for which
 `rt ci` first gives the libraries; or those are taken that stand below crates/ of the folder named
@@ -16,17 +16,20 @@ crate.
 
 What each comes to is added to FOLDER/verdicts at once, with a sum of the crate's text and of the
 body, so a run that was cut off goes on there. At the end it prints the counts and each body that
-was not refused, and writes all verdicts as a table to FILE.
+was not refused, and writes all verdicts as a table to FILE; with --told it does this alone.
 """
 import argparse, collections, concurrent.futures, functools, hashlib, os, pathlib, re, shutil
-import subprocess, sys, tempfile, threading
+import subprocess, sys, tempfile, textwrap, threading
 
 TOP = pathlib.Path(__file__).resolve().parent.parent
 FUNCTION = re.compile(r"^( *)(?:pub(?:\([a-z]+\))? )?(?:const )?(?:unsafe )?fn (\w+)", re.M)
 BLOCK = re.compile(r"^(?:impl|(?:pub(?:\([a-z]+\))? )?trait)\b([^{]*)", re.M)
 TOLD = re.compile(r"^fn (\S+?)(?:: (proved|not proved|no proof|could not tell)\b(.*)|$)", re.M)
-# What the check says of an error that is of the code itself, so that nothing was asked of a contract.
-UNREAD = re.compile(r"error\[[\w-]+\]|^(?:\./)?src/\S+: error:.*(?:is not in scope|has no field)", re.M)
+# What a check says of an error in the code itself, so that nothing was asked of a contract.
+UNREAD = re.compile(
+    r"error\[[\w-]+\]|^(?:\./)?src/\S+: error:.*(?:is not in scope|has no field)", re.M
+)
+CLAUSE = re.compile(r"clause-([\w-]+)$")
 GOAL = re.compile(r"`([\w.+-]+)`")
 REFUSED_GOAL = re.compile(r"^(?:\./)?proofs/(\S+?)/\w+\.antt:\S* error: `([\w.+-]+)`", re.M)
 VERDICTS = {
@@ -59,7 +62,7 @@ def changes_of(text):
 
 
 def changed(texts, body):
-    """Texts by their paths with a body's changes, or None if an old text does not stand there once."""
+    """Texts with a body's changes, or None if an old text does not stand in its file once."""
     texts = dict(texts)
     for path, old, new in body.changes:
         if texts.get(path, "").count(old) != 1:
@@ -78,42 +81,52 @@ def without_brackets(text):
 def holder_of(head):
     """The name by which a check calls what a block of functions belongs to."""
     words = without_brackets(head).split(" where ")[0].split(" for ")
-    return "".join(re.sub(r"\W", "", word.split("::")[-1].split(":")[0]) for word in [words[-1], *words[:-1]])
+    names = [re.sub(r"\W", "", it.split("::")[-1].split(":")[0]) for it in words]
+    return "".join([names[-1], *names[:-1]])
 
 
 def function_at(path, text, place):
-    """The name by which a check asks for the function that has this place of a file, and its own
-    text: a method is named by its type, and any other function by its path in the crate."""
+    """The name by which a check asks for the function that has this place of a file: a method is
+    named by its type, and any other function by its path in the crate."""
     found = [it for it in FUNCTION.finditer(text) if it.start() <= place]
     if not found:
-        return "", ""
+        return ""
     indent, name = found[-1].groups()
-    after = FUNCTION.search(text, found[-1].end())
     blocks = [it for it in BLOCK.finditer(text) if it.start() <= place]
     if indent and blocks:
         parts = [holder_of(blocks[-1][1])]
     else:
-        parts = [it for it in path.removesuffix(".rt").split("/")[1:] if it not in ("lib", "main", "mod")]
-    return "::".join([*parts, name]), text[found[-1].start() : after.start() if after else len(text)]
+        parts = path.removesuffix(".rt").split("/")[1:]
+        parts = [it for it in parts if it not in ("lib", "main", "mod")]
+    return "::".join([*parts, name])
 
 
 def texts_of(crate):
     """The files of a crate that a check reads, by their paths."""
     folder = TOP / "crates" / crate
-    files = [it for part in ("src", "specs", "proofs") for it in sorted((folder / part).rglob("*")) if it.is_file()]
-    return {str(it.relative_to(folder)): it.read_text() for it in files}
+    files = [it for part in ("src", "specs", "proofs") for it in (folder / part).rglob("*")]
+    return {str(it.relative_to(folder)): it.read_text() for it in sorted(files) if it.is_file()}
+
+
+def function_of(texts, changes):
+    """The function that changes are in; none if they are in several, or in no function."""
+    found = set()
+    for path, old, _ in changes:
+        text = texts.get(path, "")
+        found.add(function_at(path, text, max(text.find(old), 0)))
+    return found.pop() if len(found) == 1 else ""
 
 
 def bodies_of(crate, texts):
-    """The wrong bodies of a crate; one that does not apply has no function."""
+    """The wrong bodies of a crate."""
     folders = [TOP / "crates" / crate / "must-fail", TOP / "bench" / "wrong_bodies" / crate]
+    files = [it for folder in folders for it in folder.glob("*.edit")]
     own, found = hashlib.sha256(repr(sorted(texts.items())).encode()).hexdigest(), []
-    for file in sorted((it for folder in folders for it in folder.glob("*.edit")), key=lambda it: it.stem):
+    for file in sorted(files, key=lambda it: it.stem):
         text = file.read_text()
+        sum = hashlib.sha256((own + text).encode()).hexdigest()[:16]
         changes = changes_of(text)
-        places = {function_at(path, texts.get(path, ""), max(texts.get(path, "").find(old), 0))[0] for path, old, _ in changes}
-        function = places.pop() if len(places) == 1 else ""
-        found.append(Body(crate, file.stem, changes, function, hashlib.sha256((own + text).encode()).hexdigest()[:16]))
+        found.append(Body(crate, file.stem, changes, function_of(texts, changes), sum))
     return found
 
 
@@ -162,7 +175,8 @@ class Room:
             made = rtlib.Crate(str(self.folder / "crates" / crate), str(self.folder), {})
             made.out = open(os.devnull, "w")
             words = made.words(["--jobs", "1"])
-        return [rtlib.RATTLE, "check", *[it.replace(f"{self.folder}/", f"{self.built}/") for it in words]]
+        words = [it.replace(f"{self.folder}/", f"{self.built}/") for it in words]
+        return [rtlib.RATTLE, "check", *words]
 
     def check(self, crate, texts, flags):
         """Checks a crate with these texts: the status, and what is said."""
@@ -173,7 +187,8 @@ class Room:
             kept = self.folder / "kept" / crate
             kept.mkdir(parents=True, exist_ok=True)
             command = [*self.words(crate), "--incremental", str(kept), *flags]
-            ran = subprocess.run(command, cwd=copy, stdin=subprocess.DEVNULL, stdout=subprocess.PIPE, stderr=subprocess.STDOUT, text=True, errors="replace")
+            how = {"stdin": subprocess.DEVNULL, "stdout": subprocess.PIPE, "errors": "replace"}
+            ran = subprocess.run(command, cwd=copy, stderr=subprocess.STDOUT, **how)
         with open(self.folder / f"{crate}.log", "a") as log:
             log.write(f"== {' '.join(flags)}\n{ran.stdout}\n")
         return ran.returncode, ran.stdout
@@ -194,10 +209,14 @@ def is_in(function, name):
 
 
 def goals_of(function, found, said):
-    """The goals of a function, and of the closures in it, that are left open or answered wrongly."""
-    lines = [more for name, its in found.items() if is_in(function, name) for _, more in its]
-    goals = [goal for more in lines if "did not prove" in more for goal in GOAL.findall(more.split("did not prove")[1].split("; it calls")[0])]
-    return goals + [goal for path, goal in REFUSED_GOAL.findall(said) if is_in(function, path.replace("/", "::"))]
+    """The goals of a function, and of closures in it, that are left open or answered wrongly."""
+    goals = []
+    for name, lines in found.items():
+        for _, more in lines if is_in(function, name) else []:
+            goals += GOAL.findall(more.partition("did not prove")[2].split("; it calls")[0])
+    for path, goal in REFUSED_GOAL.findall(said):
+        goals += [goal] if is_in(function, path.replace("/", "::")) else []
+    return goals
 
 
 def own_word(function, found, said):
@@ -206,17 +225,17 @@ def own_word(function, found, said):
     lines = [it for name, its in found.items() if is_in(function, name) for it in its]
     refused = [more for word, more in lines if word in ("no proof", "not proved")]
     if refused:
-        is_above = all("it calls" in more for more in refused) and not goals_of(function, found, said)
-        return "above" if is_above else "refused"
+        is_above = all("it calls" in more for more in refused)
+        return "above" if is_above and not goals_of(function, found, said) else "refused"
     words = {word for word, _ in lines}
     return "limit" if "could not tell" in words else "proved" if words else ""
 
 
 def refusal(function, found, said):
-    """Whether a function that is refused is so by a clause, and the names of its clauses at fault."""
+    """Whether a function that is refused is so by a clause, and the names of those clauses."""
     at_end = [goal for goal in goals_of(function, found, said) if goal.startswith("returns")]
-    clauses = dict.fromkeys(it[1] for it in map(re.compile(r"clause-([\w-]+)$").search, at_end) if it)
-    return "clause" if at_end else "inside", function + (f" ({', '.join(clauses)})" if clauses else "")
+    clauses = ", ".join(dict.fromkeys(it[1] for it in map(CLAUSE.search, at_end) if it))
+    return "clause" if at_end else "inside", f"{function} ({clauses})" if clauses else function
 
 
 def try_alone(room, texts, body):
@@ -281,60 +300,78 @@ def try_left(room, bodies):
 
 
 def copied(room):
-    """Lays the crates over the copy, without their edits, and has the libraries built if none are."""
+    """Lays the crates over the copy, without edits, and has the libraries built if none are."""
     for name in ("crates.txt", "HANDLES"):
         shutil.copy(TOP / name, room.folder / name)
-    files = subprocess.run(["tar", "-C", TOP, "--exclude=out", "--exclude=must-fail", "-cf", "-", "crates"], stdout=subprocess.PIPE, check=True)
-    subprocess.run(["tar", "-C", room.folder, "-xf", "-"], input=files.stdout, check=True)
+    leaves = shutil.ignore_patterns("out", "must-fail")
+    shutil.copytree(TOP / "crates", room.folder / "crates", ignore=leaves, dirs_exist_ok=True)
     if room.built == room.folder:
         subprocess.run([*os.environ.get("RT", "rt").split(), "ci"], cwd=room.folder, check=True)
+
+
+def try_all(room, crates, jobs):
+    """Tries the bodies of crates: first those that share a check, and then those that are left."""
+    copied(room)
+    with concurrent.futures.ThreadPoolExecutor(jobs) as pool:
+        left = list(pool.map(functools.partial(try_crate, room), crates))
+        list(pool.map(functools.partial(try_left, room), left))
+
+
+HEAD = """\
+# Wrong bodies, and what the prover says of each
+
+Each is a change of a line or two of the code, by which a function would no longer do what it
+promises. `bench/wrong_bodies.py` tries them all and writes this page; the changes themselves are
+in `bench/wrong_bodies` and in `must-fail` of each crate. Refused within its function means that
+the proof ends before a clause: at a loop, at what a call asks for, or at the safety of a step.
+Tried at commit {commit}:
+"""
 
 
 def write_table(file, rows, untried):
     git = ["git", "-C", TOP, "rev-parse", "--short", "HEAD"]
     commit = subprocess.run(git, stdout=subprocess.PIPE, text=True).stdout.strip()
     counts = collections.Counter(word for _, word, _ in rows.values())
-    lines = ["# Wrong bodies, and what the prover says of each", "",
-        "Each is a change of a line or two of the code, by which a function would no longer do what it",
-        "promises. `bench/wrong_bodies.py` tries them all and writes this page; the changes themselves are",
-        "in `bench/wrong_bodies` and in `must-fail` of each crate. Refused within its function means that",
-        "the proof ends before a clause: at a loop, at what a call asks for, or at the safety of a step.",
-        f"Tried at commit {commit}:", ""]
+    lines = [HEAD.format(commit=commit)]
     lines += [f"- {VERDICTS[word]}: {counts[word]}" for word in VERDICTS]
     if untried:
-        lines += [f"- not tried yet: {sum(untried.values())}, which are those of "
-            + ", ".join(f"`{crate}` ({count})" for crate, count in untried.items())]
+        crates = ", ".join(f"`{crate}` ({count})" for crate, count in untried.items())
+        text = f"not tried yet: {sum(untried.values())}, which are those of {crates}"
+        lines.append(textwrap.fill(text, 98, initial_indent="- ", subsequent_indent="  "))
     for crate in dict.fromkeys(crate for crate, _ in rows):
-        lines += ["", f"## {crate}", "", "| Body | Verdict | Function that refused it, and its clauses |", "|---|---|---|"]
-        own = sorted((name, word, where) for (of, name), (_, word, where) in rows.items() if of == crate)
-        lines += [f"| {name.replace('_', ' ')} | {VERDICTS[word]} | {where} |" for name, word, where in own]
+        lines += ["", f"## {crate}", "", "| Body | Verdict | Where, and by which clauses |"]
+        lines.append("|---|---|---|")
+        own = sorted((name, row) for (of, name), row in rows.items() if of == crate)
+        for name, (_, word, where) in own:
+            lines.append(f"| {name.replace('_', ' ')} | {VERDICTS[word]} | {where} |")
     pathlib.Path(file).write_text("\n".join(lines) + "\n")
 
 
 def main():
-    words = argparse.ArgumentParser(description=__doc__, formatter_class=argparse.RawDescriptionHelpFormatter)
+    shown = argparse.RawDescriptionHelpFormatter
+    words = argparse.ArgumentParser(description=__doc__, formatter_class=shown)
     words.add_argument("--at", metavar="FOLDER")
     words.add_argument("--built", metavar="FOLDER", type=pathlib.Path)
     words.add_argument("--jobs", metavar="N", type=int, default=1)
     words.add_argument("--table", metavar="FILE")
+    words.add_argument("--told", action="store_true")
     words.add_argument("crates", metavar="CRATE", nargs="*")
     given = words.parse_args()
     folder = pathlib.Path(given.at or tempfile.mkdtemp(prefix="advfs_bodies_")).resolve()
     folder.mkdir(parents=True, exist_ok=True)
     (folder / ".git").mkdir(exist_ok=True)
     room = Room(folder, given.built and given.built.resolve())
-    copied(room)
     every = crates_in_order()
-    with concurrent.futures.ThreadPoolExecutor(given.jobs) as pool:
-        left = list(pool.map(functools.partial(try_crate, room), given.crates or every))
-        list(pool.map(functools.partial(try_left, room), left))
+    if not given.told:
+        try_all(room, given.crates or every, given.jobs)
     bodies = [it for crate in every for it in bodies_of(crate, texts_of(crate))]
     rows = {(it.crate, it.name): room.rows[it.crate, it.name] for it in bodies if room.has(it)}
     for (crate, name), (_, word, _) in rows.items():
         if word in ("missed", "unfit"):
             print(f"{VERDICTS[word]}: {crate}/{name}")
     if given.table:
-        write_table(given.table, rows, collections.Counter(it.crate for it in bodies if not room.has(it)))
+        untried = collections.Counter(it.crate for it in bodies if not room.has(it))
+        write_table(given.table, rows, untried)
     return 1 if any(word == "missed" for _, word, _ in rows.values()) else 0
 
 
