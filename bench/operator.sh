@@ -266,7 +266,7 @@ tries=$((tries + 1))
 # what a long command tells on a terminal
 if command -v script >/dev/null; then
     tries=$((tries + 1))
-    script -qec "'$advfs' put home.img home:/typed" /dev/null <short >typed
+    script -qec "'$advfs' put home.img home:/typed <short" /dev/null </dev/null >typed
     grep -qF "the image is being written" typed ||
         { echo "put tells nothing on a terminal:"; cat typed; failed=1; }
     "$advfs" run - home.img >out 2>told <<'END'
