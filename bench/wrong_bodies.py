@@ -35,6 +35,7 @@ REFUSED_GOAL = re.compile(r"^(?:\./)?proofs/(\S+?)/\w+\.antt:\S* error: `([\w.+-
 VERDICTS = {
     "clause": "refused by a clause of its function",
     "inside": "refused within its function",
+    "own": "refused by its function, at what is not noted",
     "elsewhere": "refused elsewhere",
     "limit": "refused by a limit of the prover",
     "missed": "not refused",
