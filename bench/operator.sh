@@ -264,9 +264,9 @@ tries=$((tries + 1))
     { echo "a file of several scripts does not come back"; failed=1; }
 
 # what a long command tells on a terminal
-if command -v script >/dev/null; then
+if env script --version >/dev/null 2>&1; then
     tries=$((tries + 1))
-    script -qec "'$advfs' put home.img home:/typed <short" /dev/null </dev/null >typed
+    env script -qec "'$advfs' put home.img home:/typed <short" /dev/null </dev/null >typed
     grep -qF "the image is being written" typed ||
         { echo "put tells nothing on a terminal:"; cat typed; failed=1; }
     "$advfs" run - home.img >out 2>told <<'END'
